@@ -1,0 +1,4 @@
+pub mod Functions
+pub mod Pool
+pub mod Tree
+pub mod Word

@@ -1,0 +1,12 @@
+//! Terms: the language of assertions and verification conditions.
+#![tactic(auto)]
+
+mod function;
+mod node;
+mod value;
+mod word;
+
+pub use function::{BuiltIn, Func};
+pub use node::{Node, TermId};
+pub use value::{Cell, Value};
+pub use word::Word;

@@ -1,0 +1,20 @@
+// The nodes of terms.
+use crate::{Func, Word};
+use edge_io::List;
+
+/// The place of a node in its pool, counted from 0. It stands for the term below that node.
+#[derive(Clone, Copy, Debug, PartialEq, Eq, Hash)]
+pub struct TermId {
+    pub place: usize,
+}
+
+/// A node: a number, a truth value, a symbol, the entry value of a symbol, or a function with its
+/// arguments.
+#[derive(Debug, Drop, PartialEq, Eq, Hash)]
+pub enum Node {
+    Num(i128),
+    Truth(bool),
+    Symbol(Word),
+    Old(Word),
+    Apply(Func, List<TermId>),
+}
