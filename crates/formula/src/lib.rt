@@ -1,11 +1,15 @@
 //! Terms: the language of assertions and verification conditions.
 #![tactic(auto)]
 
+mod definition;
+mod fault;
 mod function;
 mod node;
 mod value;
 mod word;
 
+pub use definition::{Body, Definition, Heading};
+pub use fault::ReadFault;
 pub use function::{BuiltIn, Func};
 pub use node::{Node, TermId};
 pub use value::{Cell, Value};
