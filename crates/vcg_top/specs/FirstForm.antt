@@ -1,0 +1,248 @@
+-- The first form of a deck: one subroutine of integer scalars, with one or two assignments.
+use Rattle.std.specs.Prelude.{ℕ, ℤ, pos, zero, suc, ◌+◌, ◌==◌, ◌&&◌, ◌||◌, not, nat_le, if◌then◌else◌, Bool, true, false, Option, Some, None, List, [], ◌∷◌, ◌++◌, length, take, drop, filter, codes, nat_eq}
+use Rattle.std.specs.List.{list_any}
+use Rattle.std.specs.Cmp.Lexicographic.{pointwise}
+use Rattle.formula.specs.declared.function.Func.{Func}
+use Rattle.formula.specs.declared.function.Func.TheVariants.{BuiltIn, Defined}
+use Rattle.formula.specs.declared.function.BuiltIn.{BuiltIn as Builtin}
+use Rattle.formula.specs.declared.function.BuiltIn.TheVariants.{And, Or, Not, Equal, Plus, Difference, Times, Less, AtMost, Defined as IsDefined}
+use Rattle.formula.specs.Tree.{Tree, num, truth, symbol, old, apply, Row, none, more}
+use Rattle.formula.specs.Atoms.{same_bytes, is_digits, spelled, is_letter, is_name_byte, starts, all_bytes}
+use Rattle.formula.specs.Reading.{Reading, got, fault, reads, head_named}
+use Rattle.fort_syntax.specs.declared.dialect.BinOp.{BinOp}
+use Rattle.fort_syntax.specs.declared.dialect.BinOp.TheVariants.{Add, Sub, Mul}
+use Rattle.fort_syntax.specs.declared.expr.Expr.{Expr, Const, Var, Bin}
+use Rattle.vcg_top.specs.Splitting.{is_among, split}
+
+-- ---- cards
+
+-- an upper-case printing byte
+abbrev pub is_card_byte : ℕ → Bool
+is_card_byte b = nat_le 32 b && nat_le b 126 && not (nat_le 97 b && nat_le b 122)
+
+abbrev pub is_card : List ℕ → Bool
+is_card card = nat_le (length card) 72 && all_bytes is_card_byte card
+
+abbrev pub all_cards : List (List ℕ) → Bool
+all_cards [] = true
+all_cards (card ∷ rest) = is_card card && all_cards rest
+
+abbrev pub is_not_blank : ℕ → Bool
+is_not_blank b = not (b == 32)
+
+-- what stands behind six blanks, without blanks
+abbrev pub statement_text : List ℕ → Option (List ℕ)
+statement_text card = if same_bytes (take 6 card) (codes "      ") then Some (filter is_not_blank (drop 6 card)) else None
+
+-- ---- names
+
+abbrev pub is_listed : List (List ℕ) → List ℕ → Bool
+is_listed names name = list_any (λ n. pointwise nat_eq n name) names
+
+-- one to six letters and digits, a letter first
+abbrev pub is_fortran_name : List ℕ → Bool
+is_fortran_name name = starts is_letter name && all_bytes is_name_byte name && nat_le (length name) 6
+
+abbrev pub is_integer_letter : ℕ → Bool
+is_integer_letter b = nat_le 73 b && nat_le b 78
+
+-- a name of an integer without a declaration
+abbrev pub is_dummy_name : List ℕ → Bool
+is_dummy_name name = is_fortran_name name && starts is_integer_letter name
+
+abbrev pub is_intrinsic : List ℕ → Bool
+is_intrinsic name = same_bytes name (codes "IABS") || same_bytes name (codes "MOD") || same_bytes name (codes "MAX0") || same_bytes name (codes "MIN0")
+
+abbrev pub is_unit_name : List (List ℕ) → List ℕ → Bool
+is_unit_name dummies name = is_fortran_name name && not (is_listed dummies name) && not (is_intrinsic name)
+
+-- these names, and the words behind them, where each is an integer's and none stands twice
+abbrev pub names_from : List (List ℕ) → List (List ℕ) → Option (List (List ℕ))
+names_from done [] = Some done
+names_from done (word ∷ rest) = if is_dummy_name word && not (is_listed done word) then names_from (done ++ word ∷ []) rest else None
+
+-- ---- the head
+
+pub record Heading : Type 0 where
+  pub unit : List ℕ
+  pub dummies : List (List ℕ)
+
+abbrev pub named_heading : List ℕ → Option (List (List ℕ)) → Option Heading
+named_heading unit None = None
+named_heading unit (Some dummies) = if is_unit_name dummies unit then Some (record { unit = unit; dummies = dummies }) else None
+
+abbrev pub listed_heading : List ℕ → List (List ℕ) → Option Heading
+listed_heading unit (inner ∷ [] ∷ []) = named_heading unit (names_from [] (split (codes ",") inner))
+listed_heading unit _ = None
+
+abbrev pub opened_heading : List (List ℕ) → Option Heading
+opened_heading (unit ∷ rest ∷ []) = listed_heading unit (split (codes ")") rest)
+opened_heading _ = None
+
+-- SUBROUTINE, a name, and names in brackets
+abbrev pub heading_of : List ℕ → Option Heading
+heading_of text = if same_bytes (take 10 text) (codes "SUBROUTINE") then opened_heading (split (codes "(") (drop 10 text)) else None
+
+-- ---- assignments
+
+pub record Assigned : Type 0 where
+  pub target : List ℕ
+  pub value : Expr
+
+-- a dummy, or a constant of at most 32767
+abbrev pub operand : List (List ℕ) → List ℕ → Option Expr
+operand dummies word =
+    if is_listed dummies word then Some (Var word)
+    else if is_digits word && nat_le (spelled word) 32767 then Some (Const (spelled word))
+    else None
+
+abbrev pub operators : List ℕ
+operators = codes "+-*"
+
+abbrev pub sign_of : ℕ → BinOp
+sign_of o = if o == 43 then Add else Sub
+
+-- a sum that waits for its last product
+abbrev pub summed : Option (BinOp × Expr) → Expr → Expr
+summed None product = product
+summed (Some s) product = Bin s.0 s.1 product
+
+-- what is found, if the first thing is
+abbrev pub when : {A B : Type 0} → Option A → (A → Option B) → Option B
+when None f = None
+when (Some x) f = f x
+
+-- products bind tighter than sums, and both group from the left
+abbrev pub grouped : List (List ℕ) → Option (BinOp × Expr) → Expr → List ℕ → List (List ℕ) → Option Expr
+grouped dummies sum product [] [] = Some (summed sum product)
+grouped dummies sum product (sign ∷ signs) (word ∷ words) =
+    when (operand dummies word) (λ e.
+      if sign == 42 then grouped dummies sum (Bin Mul product e) signs words
+      else grouped dummies (Some (sign_of sign, summed sum product)) e signs words)
+grouped dummies sum product _ _ = None
+
+-- one to eight operands with signs between
+abbrev pub joined : List (List ℕ) → List ℕ → List (List ℕ) → Option Expr
+joined dummies signs [] = None
+joined dummies signs (word ∷ words) =
+    if nat_le (length words) 7 then when (operand dummies word) (λ e. grouped dummies None e signs words) else None
+
+abbrev pub expression_of : List (List ℕ) → List ℕ → Option Expr
+expression_of dummies text = joined dummies (filter (is_among operators) text) (split operators text)
+
+abbrev pub assigned : List (List ℕ) → List (List ℕ) → Option Assigned
+assigned dummies (target ∷ text ∷ []) =
+    if is_listed dummies target then when (expression_of dummies text) (λ e. Some (record { target = target; value = e })) else None
+assigned dummies _ = None
+
+-- a dummy, the sign =, and an expression
+abbrev pub assignment_of : List (List ℕ) → List ℕ → Option Assigned
+assignment_of dummies card = when (statement_text card) (λ text. assigned dummies (split (codes "=") text))
+
+abbrev pub assignments : List (List ℕ) → List (List ℕ) → Option (List Assigned)
+assignments dummies [] = Some []
+assignments dummies (card ∷ rest) =
+    when (assignment_of dummies card) (λ a. when (assignments dummies rest) (λ more. Some (a ∷ more)))
+
+-- ---- terms
+
+abbrev pub is_plain_function : Func → Bool
+is_plain_function (BuiltIn And) = true
+is_plain_function (BuiltIn Or) = true
+is_plain_function (BuiltIn Not) = true
+is_plain_function (BuiltIn Equal) = true
+is_plain_function (BuiltIn Less) = true
+is_plain_function (BuiltIn AtMost) = true
+is_plain_function (BuiltIn Plus) = true
+is_plain_function (BuiltIn Difference) = true
+is_plain_function (BuiltIn Times) = true
+is_plain_function (BuiltIn IsDefined) = true
+is_plain_function _ = false
+
+-- a dummy that a term may name: LEAST always is the least integer
+abbrev pub is_term_name : List (List ℕ) → List ℕ → Bool
+is_term_name dummies name = is_listed dummies name && not (same_bytes name (codes "LEAST"))
+
+-- a term of the few functions over the dummies; OLD stands only where it is allowed
+abbrev mutual
+  pub is_plain : List (List ℕ) → Bool → Tree → Bool
+  is_plain dummies entries (num z) = true
+  is_plain dummies entries (truth b) = true
+  is_plain dummies entries (symbol s) = is_term_name dummies s
+  is_plain dummies entries (old s) = entries && is_term_name dummies s
+  is_plain dummies entries (apply f row) = is_plain_function f && is_plain_row dummies entries row
+
+  pub is_plain_row : List (List ℕ) → Bool → Row → Bool
+  is_plain_row dummies entries none = true
+  is_plain_row dummies entries (more t rest) = is_plain dummies entries t && is_plain_row dummies entries rest
+
+abbrev pub is_blank : List ℕ → Bool
+is_blank text = all_bytes (λ b. b == 32) text
+
+-- the term that a text begins with; no definitions are there
+abbrev pub first_term : List ℕ → Reading
+first_term text = reads (head_named [] None) text
+
+abbrev pub read_on : Reading → (Tree → ℕ → Option (List Tree)) → Option (List Tree)
+read_on (got t n) f = f t n
+read_on (fault e) f = None
+
+-- the terms of a text, at most so many
+abbrev pub plain_terms : List (List ℕ) → Bool → ℕ → List ℕ → Option (List Tree)
+plain_terms dummies entries zero text = None
+plain_terms dummies entries (suc n) text =
+    if is_blank text then Some []
+    else read_on (first_term text) (λ t taken.
+      if is_plain dummies entries t then when (plain_terms dummies entries n (drop taken text)) (λ rest. Some (t ∷ rest)) else None)
+
+abbrev pub some_terms : Option (List Tree) → Option (List Tree)
+some_terms (Some (t ∷ rest)) = Some (t ∷ rest)
+some_terms _ = None
+
+-- a text has no more terms than bytes
+abbrev pub terms_of : List (List ℕ) → Bool → List ℕ → Option (List Tree)
+terms_of dummies entries text = some_terms (plain_terms dummies entries (length text + 1) text)
+
+abbrev pub is_separator : ℕ → Bool
+is_separator b = b == 32 || b == 40
+
+-- a note of this first word with one or more terms
+abbrev pub note_of : List (List ℕ) → Bool → List ℕ → List ℕ → Option (List Tree)
+note_of dummies entries word card =
+    if same_bytes (take (length word) card) word && starts is_separator (drop (length word) card)
+    then terms_of dummies entries (drop (length word) card) else None
+
+-- ---- the deck
+
+pub record Deck : Type 0 where
+  pub unit : List ℕ
+  pub dummies : List (List ℕ)
+  pub input : List Tree
+  pub output : List Tree
+  pub body : List Assigned
+
+-- the assignments' cards, where RETURN and END stand behind one or two of them
+abbrev pub body_cards : List (List ℕ) → Option (List (List ℕ))
+body_cards (first ∷ last ∷ end ∷ [] ∷ []) =
+    if same_bytes last (codes "      RETURN") && same_bytes end (codes "      END") then Some (first ∷ []) else None
+body_cards (first ∷ second ∷ last ∷ end ∷ [] ∷ []) =
+    if same_bytes last (codes "      RETURN") && same_bytes end (codes "      END") then Some (first ∷ second ∷ []) else None
+body_cards _ = None
+
+abbrev pub deck_of : List (List ℕ) → Option Deck
+deck_of (head ∷ input ∷ output ∷ rest) =
+    when (statement_text head) (λ text.
+      when (heading_of text) (λ h.
+        when (note_of h.dummies false (codes "C$ INPUT") input) (λ before.
+          when (note_of h.dummies true (codes "C$ OUTPUT") output) (λ after.
+            when (body_cards rest) (λ cards.
+              when (assignments h.dummies cards) (λ body.
+                Some (record { unit = h.unit; dummies = h.dummies; input = before; output = after; body = body })))))))
+deck_of _ = None
+
+-- the deck of an input of the first form: cards that each end with a line feed
+abbrev pub first_deck : List ℕ → Option Deck
+first_deck bytes =
+    if nat_le (length bytes) 1048576 && all_cards (split (codes "
+") bytes) then deck_of (split (codes "
+") bytes) else None
