@@ -11,7 +11,8 @@ use Rattle.fort_syntax.specs.declared.condition.Kind.{Kind}
 use Rattle.fort_syntax.specs.declared.condition.Kind.TheVariants.{DefinedCheck, RangeCheck, OutputCheck}
 use Rattle.fort_syntax.specs.declared.expr.Expr.{Expr, fold-Expr}
 use Rattle.fort_syntax.specs.declared.expr.Expr.TheOpen.{Expr-F}
-use Rattle.vcg_top.specs.FirstForm.{Assigned, Deck}
+use Rattle.vcg_top.specs.declared.assignment.Assigned.{Assigned}
+use Rattle.vcg_top.specs.FirstForm.{Deck}
 
 -- ---- terms
 

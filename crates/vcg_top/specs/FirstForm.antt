@@ -1,5 +1,5 @@
 -- The first form of a deck: one subroutine of integer scalars, with one or two assignments.
-use Rattle.std.specs.Prelude.{ℕ, ℤ, pos, zero, suc, ◌+◌, ◌==◌, ◌&&◌, ◌||◌, not, nat_le, if◌then◌else◌, Bool, true, false, Option, Some, None, List, [], ◌∷◌, ◌++◌, length, take, drop, filter, codes, nat_eq}
+use Rattle.std.specs.Prelude.{ℕ, ℤ, pos, zero, suc, ◌+◌, ◌-◌, ◌*◌, ◌==◌, ◌&&◌, ◌||◌, not, nat_le, if◌then◌else◌, Bool, true, false, Option, Some, None, List, [], ◌∷◌, ◌++◌, length, take, drop, filter, codes, nat_eq}
 use Rattle.std.specs.List.{list_any}
 use Rattle.std.specs.Cmp.Lexicographic.{pointwise}
 use Rattle.formula.specs.declared.function.Func.{Func}
@@ -7,12 +7,19 @@ use Rattle.formula.specs.declared.function.Func.TheVariants.{BuiltIn, Defined}
 use Rattle.formula.specs.declared.function.BuiltIn.{BuiltIn as Builtin}
 use Rattle.formula.specs.declared.function.BuiltIn.TheVariants.{And, Or, Not, Equal, Plus, Difference, Times, Less, AtMost, Defined as IsDefined}
 use Rattle.formula.specs.Tree.{Tree, num, truth, symbol, old, apply, Row, none, more}
-use Rattle.formula.specs.Atoms.{same_bytes, is_digits, spelled, is_letter, is_name_byte, starts, all_bytes}
+use Rattle.formula.specs.Atoms.{same_bytes, is_digit, is_letter, is_name_byte, starts, all_bytes}
 use Rattle.formula.specs.Reading.{Reading, got, fault, reads, head_named}
 use Rattle.fort_syntax.specs.declared.dialect.BinOp.{BinOp}
 use Rattle.fort_syntax.specs.declared.dialect.BinOp.TheVariants.{Add, Sub, Mul}
 use Rattle.fort_syntax.specs.declared.expr.Expr.{Expr, Const, Var, Bin}
+use Rattle.vcg_top.specs.declared.heading.Heading.{Heading}
+use Rattle.vcg_top.specs.declared.assignment.Assigned.{Assigned}
 use Rattle.vcg_top.specs.Splitting.{is_among, split}
+
+-- what is found, if the first thing is
+abbrev pub when : {A B : Type 0} → Option A → (A → Option B) → Option B
+when None f = None
+when (Some x) f = f x
 
 -- ---- cards
 
@@ -56,16 +63,16 @@ is_intrinsic name = same_bytes name (codes "IABS") || same_bytes name (codes "MO
 abbrev pub is_unit_name : List (List ℕ) → List ℕ → Bool
 is_unit_name dummies name = is_fortran_name name && not (is_listed dummies name) && not (is_intrinsic name)
 
--- these names, and the words behind them, where each is an integer's and none stands twice
+-- the name that a word is, where it is an integer's and is not one of these
+abbrev pub new_name : List (List ℕ) → List ℕ → Option (List ℕ)
+new_name done word = if is_dummy_name word && not (is_listed done word) then Some word else None
+
+-- these names, and the words behind them, where each is a new name
 abbrev pub names_from : List (List ℕ) → List (List ℕ) → Option (List (List ℕ))
 names_from done [] = Some done
-names_from done (word ∷ rest) = if is_dummy_name word && not (is_listed done word) then names_from (done ++ word ∷ []) rest else None
+names_from done (word ∷ rest) = when (new_name done word) (λ name. names_from (done ++ name ∷ []) rest)
 
 -- ---- the head
-
-pub record Heading : Type 0 where
-  pub unit : List ℕ
-  pub dummies : List (List ℕ)
 
 abbrev pub named_heading : List ℕ → Option (List (List ℕ)) → Option Heading
 named_heading unit None = None
@@ -85,16 +92,23 @@ heading_of text = if same_bytes (take 10 text) (codes "SUBROUTINE") then opened_
 
 -- ---- assignments
 
-pub record Assigned : Type 0 where
-  pub target : List ℕ
-  pub value : Expr
+-- the number that digits spell behind those of another one, where it is at most 32767
+abbrev pub constant_from : ℕ → List ℕ → Option ℕ
+constant_from n [] = Some n
+constant_from n (b ∷ rest) = if is_digit b && nat_le (n * 10 + (b - 48)) 32767 then constant_from (n * 10 + (b - 48)) rest else None
 
--- a dummy, or a constant of at most 32767
+-- the constant that one or more digits spell, where it is at most 32767
+abbrev pub constant_of : List ℕ → Option ℕ
+constant_of [] = None
+constant_of (b ∷ rest) = constant_from 0 (b ∷ rest)
+
+abbrev pub constant_operand : Option ℕ → Option Expr
+constant_operand None = None
+constant_operand (Some n) = Some (Const n)
+
+-- a dummy, or a constant
 abbrev pub operand : List (List ℕ) → List ℕ → Option Expr
-operand dummies word =
-    if is_listed dummies word then Some (Var word)
-    else if is_digits word && nat_le (spelled word) 32767 then Some (Const (spelled word))
-    else None
+operand dummies word = if is_listed dummies word then Some (Var word) else constant_operand (constant_of word)
 
 abbrev pub operators : List ℕ
 operators = codes "+-*"
@@ -107,19 +121,18 @@ abbrev pub summed : Option (BinOp × Expr) → Expr → Expr
 summed None product = product
 summed (Some s) product = Bin s.0 s.1 product
 
--- what is found, if the first thing is
-abbrev pub when : {A B : Type 0} → Option A → (A → Option B) → Option B
-when None f = None
-when (Some x) f = f x
+abbrev pub is_none_left : List (List ℕ) → Bool
+is_none_left [] = true
+is_none_left (word ∷ words) = false
 
 -- products bind tighter than sums, and both group from the left
 abbrev pub grouped : List (List ℕ) → Option (BinOp × Expr) → Expr → List ℕ → List (List ℕ) → Option Expr
-grouped dummies sum product [] [] = Some (summed sum product)
+grouped dummies sum product [] words = if is_none_left words then Some (summed sum product) else None
+grouped dummies sum product (sign ∷ signs) [] = None
 grouped dummies sum product (sign ∷ signs) (word ∷ words) =
     when (operand dummies word) (λ e.
       if sign == 42 then grouped dummies sum (Bin Mul product e) signs words
       else grouped dummies (Some (sign_of sign, summed sum product)) e signs words)
-grouped dummies sum product _ _ = None
 
 -- one to eight operands with signs between
 abbrev pub joined : List (List ℕ) → List ℕ → List (List ℕ) → Option Expr
@@ -243,6 +256,4 @@ deck_of _ = None
 -- the deck of an input of the first form: cards that each end with a line feed
 abbrev pub first_deck : List ℕ → Option Deck
 first_deck bytes =
-    if nat_le (length bytes) 1048576 && all_cards (split (codes "
-") bytes) then deck_of (split (codes "
-") bytes) else None
+    if nat_le (length bytes) 1048576 && all_cards (split (codes "\n") bytes) then deck_of (split (codes "\n") bytes) else None
