@@ -1,1 +1,6 @@
+pub mod Grown
+pub mod Growth
+pub mod OneIdEach
 pub mod Padded
+pub mod Putting
+pub mod Same

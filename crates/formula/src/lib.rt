@@ -5,6 +5,7 @@ mod definition;
 mod fault;
 mod function;
 mod node;
+mod pool;
 mod value;
 mod word;
 
@@ -12,5 +13,6 @@ pub use definition::{Body, Definition, Heading};
 pub use fault::ReadFault;
 pub use function::{BuiltIn, Func};
 pub use node::{Node, TermId};
+pub use pool::TermPool;
 pub use value::{Cell, Value};
 pub use word::Word;
