@@ -95,7 +95,7 @@ stands done (x ∷ nodes) zero node p h =
       rest = r.0;
       arguments = subst (HasArguments done) same p.0;
       count = omega arith;
-      is = subst (λ y. grown done (x ∷ nodes) ≡ done ++ tree_in done y ∷ r.0) same whole
+      is = subst (λ y. grown done (x ∷ nodes) ≡ done ++ tree_in done y ∷ r.0) same whole;
     }
 stands done (x ∷ nodes) (suc k) node p h =
     let t = tree_in done x in

@@ -87,8 +87,8 @@ alike nodes (suc n) le p d a b ha hb e =
     let got_y : slice_get nodes b ≡ Some y = slice_get-get_or nodes b nowhere hb in
     let trees_same : tree_in (trees nodes) x ≡ tree_in (trees nodes) y = sym (tree_at-trees nodes a x p got_x) ∙ e ∙ tree_at-trees nodes b y p got_y in
     let same : x ≡ y =
-        same_node (trees nodes) n (length nodes) x y (alike nodes n lower p d)
-          (below_more a n x le_a (below_at nodes a x p got_x)) (below_more b (length nodes) y le_b (below_at nodes b y p got_y)) trees_same in
+    same_node (trees nodes) n (length nodes) x y (alike nodes n lower p d)
+    (below_more a n x le_a (below_at nodes a x p got_x)) (below_more b (length nodes) y le_b (below_at nodes b y p got_y)) trees_same in
     one_place nodes a b x d got_x (got_y ∙ ap Some (sym same))
 
 pub one_id_each : (nodes : List Node) → IsPool [] nodes → IsDistinct node_ghosts.eq nodes → HasOneIdEach nodes

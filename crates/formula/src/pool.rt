@@ -78,4 +78,114 @@ impl TermPool {
             None => unreachable!(),
         }
     }
+
+    /// The term of a number.
+    pub fn number(&mut self, n: i128) -> Result<TermId, NoMemory>
+        ensures is_in { IfOk result (λ id. IsIn self.new id) }
+        ensures tree { IfOk result (λ id. tree_of self.new id ≡ num n) }
+        ensures unchanged { OnErr result (self.new ≡ self.old) }
+        ensures grows { Grows self.old self.new }
+    {
+        self.make(Node::Num(n))
+    }
+
+    /// The term T or F.
+    pub fn truth(&mut self, b: bool) -> Result<TermId, NoMemory>
+        ensures is_in { IfOk result (λ id. IsIn self.new id) }
+        ensures tree { IfOk result (λ id. tree_of self.new id ≡ truth b) }
+        ensures unchanged { OnErr result (self.new ≡ self.old) }
+        ensures grows { Grows self.old self.new }
+    {
+        self.make(Node::Truth(b))
+    }
+
+    /// The term of a symbol.
+    pub fn symbol(&mut self, name: Word) -> Result<TermId, NoMemory>
+        ensures is_in { IfOk result (λ id. IsIn self.new id) }
+        ensures tree { IfOk result (λ id. tree_of self.new id ≡ symbol name) }
+        ensures unchanged { OnErr result (self.new ≡ self.old) }
+        ensures grows { Grows self.old self.new }
+    {
+        self.make(Node::Symbol(name))
+    }
+
+    /// The term of a symbol's entry value.
+    pub fn entry(&mut self, name: Word) -> Result<TermId, NoMemory>
+        ensures is_in { IfOk result (λ id. IsIn self.new id) }
+        ensures tree { IfOk result (λ id. tree_of self.new id ≡ old name) }
+        ensures unchanged { OnErr result (self.new ≡ self.old) }
+        ensures grows { Grows self.old self.new }
+    {
+        self.make(Node::Old(name))
+    }
+
+    /// A function of some terms.
+    pub fn apply(&mut self, f: Func, args: List<TermId>) -> Result<TermId, NoMemory>
+        requires below { AllBelow (length self.old) args }
+        requires takes { IsTrue (takes f (row_in (trees self.old) args)) }
+        ensures is_in { IfOk result (λ id. IsIn self.new id) }
+        ensures tree { IfOk result (λ id. tree_of self.new id ≡ apply f (row_in (trees self.old) args)) }
+        ensures unchanged { OnErr result (self.new ≡ self.old) }
+        ensures grows { Grows self.old self.new }
+    {
+        self.make(Node::Apply(f, args))
+    }
+
+    /// A built-in function of one term.
+    pub fn unary(&mut self, f: BuiltIn, a: TermId) -> Result<TermId, NoMemory>
+        requires a { IsIn self.old a }
+        requires takes { IsTrue (takes (Func.BuiltIn f) (more (tree_of self.old a) none)) }
+        ensures is_in { IfOk result (λ id. IsIn self.new id) }
+        ensures tree { IfOk result (λ id. tree_of self.new id ≡ apply (Func.BuiltIn f) (more (tree_of self.old a) none)) }
+        ensures unchanged { OnErr result (self.new ≡ self.old) }
+        ensures grows { Grows self.old self.new }
+    {
+        let args = listed(self.alloc, &[a])?;
+        self.apply(Func::BuiltIn(f), args)
+    }
+
+    /// A built-in function of two terms.
+    pub fn binary(&mut self, f: BuiltIn, a: TermId, b: TermId) -> Result<TermId, NoMemory>
+        requires a { IsIn self.old a }
+        requires b { IsIn self.old b }
+        requires takes { IsTrue (takes (Func.BuiltIn f) (more (tree_of self.old a) (more (tree_of self.old b) none))) }
+        ensures is_in { IfOk result (λ id. IsIn self.new id) }
+        ensures tree { IfOk result (λ id. tree_of self.new id ≡ apply (Func.BuiltIn f) (more (tree_of self.old a) (more (tree_of self.old b) none))) }
+        ensures unchanged { OnErr result (self.new ≡ self.old) }
+        ensures grows { Grows self.old self.new }
+    {
+        let args = listed(self.alloc, &[a, b])?;
+        self.apply(Func::BuiltIn(f), args)
+    }
+
+    /// A built-in function of three terms.
+    pub fn ternary(
+        &mut self,
+        f: BuiltIn,
+        a: TermId,
+        b: TermId,
+        c: TermId,
+    ) -> Result<TermId, NoMemory>
+        requires a { IsIn self.old a }
+        requires b { IsIn self.old b }
+        requires c { IsIn self.old c }
+        requires takes { IsTrue (takes (Func.BuiltIn f) (more (tree_of self.old a) (more (tree_of self.old b) (more (tree_of self.old c) none)))) }
+        ensures is_in { IfOk result (λ id. IsIn self.new id) }
+        ensures tree { IfOk result (λ id. tree_of self.new id ≡ apply (Func.BuiltIn f) (more (tree_of self.old a) (more (tree_of self.old b) (more (tree_of self.old c) none)))) }
+        ensures unchanged { OnErr result (self.new ≡ self.old) }
+        ensures grows { Grows self.old self.new }
+    {
+        let args = listed(self.alloc, &[a, b, c])?;
+        self.apply(Func::BuiltIn(f), args)
+    }
+}
+
+/// A list of these ids.
+fn listed(alloc: Global, ids: &[TermId]) -> Result<List<TermId>, NoMemory>
+    ensures { IfOk result (λ l. l ≡ ids.now) }
+{
+    let Ok(items) = Vec::from_slice(alloc, ids) else {
+        return Err(NoMemory);
+    };
+    Ok(List::from_vec(items))
 }
