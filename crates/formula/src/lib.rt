@@ -5,12 +5,14 @@ mod definition;
 mod fault;
 mod function;
 mod node;
+mod pool;
 mod value;
 mod word;
 
-pub use definition::{Body, Definition, Heading};
+pub use definition::{Body, Definition, Head, Heading};
 pub use fault::ReadFault;
-pub use function::{BuiltIn, Func};
+pub use function::{Arity, BuiltIn, Func};
 pub use node::{Node, TermId};
+pub use pool::TermPool;
 pub use value::{Cell, Value};
 pub use word::Word;
