@@ -106,9 +106,17 @@ abbrev pub constant_operand : Option ℕ → Option Expr
 constant_operand None = None
 constant_operand (Some n) = Some (Const n)
 
+-- the dummy that a word names
+abbrev pub dummy_named : List (List ℕ) → List ℕ → Option (List ℕ)
+dummy_named dummies word = if is_dummy_name word && is_listed dummies word then Some word else None
+
+abbrev pub dummy_or_constant : Option (List ℕ) → List ℕ → Option Expr
+dummy_or_constant None word = constant_operand (constant_of word)
+dummy_or_constant (Some name) word = Some (Var name)
+
 -- a dummy, or a constant
 abbrev pub operand : List (List ℕ) → List ℕ → Option Expr
-operand dummies word = if is_listed dummies word then Some (Var word) else constant_operand (constant_of word)
+operand dummies word = dummy_or_constant (dummy_named dummies word) word
 
 abbrev pub operators : List ℕ
 operators = codes "+-*"
@@ -145,7 +153,7 @@ expression_of dummies text = joined dummies (filter (is_among operators) text) (
 
 abbrev pub assigned : List (List ℕ) → List (List ℕ) → Option Assigned
 assigned dummies (target ∷ text ∷ []) =
-    if is_listed dummies target then when (expression_of dummies text) (λ e. Some (record { target = target; value = e })) else None
+    when (dummy_named dummies target) (λ name. when (expression_of dummies text) (λ e. Some (record { target = name; value = e })))
 assigned dummies _ = None
 
 -- a dummy, the sign =, and an expression

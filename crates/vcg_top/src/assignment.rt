@@ -1,9 +1,9 @@
 // Assignments of the first form.
 ghost use Rattle.std.specs.Prelude.{◌≡◌, IfOk, filter};
 ghost use Rattle.vcg_top.specs.Splitting.{is_among};
-ghost use Rattle.vcg_top.specs.FirstForm.{operators, constant_of, operand as operand_of, summed as summed_of, sign_of, grouped as grouped_of, joined as joined_of, expression_of, assigned as assigned_of, assignment_of, assignments as assignments_of};
+ghost use Rattle.vcg_top.specs.FirstForm.{operators, constant_of, dummy_named, operand as operand_of, summed as summed_of, sign_of, grouped as grouped_of, joined as joined_of, expression_of, assigned as assigned_of, assignment_of, assignments as assignments_of};
 
-use crate::spelling::statement;
+use crate::spelling::{is_dummy_name, statement};
 use crate::splitting::split_at;
 use edge_io::{Boxed, List, NoMemory};
 use fort_syntax::{BinOp, Expr, Name};
@@ -36,18 +36,24 @@ fn constant(word: &[u8]) -> Option<u64>
     Some(number)
 }
 
+fn dummy(dummies: &[Name], word: &[u8]) -> Option<Name>
+    ensures { result ≡ dummy_named dummies.now word.now }
+{
+    if !is_dummy_name(word) {
+        return None;
+    }
+    let name = Name::new(word)?;
+    if dummies.contains(&name) { Some(name) } else { None }
+}
+
 fn operand(dummies: &[Name], word: &[u8]) -> Option<Expr>
     ensures { result ≡ operand_of dummies.now word.now }
 {
-    if let Some(name) = Name::new(word) {
-        if dummies.contains(&name) {
-            return Some(Expr::Var(name));
-        }
+    if let Some(name) = dummy(dummies, word) {
+        return Some(Expr::Var(name));
     }
-    match constant(word) {
-        Some(number) => Some(Expr::Const(number)),
-        None => None,
-    }
+    let number = constant(word)?;
+    Some(Expr::Const(number))
 }
 
 fn binary(alloc: Global, op: BinOp, left: Expr, right: Expr) -> Result<Expr, NoMemory>
@@ -163,12 +169,9 @@ fn assigned_value(
     let [target, text] = parts else {
         return Ok(None);
     };
-    let Some(target) = Name::new(target.as_slice()) else {
+    let Some(target) = dummy(dummies, target.as_slice()) else {
         return Ok(None);
     };
-    if !dummies.contains(&target) {
-        return Ok(None);
-    }
     let Some(value) = expression(alloc, dummies, text.as_slice())? else {
         return Ok(None);
     };
