@@ -1,1 +1,7 @@
+pub mod Grown
+pub mod Growth
+pub mod Names
+pub mod OneIdEach
 pub mod Padded
+pub mod Putting
+pub mod Same

@@ -1,4 +1,7 @@
+pub mod Atoms
 pub mod Functions
 pub mod Pool
+pub mod Reading
+pub mod Tokens
 pub mod Tree
 pub mod Word

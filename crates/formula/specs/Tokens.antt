@@ -1,0 +1,33 @@
+-- A text as tokens: brackets, and atoms, which end at a blank or a bracket.
+use Rattle.std.specs.Prelude.{ℕ, ◌+◌, ◌==◌, if◌then◌else◌, List, [], ◌∷◌, ◌++◌}
+
+pub data Token : Type 0 where
+  opening : Token
+  closing : Token
+  atom : List ℕ → Token
+
+-- a token, and the number of bytes of the text up to its end
+pub record Placed : Type 0 where
+  pub token : Token
+  pub after : ℕ
+
+abbrev pub placed : Token → ℕ → Placed
+placed t n = record { token = t; after = n }
+
+-- an atom of these bytes that ends here, if there are any, and what follows
+abbrev pub ended : List ℕ → ℕ → List Placed → List Placed
+ended [] at rest = rest
+ended (b ∷ more) at rest = placed (atom (b ∷ more)) at ∷ rest
+
+-- the tokens of the bytes left, where so many bytes were passed, the last of them an atom's
+abbrev pub tokens_from : ℕ → List ℕ → List ℕ → List Placed
+tokens_from at passed [] = ended passed at []
+tokens_from at passed (b ∷ rest) =
+    if b == 32 then ended passed at (tokens_from (at + 1) [] rest)
+    else if b == 40 then ended passed at (placed opening (at + 1) ∷ tokens_from (at + 1) [] rest)
+    else if b == 41 then ended passed at (placed closing (at + 1) ∷ tokens_from (at + 1) [] rest)
+    else tokens_from (at + 1) (passed ++ b ∷ []) rest
+
+-- the tokens of a text
+abbrev pub tokens : List ℕ → List Placed
+tokens = tokens_from 0 []

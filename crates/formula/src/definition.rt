@@ -1,0 +1,32 @@
+// Definitions of functions.
+use crate::{Arity, Func, TermId, Word};
+use edge_io::List;
+
+/// What a definition stands for: the term, or the base and the step of a counting definition.
+#[derive(Clone, Copy, Debug, PartialEq, Eq)]
+pub enum Body {
+    Plain(TermId),
+    Counting(TermId, TermId),
+}
+
+/// A function of a deck's own.
+#[derive(Debug, Drop, PartialEq, Eq)]
+pub struct Definition {
+    pub name: Word,
+    pub params: List<Word>,
+    pub body: Body,
+}
+
+/// The name and the parameters of a definition whose body is being read.
+#[derive(Debug, Drop, PartialEq, Eq)]
+pub struct Heading {
+    pub name: Word,
+    pub params: List<Word>,
+}
+
+/// What may stand behind an opening bracket: OLD, or a function with its number of arguments.
+#[derive(Clone, Copy, Debug, PartialEq, Eq)]
+pub enum Head {
+    EntryValue,
+    Function(Func, Arity),
+}
