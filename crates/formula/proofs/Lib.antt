@@ -1,5 +1,6 @@
 pub mod Grown
 pub mod Growth
+pub mod Lookup
 pub mod Names
 pub mod OneIdEach
 pub mod Padded

@@ -135,8 +135,26 @@ impl BuiltIn {
         match self {
             BuiltIn::And | BuiltIn::Or => Arity::OneOrMore,
             BuiltIn::Undefined => Arity::Exactly(0),
-            BuiltIn::Not | BuiltIn::Negative | BuiltIn::Absolute | BuiltIn::Size | BuiltIn::Defined | BuiltIn::LogicalCell | BuiltIn::Blank => Arity::Exactly(1),
-            BuiltIn::Implies | BuiltIn::Equal | BuiltIn::Plus | BuiltIn::Difference | BuiltIn::Times | BuiltIn::Quotient | BuiltIn::Remainder | BuiltIn::Maximum | BuiltIn::Minimum | BuiltIn::Less | BuiltIn::AtMost | BuiltIn::Element | BuiltIn::LogicalCells => Arity::Exactly(2),
+            BuiltIn::Not
+            | BuiltIn::Negative
+            | BuiltIn::Absolute
+            | BuiltIn::Size
+            | BuiltIn::Defined
+            | BuiltIn::LogicalCell
+            | BuiltIn::Blank => Arity::Exactly(1),
+            BuiltIn::Implies
+            | BuiltIn::Equal
+            | BuiltIn::Plus
+            | BuiltIn::Difference
+            | BuiltIn::Times
+            | BuiltIn::Quotient
+            | BuiltIn::Remainder
+            | BuiltIn::Maximum
+            | BuiltIn::Minimum
+            | BuiltIn::Less
+            | BuiltIn::AtMost
+            | BuiltIn::Element
+            | BuiltIn::LogicalCells => Arity::Exactly(2),
             BuiltIn::If | BuiltIn::Put | BuiltIn::IntegerCell => Arity::Exactly(3),
             BuiltIn::IntegerCells => Arity::Exactly(4),
         }

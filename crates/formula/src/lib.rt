@@ -2,16 +2,20 @@
 #![tactic(auto)]
 
 mod definition;
+mod definitions;
 mod fault;
 mod function;
+mod head;
 mod node;
 mod pool;
 mod value;
 mod word;
 
-pub use definition::{Body, Definition, Head, Heading};
+pub use definition::{Body, Definition, Heading};
+pub use definitions::Definitions;
 pub use fault::ReadFault;
 pub use function::{Arity, BuiltIn, Func};
+pub use head::{Head, head_of};
 pub use node::{Node, TermId};
 pub use pool::TermPool;
 pub use value::{Cell, Value};
