@@ -42,43 +42,62 @@ in_range t = binary And (binary AtMost least t) (binary AtMost t greatest)
 
 -- ---- values of names
 
--- the value of a name, where the names have these values in order
-abbrev pub value_in : List (List ℕ) → List Tree → List ℕ → Tree
-value_in (n ∷ names) (v ∷ values) name = if same_bytes n name then v else value_in names values name
-value_in _ _ name = symbol name
+-- a dummy with the term of its value, and of its value at entry
+pub record Bound : Type 0 where
+  pub name : List ℕ
+  pub value : Tree
+  pub entry : Tree
+
+-- the value of a name
+abbrev pub value_in : List Bound → List ℕ → Tree
+value_in [] name = symbol name
+value_in (b ∷ rest) name = if same_bytes b.name name then b.value else value_in rest name
+
+-- its value at entry
+abbrev pub entry_in : List Bound → List ℕ → Tree
+entry_in [] name = symbol name
+entry_in (b ∷ rest) name = if same_bytes b.name name then b.entry else entry_in rest name
+
+abbrev pub with_value : Bound → Tree → Bound
+with_value b t = record { name = b.name; value = t; entry = b.entry }
 
 -- the values after an assignment
-abbrev pub assigned_in : List (List ℕ) → List Tree → List ℕ → Tree → List Tree
-assigned_in (n ∷ names) (v ∷ values) name t = if same_bytes n name then t ∷ values else v ∷ assigned_in names values name t
-assigned_in _ values name t = values
+abbrev pub assigned_in : List Bound → List ℕ → Tree → List Bound
+assigned_in [] name t = []
+assigned_in (b ∷ rest) name t = if same_bytes b.name name then with_value b t ∷ rest else b ∷ assigned_in rest name t
+
+-- each dummy has its value at entry
+abbrev pub entered : List ℕ → Bound
+entered name = record { name = name; value = entry_of name; entry = entry_of name }
 
 -- a term of a note, each name standing for its value, and OLD for the value at entry
 abbrev mutual
-  pub stated : List (List ℕ) → List Tree → List Tree → Tree → Tree
-  stated names values entries (num z) = num z
-  stated names values entries (truth b) = truth b
-  stated names values entries (symbol s) = value_in names values s
-  stated names values entries (old s) = value_in names entries s
-  stated names values entries (apply f row) = apply f (stated_row names values entries row)
+  pub stated : List Bound → Tree → Tree
+  stated bound (num z) = num z
+  stated bound (truth b) = truth b
+  stated bound (symbol s) = value_in bound s
+  stated bound (old s) = entry_in bound s
+  stated bound (apply f row) = apply f (stated_row bound row)
 
-  pub stated_row : List (List ℕ) → List Tree → List Tree → Row → Row
-  stated_row names values entries none = none
-  stated_row names values entries (more t rest) = more (stated names values entries t) (stated_row names values entries rest)
+  pub stated_row : List Bound → Row → Row
+  stated_row bound none = none
+  stated_row bound (more t rest) = more (stated bound t) (stated_row bound rest)
 
 -- ---- checks
 
-pub record Check : Type 0 where
+-- what is to be shown at a card
+pub record CheckTree : Type 0 where
   pub kind : Kind
   pub card : ℕ
   pub goal : Tree
 
-abbrev pub check : Kind → ℕ → Tree → Check
+abbrev pub check : Kind → ℕ → Tree → CheckTree
 check kind card goal = record { kind = kind; card = card; goal = goal }
 
 -- the term of an expression, and its checks from the left
 pub record Evaluated : Type 0 where
   pub term : Tree
-  pub checks : List Check
+  pub checks : List CheckTree
 
 abbrev pub function_of : BinOp → Builtin
 function_of Add = Plus
@@ -87,52 +106,54 @@ function_of Mul = Times
 function_of Div = Quotient
 
 -- operands before operators: each read is of something defined, and each operation's value is in range
-abbrev pub evaluated_step : List (List ℕ) → List Tree → ℕ → Expr-F Evaluated → Evaluated
-evaluated_step names values card (Expr-F.Const n) = record { term = num (pos n); checks = [] }
-evaluated_step names values card (Expr-F.Var x) =
-    record { term = value_in names values x; checks = check DefinedCheck card (defined (value_in names values x)) ∷ [] }
-evaluated_step names values card (Expr-F.Bin op a b) =
+abbrev pub evaluated_step : List Bound → ℕ → Expr-F Evaluated → Evaluated
+evaluated_step bound card (Expr-F.Const n) = record { term = num (pos n); checks = [] }
+evaluated_step bound card (Expr-F.Var x) =
+    record { term = value_in bound x; checks = check DefinedCheck card (defined (value_in bound x)) ∷ [] }
+evaluated_step bound card (Expr-F.Bin op a b) =
     let t = binary (function_of op) a.term b.term in
     record { term = t; checks = a.checks ++ b.checks ++ check RangeCheck card (in_range t) ∷ [] }
-evaluated_step names values card _ = record { term = truth false; checks = [] }
+evaluated_step bound card _ = record { term = truth false; checks = [] }
 
-abbrev pub evaluated : List (List ℕ) → List Tree → ℕ → Expr → Evaluated
-evaluated names values card = fold-Expr Evaluated (evaluated_step names values card)
+abbrev pub evaluated : List Bound → ℕ → Expr → Evaluated
+evaluated bound card = fold-Expr Evaluated (evaluated_step bound card)
 
 -- the values after some assignments, and their checks; the first stands on the card
 pub record Walked : Type 0 where
-  pub values : List Tree
-  pub checks : List Check
+  pub bound : List Bound
+  pub checks : List CheckTree
 
-abbrev pub walked : List (List ℕ) → List Tree → ℕ → List Assigned → Walked
-walked names values card [] = record { values = values; checks = [] }
-walked names values card (a ∷ rest) =
-    let e = evaluated names values card a.value in
-    let later = walked names (assigned_in names values a.target e.term) (card + 1) rest in
-    record { values = later.values; checks = e.checks ++ later.checks }
+abbrev pub walked : List Bound → ℕ → List Assigned → Walked
+walked bound card [] = record { bound = bound; checks = [] }
+walked bound card (a ∷ rest) =
+    let e = evaluated bound card a.value in
+    let later = walked (assigned_in bound a.target e.term) (card + 1) rest in
+    record { bound = later.bound; checks = e.checks ++ later.checks }
 
 -- ---- conditions
 
--- the bounds, the sorts of the dummies, and the input assertion
+-- LEAST is at most -32767, and GREATEST is at least 32767
 abbrev pub bounds : List Tree
 bounds = binary AtMost least (num (negsuc 32766)) ∷ binary AtMost (num (pos 32767)) greatest ∷ []
 
-abbrev pub sort_of : List ℕ → Tree
-sort_of name = apply (BuiltIn IntegerCell) (more (entry_of name) (more least (more greatest none)))
+-- a dummy is undefined or an integer of the processor
+abbrev pub sort_of : Bound → Tree
+sort_of b = apply (BuiltIn IntegerCell) (more b.entry (more least (more greatest none)))
 
-abbrev pub entries_of : List (List ℕ) → List Tree
-entries_of names = map entry_of names
+abbrev pub entered_all : List (List ℕ) → List Bound
+entered_all dummies = map entered dummies
 
-abbrev pub hypotheses_of : Deck → List Tree
-hypotheses_of d = bounds ++ map sort_of d.dummies ++ map (stated d.dummies (entries_of d.dummies) (entries_of d.dummies)) d.input
+-- the bounds, the sorts of the dummies, and the input assertion
+abbrev pub hypotheses_of : List Bound → List Tree → List Tree
+hypotheses_of bound input = bounds ++ map sort_of bound ++ map (stated bound) input
 
--- the assignments begin on card 4
-abbrev pub body_of : Deck → Walked
-body_of d = walked d.dummies (entries_of d.dummies) 4 d.body
+abbrev pub output_check : List Bound → ℕ → Tree → CheckTree
+output_check bound card t = check OutputCheck card (stated bound t)
 
-abbrev pub output_checks : Deck → List Tree → List Check
-output_checks d values = map (λ t. check OutputCheck (4 + length d.body) (stated d.dummies values (entries_of d.dummies) t)) d.output
+-- the checks of the one path, in order: those of the assignments, which begin on card 4, and the output assertion at
+-- the RETURN behind them
+abbrev pub path_checks : Walked → ℕ → List Tree → List CheckTree
+path_checks w card output = w.checks ++ map (output_check w.bound card) output
 
--- all checks of the one path, in order
-abbrev pub checks_of : Deck → List Check
-checks_of d = (body_of d).checks ++ output_checks d (body_of d).values
+abbrev pub checks_of : Deck → List CheckTree
+checks_of d = path_checks (walked (entered_all d.dummies) 4 d.body) (4 + length d.body) d.output

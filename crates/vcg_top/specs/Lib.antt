@@ -1,3 +1,4 @@
 pub mod Conditions
+pub mod Drafts
 pub mod FirstForm
 pub mod Splitting

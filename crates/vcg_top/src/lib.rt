@@ -2,6 +2,7 @@
 #![tactic(auto)]
 
 mod assignment;
+mod check;
 mod heading;
 mod spelling;
 mod splitting;

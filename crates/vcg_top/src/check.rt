@@ -1,0 +1,19 @@
+// The values of the dummies along the path, and the checks on it.
+use fort_syntax::{Kind, Name};
+use formula::TermId;
+
+/// A dummy with the term of its value, and of its value at entry.
+#[derive(Clone, Copy, Debug)]
+pub(crate) struct Binding {
+    pub name: Name,
+    pub value: TermId,
+    pub entry: TermId,
+}
+
+/// What is to be shown at a card.
+#[derive(Clone, Copy, Debug)]
+pub(crate) struct Check {
+    pub kind: Kind,
+    pub card: u32,
+    pub goal: TermId,
+}
