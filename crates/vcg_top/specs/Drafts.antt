@@ -1,8 +1,9 @@
 -- The bindings and checks of a path, whose terms are in a pool, as trees.
-use Rattle.std.specs.Prelude.{ℕ, ◌≡◌, ◌<◌, List, [], ◌∷◌, ◌++◌, length, map}
+use Rattle.std.specs.Prelude.{ℕ, ◌≡◌, ◌<◌, if◌then◌else◌, Option, Some, None, List, [], ◌∷◌, ◌++◌, length, map}
 use Rattle.formula.specs.declared.node.Node.{Node}
 use Rattle.formula.specs.declared.node.TermId.{TermId}
 use Rattle.formula.specs.Tree.{Tree}
+use Rattle.formula.specs.Atoms.{same_bytes}
 use Rattle.formula.specs.Pool.{Grows, IsIn, tree_of}
 use Rattle.vcg_top.specs.declared.check.Binding.{Binding}
 use Rattle.vcg_top.specs.declared.check.Check.{Check}
@@ -22,6 +23,11 @@ checks_in pool checks = map (check_of pool) checks
 
 abbrev pub trees_in : List Node → List TermId → List Tree
 trees_in pool ids = map (tree_of pool) ids
+
+-- the binding of a name
+abbrev pub found : List Binding → List ℕ → Option Binding
+found [] name = None
+found (b ∷ rest) name = if same_bytes b.name name then Some b else found rest name
 
 -- the terms of the bindings are in the pool
 abbrev pub AreBound : List Node → List Binding → Type 0

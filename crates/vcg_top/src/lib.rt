@@ -3,6 +3,8 @@
 
 mod assignment;
 mod check;
+mod evaluation;
+mod goals;
 mod heading;
 mod spelling;
 mod splitting;

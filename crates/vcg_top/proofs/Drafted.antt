@@ -1,0 +1,74 @@
+-- Bindings and checks keep their trees as the pool grows.
+use Rattle.std.proofs.Common.{◌≡◌, ℕ, ◌<◌, ◌+◌, List, [], ◌∷◌, ◌++◌, length, map, refl, sym, ap, ◌∙◌, arith, append_assoc}
+use Rattle.std.proofs.lemmas.Grind.{common_steps}
+use Rattle.formula.specs.declared.node.Node.{Node}
+use Rattle.formula.specs.declared.node.TermId.{TermId}
+use Rattle.formula.specs.Tree.{Tree}
+use Rattle.formula.specs.Pool.{AllBelow, Grows, IsIn, tree_of}
+use Rattle.formula.proofs.Grown.{Grows-trans, Grows-refl, IsIn-Grows, tree_of-Grows}
+use Rattle.vcg_top.specs.declared.check.Binding.{Binding}
+use Rattle.vcg_top.specs.declared.check.Check.{Check}
+use Rattle.vcg_top.specs.Conditions.{Bound, CheckTree, check}
+use Rattle.vcg_top.specs.Drafts.{bound_of, bound_in, check_of, checks_in, trees_in, AreBound, AreChecks, Adds}
+
+pub AllBelow-Grows : (old new : List Node) (ids : List TermId) → Grows old new → AllBelow (length old) ids → AllBelow (length new) ids
+AllBelow-Grows old new [] g h = tt
+AllBelow-Grows old new (id ∷ rest) g h = (IsIn-Grows old new id g h.0, AllBelow-Grows old new rest g h.1)
+
+pub trees_in-Grows : (old new : List Node) (ids : List TermId) → Grows old new → AllBelow (length old) ids → trees_in new ids ≡ trees_in old ids
+trees_in-Grows old new [] g h = refl
+trees_in-Grows old new (id ∷ rest) g h = λ i. tree_of-Grows old new id g h.0 i ∷ trees_in-Grows old new rest g h.1 i
+
+pub AreBound-Grows : (old new : List Node) (bs : List Binding) → Grows old new → AreBound old bs → AreBound new bs
+AreBound-Grows old new [] g h = tt
+AreBound-Grows old new (b ∷ rest) g h =
+    ((IsIn-Grows old new b.value g h.0.0, IsIn-Grows old new b.entry g h.0.1), AreBound-Grows old new rest g h.1)
+
+pub bound_in-Grows : (old new : List Node) (bs : List Binding) → Grows old new → AreBound old bs → bound_in new bs ≡ bound_in old bs
+bound_in-Grows old new [] g h = refl
+bound_in-Grows old new (b ∷ rest) g h = λ i.
+    record { name = b.name; value = tree_of-Grows old new b.value g h.0.0 i; entry = tree_of-Grows old new b.entry g h.0.1 i }
+    ∷ bound_in-Grows old new rest g h.1 i
+
+pub AreChecks-Grows : (old new : List Node) (cs : List Check) → Grows old new → AreChecks old cs → AreChecks new cs
+AreChecks-Grows old new [] g h = tt
+AreChecks-Grows old new (c ∷ rest) g h = (IsIn-Grows old new c.goal g h.0, AreChecks-Grows old new rest g h.1)
+
+pub checks_in-Grows : (old new : List Node) (cs : List Check) → Grows old new → AreChecks old cs → checks_in new cs ≡ checks_in old cs
+checks_in-Grows old new [] g h = refl
+checks_in-Grows old new (c ∷ rest) g h = λ i.
+    record { kind = c.kind; card = c.card; goal = tree_of-Grows old new c.goal g h.0 i } ∷ checks_in-Grows old new rest g h.1 i
+
+AreChecks-append : (pool : List Node) (cs : List Check) (c : Check) → AreChecks pool cs → IsIn pool c.goal → AreChecks pool (cs ++ c ∷ [])
+AreChecks-append pool [] c h k = (k, tt)
+AreChecks-append pool (d ∷ cs) c h k = (h.0, AreChecks-append pool cs c h.1 k)
+
+checks_in-append : (pool : List Node) (cs : List Check) (c : Check) → checks_in pool (cs ++ c ∷ []) ≡ checks_in pool cs ++ check_of pool c ∷ []
+checks_in-append pool [] c = refl
+checks_in-append pool (d ∷ cs) c = ap (λ r. check_of pool d ∷ r) (checks_in-append pool cs c)
+
+-- ---- checks that are added
+
+-- only terms were added
+pub Adds-none : (old new : List Node) (cs : List Check) → Grows old new → AreChecks old cs → Adds old new cs cs []
+Adds-none old new cs g h = record {
+  grows = g;
+  known = AreChecks-Grows old new cs g h;
+  is = checks_in-Grows old new cs g h ∙ (let whole : checks_in old cs ≡ checks_in old cs ++ [] = grind (arith, common_steps) in whole);
+}
+
+pub Adds-trans : (a b c : List Node) (x y z : List Check) (p q : List CheckTree) → Adds a b x y p → Adds b c y z q → Adds a c x z (p ++ q)
+Adds-trans a b c x y z p q s t = record {
+  grows = Grows-trans a b c s.grows t.grows;
+  known = t.known;
+  is = t.is ∙ ap (λ r. r ++ q) s.is ∙ append_assoc (checks_in a x) p q;
+}
+
+-- a check of this goal was added after some terms
+pub Adds-one : (old new : List Node) (cs after : List Check) (c : Check) (t : Tree) → Grows old new → AreChecks old cs → IsIn new c.goal → tree_of new c.goal ≡ t
+    → after ≡ cs ++ c ∷ [] → Adds old new cs after (check c.kind c.card t ∷ [])
+Adds-one old new cs after c t g h k same e = record {
+  grows = g;
+  known = rw e (AreChecks-append new cs c (AreChecks-Grows old new cs g h) k);
+  is = ap (checks_in new) e ∙ checks_in-append new cs c ∙ (λ i. checks_in-Grows old new cs g h i ++ check c.kind c.card (same i) ∷ []);
+}
