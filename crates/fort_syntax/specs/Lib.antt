@@ -1,3 +1,4 @@
 pub mod Conditions
+pub mod FaultLine
 pub mod Name
 pub mod Rules

@@ -8,6 +8,7 @@ mod dialect;
 mod expr;
 mod name;
 mod plain;
+mod plain_condition;
 mod plain_deck;
 mod plain_expr;
 mod plain_stmt;
@@ -27,3 +28,6 @@ pub use refusal::{Fault, Refusal};
 pub use rule::Rule;
 pub use stmt::{BlockName, Dim, Group, Item, Param, Stmt};
 pub use unit::{DataName, FunctionName, Line, Role, Unit};
+
+#[cfg(test)]
+mod tests;
