@@ -1,3 +1,5 @@
+pub mod CardRules
+pub mod Cards
 pub mod Conditions
 pub mod FaultLine
 pub mod Name

@@ -17,7 +17,7 @@ mod rule;
 mod stmt;
 mod unit;
 
-pub use cards::{Cards, Entry};
+pub use cards::{CardKind, Cards, Entry};
 pub use condition::{Condition, Kind};
 pub use deck::{Deck, Placed};
 pub use dialect::{BinOp, Dialect, RelOp, Sort};
