@@ -1,5 +1,5 @@
 -- The names of the built-in functions, and how many arguments each takes.
-use Rattle.std.specs.Prelude.{ℕ, ◌≡◌, ◌<◌, ◌==◌, nat_lt, Bool, List, [], ◌∷◌, codes}
+use Rattle.std.specs.Prelude.{ℕ, ◌==◌, nat_lt, Bool, List, codes}
 use Rattle.formula.specs.declared.function.BuiltIn.{BuiltIn}
 use Rattle.formula.specs.declared.function.BuiltIn.TheVariants.{And, Or, Not, Implies, If, Equal, Plus, Difference, Times, Negative, Quotient, Remainder, Absolute, Maximum, Minimum, Less, AtMost, Element, Put, Size, Defined, IntegerCell, LogicalCell, IntegerCells, LogicalCells, Undefined, Blank}
 

@@ -1,5 +1,6 @@
 pub mod Atoms
 pub mod Functions
+pub mod NextToken
 pub mod Pool
 pub mod Reading
 pub mod Tokens

@@ -1,6 +1,5 @@
 -- The term that begins a text, or the first fault. The text is read from the left, token by token.
-use Rattle.std.specs.Prelude.{ℕ, ◌+◌, ◌==◌, ◌&&◌, nat_le, nat_lt, if◌then◌else◌, Bool, true, false, Option, Some, None, List, [], ◌∷◌, ◌++◌, length, codes}
-use Rattle.formula.specs.declared.word.Word.{Word}
+use Rattle.std.specs.Prelude.{ℕ, ◌+◌, ◌&&◌, nat_le, if◌then◌else◌, Bool, true, false, Option, Some, None, List, [], ◌∷◌, ◌++◌, length, codes}
 use Rattle.formula.specs.declared.function.BuiltIn.{BuiltIn as Builtin}
 use Rattle.formula.specs.declared.function.BuiltIn.TheVariants.{And, Or, Not, Implies, If, Equal, Plus, Difference, Times, Negative, Quotient, Remainder, Absolute, Maximum, Minimum, Less, AtMost, Element, Put, Size, Defined as IsDefined, IntegerCell, LogicalCell, IntegerCells, LogicalCells, Undefined, Blank}
 use Rattle.formula.specs.declared.function.Func.{Func}
@@ -10,7 +9,7 @@ use Rattle.formula.specs.declared.definition.Heading.{Heading}
 use Rattle.formula.specs.declared.fault.ReadFault.{ReadFault}
 use Rattle.formula.specs.declared.fault.ReadFault.TheVariants.{Unbalanced, BadAtom, UnknownFunction, BadCount, TooDeep, BigNumber}
 use Rattle.formula.specs.Functions.{Arity, exactly, name_of, arity_of, fits_count}
-use Rattle.formula.specs.Tree.{Tree, num, truth, symbol, old, apply, Row, none, more, row_of, takes}
+use Rattle.formula.specs.Tree.{Tree, num, truth, symbol, old, apply, row_of, takes}
 use Rattle.formula.specs.Tokens.{Token, opening, closing, atom, Placed, tokens}
 use Rattle.formula.specs.Atoms.{same_bytes, is_number, is_long, digits_of, number_of, is_symbol, is_function_name}
 
@@ -53,7 +52,7 @@ abbrev pub head_named : List Definition → Option Heading → List ℕ → Opti
 head_named definitions next name =
     if same_bytes (codes "OLD") name then Some entry_value
     else or_else (built_in_head (built_in_among all_built_ins name))
-      (or_else (defined_among 1 definitions name) (heading_named (length definitions + 1) next name))
+    (or_else (defined_among 1 definitions name) (heading_named (length definitions + 1) next name))
 
 -- ---- reading
 

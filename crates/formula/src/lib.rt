@@ -1,16 +1,23 @@
 //! Terms: the language of assertions and verification conditions.
 #![tactic(auto)]
 
+mod atoms;
 mod definition;
 mod fault;
 mod function;
 mod node;
+mod tokens;
 mod value;
 mod word;
 
+pub use atoms::{
+    is_digit, is_digits, is_function_name, is_letter, is_long, is_number, is_same, is_symbol,
+    number, spelled,
+};
 pub use definition::{Body, Definition, Heading};
 pub use fault::ReadFault;
 pub use function::{BuiltIn, Func};
 pub use node::{Node, TermId};
+pub use tokens::{Placed, Token, next_token};
 pub use value::{Cell, Value};
 pub use word::Word;
