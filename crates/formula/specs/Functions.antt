@@ -1,12 +1,9 @@
 -- The names of the built-in functions, and how many arguments each takes.
-use Rattle.std.specs.Prelude.{ℕ, ◌==◌, nat_lt, Bool, List, codes}
+use Rattle.std.specs.Prelude.{ℕ, ◌≡◌, ◌<◌, ◌==◌, nat_lt, Bool, List, [], ◌∷◌, codes}
+use Rattle.formula.specs.declared.function.Arity.{Arity}
+use Rattle.formula.specs.declared.function.Arity.TheVariants.{Exactly, OneOrMore}
 use Rattle.formula.specs.declared.function.BuiltIn.{BuiltIn}
 use Rattle.formula.specs.declared.function.BuiltIn.TheVariants.{And, Or, Not, Implies, If, Equal, Plus, Difference, Times, Negative, Quotient, Remainder, Absolute, Maximum, Minimum, Less, AtMost, Element, Put, Size, Defined, IntegerCell, LogicalCell, IntegerCells, LogicalCells, Undefined, Blank}
-
--- a number of arguments: just so many, or one or more
-pub data Arity : Type 0 where
-  exactly : ℕ → Arity
-  one_or_more : Arity
 
 abbrev pub name_of : BuiltIn → List ℕ
 name_of And = codes "AND"
@@ -38,35 +35,35 @@ name_of Undefined = codes "UNDEF"
 name_of Blank = codes "BLANK"
 
 abbrev pub arity_of : BuiltIn → Arity
-arity_of And = one_or_more
-arity_of Or = one_or_more
-arity_of Not = exactly 1
-arity_of Implies = exactly 2
-arity_of If = exactly 3
-arity_of Equal = exactly 2
-arity_of Plus = exactly 2
-arity_of Difference = exactly 2
-arity_of Times = exactly 2
-arity_of Negative = exactly 1
-arity_of Quotient = exactly 2
-arity_of Remainder = exactly 2
-arity_of Absolute = exactly 1
-arity_of Maximum = exactly 2
-arity_of Minimum = exactly 2
-arity_of Less = exactly 2
-arity_of AtMost = exactly 2
-arity_of Element = exactly 2
-arity_of Put = exactly 3
-arity_of Size = exactly 1
-arity_of Defined = exactly 1
-arity_of IntegerCell = exactly 3
-arity_of LogicalCell = exactly 1
-arity_of IntegerCells = exactly 4
-arity_of LogicalCells = exactly 2
-arity_of Undefined = exactly 0
-arity_of Blank = exactly 1
+arity_of And = OneOrMore
+arity_of Or = OneOrMore
+arity_of Not = Exactly 1
+arity_of Implies = Exactly 2
+arity_of If = Exactly 3
+arity_of Equal = Exactly 2
+arity_of Plus = Exactly 2
+arity_of Difference = Exactly 2
+arity_of Times = Exactly 2
+arity_of Negative = Exactly 1
+arity_of Quotient = Exactly 2
+arity_of Remainder = Exactly 2
+arity_of Absolute = Exactly 1
+arity_of Maximum = Exactly 2
+arity_of Minimum = Exactly 2
+arity_of Less = Exactly 2
+arity_of AtMost = Exactly 2
+arity_of Element = Exactly 2
+arity_of Put = Exactly 3
+arity_of Size = Exactly 1
+arity_of Defined = Exactly 1
+arity_of IntegerCell = Exactly 3
+arity_of LogicalCell = Exactly 1
+arity_of IntegerCells = Exactly 4
+arity_of LogicalCells = Exactly 2
+arity_of Undefined = Exactly 0
+arity_of Blank = Exactly 1
 
 -- a number of arguments is right
 abbrev pub fits_count : Arity → ℕ → Bool
-fits_count (exactly m) n = n == m
-fits_count one_or_more n = nat_lt 0 n
+fits_count (Exactly m) n = n == m
+fits_count OneOrMore n = nat_lt 0 n

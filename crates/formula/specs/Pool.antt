@@ -34,6 +34,14 @@ HasArguments done (Symbol s) = Unit {0}
 HasArguments done (Old s) = Unit {0}
 HasArguments done (Apply f args) = AllBelow (length done) args × IsTrue (takes f (row_in done args))
 
+-- a node's arguments stand before the place n
+abbrev pub HasArgumentsBelow : ℕ → Node → Type 0
+HasArgumentsBelow n (Num z) = Unit {0}
+HasArgumentsBelow n (Truth b) = Unit {0}
+HasArgumentsBelow n (Symbol s) = Unit {0}
+HasArgumentsBelow n (Old s) = Unit {0}
+HasArgumentsBelow n (Apply f args) = AllBelow n args
+
 abbrev pub grown : List Tree → List Node → List Tree
 grown done [] = done
 grown done (node ∷ rest) = grown (done ++ tree_in done node ∷ []) rest

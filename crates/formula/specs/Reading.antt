@@ -1,5 +1,6 @@
 -- The term that begins a text, or the first fault. The text is read from the left, token by token.
-use Rattle.std.specs.Prelude.{ℕ, ◌+◌, ◌&&◌, nat_le, if◌then◌else◌, Bool, true, false, Option, Some, None, List, [], ◌∷◌, ◌++◌, length, codes}
+use Rattle.std.specs.Prelude.{ℕ, ◌+◌, ◌==◌, ◌&&◌, nat_le, nat_lt, if◌then◌else◌, Bool, true, false, Option, Some, None, List, [], ◌∷◌, ◌++◌, length, codes}
+use Rattle.formula.specs.declared.word.Word.{Word}
 use Rattle.formula.specs.declared.function.BuiltIn.{BuiltIn as Builtin}
 use Rattle.formula.specs.declared.function.BuiltIn.TheVariants.{And, Or, Not, Implies, If, Equal, Plus, Difference, Times, Negative, Quotient, Remainder, Absolute, Maximum, Minimum, Less, AtMost, Element, Put, Size, Defined as IsDefined, IntegerCell, LogicalCell, IntegerCells, LogicalCells, Undefined, Blank}
 use Rattle.formula.specs.declared.function.Func.{Func}
@@ -8,8 +9,11 @@ use Rattle.formula.specs.declared.definition.Definition.{Definition}
 use Rattle.formula.specs.declared.definition.Heading.{Heading}
 use Rattle.formula.specs.declared.fault.ReadFault.{ReadFault}
 use Rattle.formula.specs.declared.fault.ReadFault.TheVariants.{Unbalanced, BadAtom, UnknownFunction, BadCount, TooDeep, BigNumber}
-use Rattle.formula.specs.Functions.{Arity, exactly, name_of, arity_of, fits_count}
-use Rattle.formula.specs.Tree.{Tree, num, truth, symbol, old, apply, row_of, takes}
+use Rattle.formula.specs.declared.function.Arity.TheVariants.{Exactly}
+use Rattle.formula.specs.declared.definition.Head.{Head}
+use Rattle.formula.specs.declared.definition.Head.TheVariants.{EntryValue, Function}
+use Rattle.formula.specs.Functions.{name_of, arity_of, fits_count}
+use Rattle.formula.specs.Tree.{Tree, num, truth, symbol, old, apply, Row, none, more, row_of, takes}
 use Rattle.formula.specs.Tokens.{Token, opening, closing, atom, Placed, tokens}
 use Rattle.formula.specs.Atoms.{same_bytes, is_number, is_long, digits_of, number_of, is_symbol, is_function_name}
 
@@ -23,21 +27,16 @@ abbrev pub built_in_among : List Builtin → List ℕ → Option Builtin
 built_in_among [] name = None
 built_in_among (f ∷ rest) name = if same_bytes (name_of f) name then Some f else built_in_among rest name
 
--- what may stand behind an opening bracket: OLD, or a function with its number of arguments
-pub data Head : Type 0 where
-  entry_value : Head
-  function : Func → Arity → Head
-
 -- the first definition with that name, where they are numbered from k
 abbrev pub defined_among : ℕ → List Definition → List ℕ → Option Head
 defined_among k [] name = None
 defined_among k (d ∷ rest) name =
-    if same_bytes d.name name then Some (function (Defined k) (exactly (length d.params))) else defined_among (k + 1) rest name
+    if same_bytes d.name name then Some (Function (Defined k) (Exactly (length d.params))) else defined_among (k + 1) rest name
 
 -- the definition that is being read has the next number
 abbrev pub heading_named : ℕ → Option Heading → List ℕ → Option Head
 heading_named k None name = None
-heading_named k (Some h) name = if same_bytes h.name name then Some (function (Defined k) (exactly (length h.params))) else None
+heading_named k (Some h) name = if same_bytes h.name name then Some (Function (Defined k) (Exactly (length h.params))) else None
 
 abbrev pub or_else : {T : Type 0} → Option T → Option T → Option T
 or_else None o = o
@@ -45,12 +44,12 @@ or_else (Some x) o = Some x
 
 abbrev pub built_in_head : Option Builtin → Option Head
 built_in_head None = None
-built_in_head (Some f) = Some (function (BuiltIn f) (arity_of f))
+built_in_head (Some f) = Some (Function (BuiltIn f) (arity_of f))
 
 -- the head of a name: OLD, the built-in functions, the definitions and last the heading
 abbrev pub head_named : List Definition → Option Heading → List ℕ → Option Head
 head_named definitions next name =
-    if same_bytes (codes "OLD") name then Some entry_value
+    if same_bytes (codes "OLD") name then Some EntryValue
     else or_else (built_in_head (built_in_among all_built_ins name))
     (or_else (defined_among 1 definitions name) (heading_named (length definitions + 1) next name))
 
@@ -78,8 +77,8 @@ given t [] = done t
 given t (f ∷ rest) = going (record { naming = false; frames = record { head = f.head; args = f.args ++ t ∷ [] } ∷ rest })
 
 abbrev pub is_entry : Head → Bool
-is_entry entry_value = true
-is_entry (function f a) = false
+is_entry EntryValue = true
+is_entry (Function f a) = false
 
 abbrev pub is_empty_list : List Tree → Bool
 is_empty_list [] = true
@@ -109,8 +108,8 @@ entry_closed _ frames = stopped BadCount
 
 -- a closing bracket
 abbrev pub closed : Head → List Tree → List Frame → Progress
-closed entry_value args frames = entry_closed args frames
-closed (function f arity) args frames =
+closed EntryValue args frames = entry_closed args frames
+closed (Function f arity) args frames =
     if fits_count arity (length args) && takes f (row_of args) then given (apply f (row_of args)) frames else stopped BadCount
 
 abbrev pub closed_read : List Frame → Progress

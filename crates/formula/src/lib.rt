@@ -6,6 +6,7 @@ mod definition;
 mod fault;
 mod function;
 mod node;
+mod pool;
 mod tokens;
 mod value;
 mod word;
@@ -14,10 +15,11 @@ pub use atoms::{
     is_digit, is_digits, is_function_name, is_letter, is_long, is_number, is_same, is_symbol,
     number, spelled,
 };
-pub use definition::{Body, Definition, Heading};
+pub use definition::{Body, Definition, Head, Heading};
 pub use fault::ReadFault;
-pub use function::{BuiltIn, Func};
+pub use function::{Arity, BuiltIn, Func};
 pub use node::{Node, TermId};
+pub use pool::TermPool;
 pub use tokens::{Placed, Token, next_token};
 pub use value::{Cell, Value};
 pub use word::Word;

@@ -1,0 +1,191 @@
+// The terms of a run.
+ghost use Rattle.std.specs.Prelude.{◌≡◌, [], ◌∷◌, ◌++◌, length, slice_get, Some, IsOk, IfOk, OnOk, OnErr, IsTrue, Contains};
+ghost use Rattle.formula.specs.Pool.{AllBelow, HasArguments, HasArgumentsBelow, HasOneIdEach, Grows, IsIn, trees, tree_in, tree_of, row_in};
+ghost use Rattle.formula.specs.Tree.{num, truth, symbol, old, apply, none, more, takes};
+
+use crate::{BuiltIn, Func, Node, TermId, Word};
+use edge_io::{List, NoMemory};
+use indexmap::IndexSet;
+use std::alloc::Global;
+use std::marker::Model;
+
+/// The nodes of terms. Each names earlier ones as its arguments, and no two are equal, so that
+/// equal terms have one id.
+#[derive(Drop)]
+pub struct TermPool {
+    nodes: IndexSet<Node>,
+    alloc: Global,
+}
+
+impl Model for TermPool {
+    ghost use Rattle.std.specs.Prelude.{List, []};
+    ghost use Rattle.formula.specs.declared.node.Node.{Node};
+    ghost use Rattle.formula.specs.Pool.{IsPool};
+
+    ghost Value = { List Node };
+
+    ghost view = { λ p. p.nodes.keys };
+
+    ghost invariant = { λ p. IsPool [] p.nodes.keys };
+}
+
+impl TermPool {
+    /// A pool with no term. It takes no memory.
+    pub fn new(alloc: Global) -> TermPool
+        ensures { result ≡ [] }
+    {
+        TermPool {
+            nodes: IndexSet::new(alloc),
+            alloc,
+        }
+    }
+
+    /// The number of terms. Two terms that are equal as trees are one.
+    pub fn count(&self) -> usize
+        ensures count { result ≡ length self.now }
+        ensures one_id_each { HasOneIdEach self.now }
+    {
+        self.nodes.len()
+    }
+
+    /// The id of a node's term: the one that it has, with no memory taken, or else a new one.
+    pub fn make(&mut self, node: Node) -> Result<TermId, NoMemory>
+        requires { HasArguments (trees self.old) node }
+        ensures is_in { IfOk result (λ id. IsIn self.new id) }
+        ensures tree { IfOk result (λ id. tree_of self.new id ≡ tree_in (trees self.old) node) }
+        ensures node { IfOk result (λ id. slice_get self.new id.place ≡ Some node) }
+        ensures held { Contains self.old node → IsOk result × (self.new ≡ self.old) }
+        ensures added { OnOk result (¬ Contains self.old node → self.new ≡ self.old ++ node ∷ []) }
+        ensures unchanged { OnErr result (self.new ≡ self.old) }
+        ensures grows { Grows self.old self.new }
+    {
+        let Ok((place, _)) = self.nodes.insert_full(node) else {
+            return Err(NoMemory);
+        };
+        Ok(TermId { place })
+    }
+
+    /// The node of an id.
+    pub fn node(&self, id: TermId) -> &Node
+        requires { IsIn self.now id }
+        ensures node { slice_get self.now id.place ≡ Some result.now }
+        ensures tree { tree_of self.now id ≡ tree_in (trees self.now) result.now }
+        ensures arguments { HasArguments (trees self.now) result.now }
+        ensures below { HasArgumentsBelow id.place result.now }
+    {
+        match self.nodes.get_index(id.place) {
+            Some(node) => node,
+            None => unreachable!(),
+        }
+    }
+
+    /// The term of a number.
+    pub fn number(&mut self, n: i128) -> Result<TermId, NoMemory>
+        ensures is_in { IfOk result (λ id. IsIn self.new id) }
+        ensures tree { IfOk result (λ id. tree_of self.new id ≡ num n) }
+        ensures unchanged { OnErr result (self.new ≡ self.old) }
+        ensures grows { Grows self.old self.new }
+    {
+        self.make(Node::Num(n))
+    }
+
+    /// The term T or F.
+    pub fn truth(&mut self, b: bool) -> Result<TermId, NoMemory>
+        ensures is_in { IfOk result (λ id. IsIn self.new id) }
+        ensures tree { IfOk result (λ id. tree_of self.new id ≡ truth b) }
+        ensures unchanged { OnErr result (self.new ≡ self.old) }
+        ensures grows { Grows self.old self.new }
+    {
+        self.make(Node::Truth(b))
+    }
+
+    /// The term of a symbol.
+    pub fn symbol(&mut self, name: Word) -> Result<TermId, NoMemory>
+        ensures is_in { IfOk result (λ id. IsIn self.new id) }
+        ensures tree { IfOk result (λ id. tree_of self.new id ≡ symbol name) }
+        ensures unchanged { OnErr result (self.new ≡ self.old) }
+        ensures grows { Grows self.old self.new }
+    {
+        self.make(Node::Symbol(name))
+    }
+
+    /// The term of a symbol's entry value.
+    pub fn entry(&mut self, name: Word) -> Result<TermId, NoMemory>
+        ensures is_in { IfOk result (λ id. IsIn self.new id) }
+        ensures tree { IfOk result (λ id. tree_of self.new id ≡ old name) }
+        ensures unchanged { OnErr result (self.new ≡ self.old) }
+        ensures grows { Grows self.old self.new }
+    {
+        self.make(Node::Old(name))
+    }
+
+    /// A function of some terms.
+    pub fn apply(&mut self, f: Func, args: List<TermId>) -> Result<TermId, NoMemory>
+        requires below { AllBelow (length self.old) args }
+        requires takes { IsTrue (takes f (row_in (trees self.old) args)) }
+        ensures is_in { IfOk result (λ id. IsIn self.new id) }
+        ensures tree { IfOk result (λ id. tree_of self.new id ≡ apply f (row_in (trees self.old) args)) }
+        ensures unchanged { OnErr result (self.new ≡ self.old) }
+        ensures grows { Grows self.old self.new }
+    {
+        self.make(Node::Apply(f, args))
+    }
+
+    /// A built-in function of one term.
+    pub fn unary(&mut self, f: BuiltIn, a: TermId) -> Result<TermId, NoMemory>
+        requires a { IsIn self.old a }
+        requires takes { IsTrue (takes (Func.BuiltIn f) (more (tree_of self.old a) none)) }
+        ensures is_in { IfOk result (λ id. IsIn self.new id) }
+        ensures tree { IfOk result (λ id. tree_of self.new id ≡ apply (Func.BuiltIn f) (more (tree_of self.old a) none)) }
+        ensures unchanged { OnErr result (self.new ≡ self.old) }
+        ensures grows { Grows self.old self.new }
+    {
+        let args = listed(self.alloc, &[a])?;
+        self.apply(Func::BuiltIn(f), args)
+    }
+
+    /// A built-in function of two terms.
+    pub fn binary(&mut self, f: BuiltIn, a: TermId, b: TermId) -> Result<TermId, NoMemory>
+        requires a { IsIn self.old a }
+        requires b { IsIn self.old b }
+        requires takes { IsTrue (takes (Func.BuiltIn f) (more (tree_of self.old a) (more (tree_of self.old b) none))) }
+        ensures is_in { IfOk result (λ id. IsIn self.new id) }
+        ensures tree { IfOk result (λ id. tree_of self.new id ≡ apply (Func.BuiltIn f) (more (tree_of self.old a) (more (tree_of self.old b) none))) }
+        ensures unchanged { OnErr result (self.new ≡ self.old) }
+        ensures grows { Grows self.old self.new }
+    {
+        let args = listed(self.alloc, &[a, b])?;
+        self.apply(Func::BuiltIn(f), args)
+    }
+
+    /// A built-in function of three terms.
+    pub fn ternary(
+        &mut self,
+        f: BuiltIn,
+        a: TermId,
+        b: TermId,
+        c: TermId,
+    ) -> Result<TermId, NoMemory>
+        requires a { IsIn self.old a }
+        requires b { IsIn self.old b }
+        requires c { IsIn self.old c }
+        requires takes { IsTrue (takes (Func.BuiltIn f) (more (tree_of self.old a) (more (tree_of self.old b) (more (tree_of self.old c) none)))) }
+        ensures is_in { IfOk result (λ id. IsIn self.new id) }
+        ensures tree { IfOk result (λ id. tree_of self.new id ≡ apply (Func.BuiltIn f) (more (tree_of self.old a) (more (tree_of self.old b) (more (tree_of self.old c) none)))) }
+        ensures unchanged { OnErr result (self.new ≡ self.old) }
+        ensures grows { Grows self.old self.new }
+    {
+        let args = listed(self.alloc, &[a, b, c])?;
+        self.apply(Func::BuiltIn(f), args)
+    }
+}
+
+/// A list of these ids.
+fn listed(alloc: Global, ids: &[TermId]) -> Result<List<TermId>, NoMemory>
+    ensures { IfOk result (λ l. l ≡ ids.now) }
+{
+    let Ok(items) = Vec::from_slice(alloc, ids) else {
+        return Err(NoMemory);
+    };
+    Ok(List::from_vec(items))
+}
