@@ -6,3 +6,4 @@ pub mod Padded
 pub mod Putting
 pub mod Same
 pub mod TokenSteps
+pub mod Turns

@@ -1,6 +1,7 @@
 pub mod Atoms
 pub mod Functions
 pub mod NextToken
+pub mod OpenCalls
 pub mod Pool
 pub mod Reading
 pub mod Tokens

@@ -1,12 +1,16 @@
 //! Terms: the language of assertions and verification conditions.
 #![tactic(auto)]
 
+mod atom_terms;
 mod atoms;
+mod closing;
 mod definition;
 mod fault;
 mod function;
 mod node;
+mod open_calls;
 mod pool;
+mod stack;
 mod tokens;
 mod value;
 mod word;
