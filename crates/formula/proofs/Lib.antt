@@ -1,6 +1,8 @@
 pub mod Digits
 pub mod Grown
 pub mod Growth
+pub mod Lookup
+pub mod Names
 pub mod OneIdEach
 pub mod Padded
 pub mod Putting

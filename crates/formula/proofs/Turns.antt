@@ -1,7 +1,7 @@
 -- What a token leads to.
 use Rattle.std.proofs.Common.{◌≡◌, ℕ, ◌+◌, ◌<◌, ◌≤◌, Bool, true, false, List, [], ◌∷◌, ◌++◌, length, refl, sym, ap, ◌∙◌, subst, arith, length-append}
 use Rattle.std.specs.Prelude.{◌≢◌, ◌&&◌, Result, codes, IsTrue}
-use Rattle.formula.specs.declared.definition.Head.{Head}
+use Rattle.formula.specs.declared.head.Head.{Head}
 use Rattle.formula.specs.declared.fault.ReadFault.{ReadFault}
 use Rattle.formula.specs.declared.fault.ReadFault.TheVariants.{BadCount}
 use Rattle.formula.specs.declared.function.Arity.{Arity}

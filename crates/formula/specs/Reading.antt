@@ -10,8 +10,8 @@ use Rattle.formula.specs.declared.definition.Heading.{Heading}
 use Rattle.formula.specs.declared.fault.ReadFault.{ReadFault}
 use Rattle.formula.specs.declared.fault.ReadFault.TheVariants.{Unbalanced, BadAtom, UnknownFunction, BadCount, TooDeep, BigNumber}
 use Rattle.formula.specs.declared.function.Arity.TheVariants.{Exactly}
-use Rattle.formula.specs.declared.definition.Head.{Head}
-use Rattle.formula.specs.declared.definition.Head.TheVariants.{EntryValue, Function}
+use Rattle.formula.specs.declared.head.Head.{Head}
+use Rattle.formula.specs.declared.head.Head.TheVariants.{EntryValue, Function}
 use Rattle.formula.specs.Functions.{name_of, arity_of, fits_count}
 use Rattle.formula.specs.Tree.{Tree, num, truth, symbol, old, apply, Row, none, more, row_of, takes}
 use Rattle.formula.specs.Tokens.{Token, opening, closing, atom, Placed, tokens}

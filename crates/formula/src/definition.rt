@@ -1,5 +1,5 @@
 // Definitions of functions.
-use crate::{Arity, Func, TermId, Word};
+use crate::{TermId, Word};
 use edge_io::List;
 
 /// What a definition stands for: the term, or the base and the step of a counting definition.
@@ -22,11 +22,4 @@ pub struct Definition {
 pub struct Heading {
     pub name: Word,
     pub params: List<Word>,
-}
-
-/// What may stand behind an opening bracket: OLD, or a function with its number of arguments.
-#[derive(Clone, Copy, Debug, PartialEq, Eq)]
-pub enum Head {
-    EntryValue,
-    Function(Func, Arity),
 }

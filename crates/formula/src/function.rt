@@ -1,6 +1,7 @@
 // The functions of terms.
-ghost use Rattle.std.specs.Prelude.{◌≡◌};
+ghost use Rattle.std.specs.Prelude.{◌≡◌, Some, IfSome};
 ghost use Rattle.formula.specs.Functions.{name_of, arity_of, fits_count};
+ghost use Rattle.formula.specs.Reading.{all_built_ins, built_in_among};
 
 /// The functions that every term may use. `docs/FORMULAS.md` says what each is worth.
 #[derive(Clone, Copy, Debug, PartialEq, Eq, Hash)]
@@ -59,6 +60,37 @@ impl Arity {
         }
     }
 }
+
+/// The built-in functions, each once.
+static ALL: [BuiltIn; 27] = [
+    BuiltIn::And,
+    BuiltIn::Or,
+    BuiltIn::Not,
+    BuiltIn::Implies,
+    BuiltIn::If,
+    BuiltIn::Equal,
+    BuiltIn::Plus,
+    BuiltIn::Difference,
+    BuiltIn::Times,
+    BuiltIn::Negative,
+    BuiltIn::Quotient,
+    BuiltIn::Remainder,
+    BuiltIn::Absolute,
+    BuiltIn::Maximum,
+    BuiltIn::Minimum,
+    BuiltIn::Less,
+    BuiltIn::AtMost,
+    BuiltIn::Element,
+    BuiltIn::Put,
+    BuiltIn::Size,
+    BuiltIn::Defined,
+    BuiltIn::IntegerCell,
+    BuiltIn::LogicalCell,
+    BuiltIn::IntegerCells,
+    BuiltIn::LogicalCells,
+    BuiltIn::Undefined,
+    BuiltIn::Blank,
+];
 
 impl BuiltIn {
     /// The function's name in a term.
@@ -127,4 +159,25 @@ impl BuiltIn {
             BuiltIn::IntegerCells => Arity::Exactly(4),
         }
     }
+
+    /// The function with that name. No two have one name, and each is found by its own.
+    pub fn named(bytes: &[u8]) -> Option<BuiltIn>
+        ensures named { result ≡ built_in_among all_built_ins bytes.now }
+        ensures each { (f : BuiltIn) → built_in_among all_built_ins (name_of f) ≡ Some f }
+        ensures found { IfSome result (λ f. name_of f ≡ bytes.now) }
+    {
+        named_among(&ALL, bytes)
+    }
+}
+
+/// The first of these functions with that name.
+fn named_among(functions: &[BuiltIn], name: &[u8]) -> Option<BuiltIn>
+    ensures { result ≡ built_in_among functions.now name.now }
+{
+    for f in functions {
+        if f.name() == name {
+            return Some(*f);
+        }
+    }
+    None
 }

@@ -5,8 +5,10 @@ mod atom_terms;
 mod atoms;
 mod closing;
 mod definition;
+mod definitions;
 mod fault;
 mod function;
+mod head;
 mod node;
 mod open_calls;
 mod pool;
@@ -19,9 +21,11 @@ pub use atoms::{
     is_digit, is_digits, is_function_name, is_letter, is_long, is_number, is_same, is_symbol,
     number, spelled,
 };
-pub use definition::{Body, Definition, Head, Heading};
+pub use definition::{Body, Definition, Heading};
+pub use definitions::Definitions;
 pub use fault::ReadFault;
 pub use function::{Arity, BuiltIn, Func};
+pub use head::{Head, head_of};
 pub use node::{Node, TermId};
 pub use pool::TermPool;
 pub use tokens::{Placed, Token, next_token};
