@@ -1,0 +1,27 @@
+//! The language of decks: names, expressions, statements, subprograms, rules and conditions.
+#![tactic(auto)]
+
+mod cards;
+mod condition;
+mod deck;
+mod dialect;
+mod expr;
+mod name;
+mod plain;
+mod plain_expr;
+mod refusal;
+mod rule;
+mod stmt;
+mod unit;
+
+pub use cards::{Cards, Entry};
+pub use condition::{Condition, Kind};
+pub use deck::{Deck, Placed};
+pub use dialect::{BinOp, Dialect, RelOp, Sort};
+pub use expr::Expr;
+pub use name::Name;
+pub use plain::Plain;
+pub use refusal::{Fault, Refusal};
+pub use rule::Rule;
+pub use stmt::{BlockName, Dim, Group, Item, Param, Stmt};
+pub use unit::{DataName, FunctionName, Line, Role, Unit};
