@@ -1,25 +1,21 @@
 -- What a token leads to.
-use Rattle.std.proofs.Common.{◌≡◌, ℕ, ◌+◌, ◌<◌, ◌≤◌, Bool, true, false, List, [], ◌∷◌, ◌++◌, length, refl, sym, ap, ◌∙◌, subst, arith, length-append}
-use Rattle.std.specs.Prelude.{◌≢◌, ◌&&◌, Result, codes, IsTrue}
-use Rattle.formula.specs.declared.head.Head.{Head}
-use Rattle.formula.specs.declared.fault.ReadFault.{ReadFault}
-use Rattle.formula.specs.declared.fault.ReadFault.TheVariants.{BadCount}
-use Rattle.formula.specs.declared.function.Arity.{Arity}
+use Rattle.std.proofs.Common.{◌≡◌, ℕ, ◌<◌, ◌≤◌, Bool, true, false, List, [], ◌∷◌, ◌++◌, length, refl, sym, ap, ◌∙◌, subst, arith, length-append}
+use Rattle.std.specs.Prelude.{◌≢◌, ◌&&◌, nat_le}
+use Rattle.formula.specs.declared.fault.ReadFault.TheVariants.{BadAtom, BadCount, TooDeep}
 use Rattle.formula.specs.declared.function.BuiltIn.{BuiltIn as Builtin}
 use Rattle.formula.specs.declared.function.BuiltIn.TheVariants.{Blank}
-use Rattle.formula.specs.declared.function.Func.{Func}
 use Rattle.formula.specs.declared.function.Func.TheVariants.{BuiltIn}
 use Rattle.formula.specs.declared.node.Node.{Node}
 use Rattle.formula.specs.declared.node.TermId.{TermId}
 use Rattle.formula.specs.declared.open_calls.OpenCall.{OpenCall}
 use Rattle.formula.specs.declared.open_calls.Due.TheVariants.{Term}
-use Rattle.formula.specs.declared.open_calls.Turn.{Turn}
 use Rattle.formula.specs.Functions.{arity_of, fits_count}
 use Rattle.formula.specs.Tree.{Tree, Row, is_blank_row, takes, row_of, row_count}
 use Rattle.formula.specs.Pool.{AllBelow, Grows, IsIn, tree_at, tree_of, trees, row_in}
-use Rattle.formula.specs.Reading.{Frame, Progress, going, stopped, given, entry_closed, is_entry, is_empty_list, wants_symbol}
-use Rattle.formula.specs.OpenCalls.{trees_in, frames_of, state_of, CallsBelow, Stands, Leads}
-use Rattle.formula.proofs.Grown.{IsIn-Grows, tree_of-Grows}
+use Rattle.formula.specs.Reading.{Frame, going, stopped, given, entry_closed, closed_read, opened_read, is_entry, is_empty_list, wants_symbol}
+use Rattle.formula.specs.OpenCalls.{trees_in, frames_of, state_of, CallsBelow, Stands}
+use Rattle.std.proofs.lemmas.Bool.Decides.{nat_tests}
+use Rattle.formula.proofs.Grown.{tree_of-Grows}
 
 -- ---- trees of ids
 
@@ -132,3 +128,26 @@ pub kept_later : (before pool : List Node) (t : Tree) (calls calls' rest : List 
 kept_later before pool t calls calls' rest call call' id e e' head items g below within tree =
     let k = kept pool calls calls' rest call call' id e e' head items within (CallsBelow-Grows before pool calls g below) in
     (k.0, (λ i. given (sym tree i) (sym (frames_of-Grows before pool calls g below) i)) ∙ k.1)
+
+length-frames_of : (ts : List Tree) (calls : List OpenCall) → length (frames_of ts calls) ≡ length calls
+length-frames_of ts [] = refl
+length-frames_of ts (c ∷ calls) = let h = length-frames_of ts calls in omega arith
+
+-- at most 64 brackets are open
+pub opened_deep : (ts : List Tree) (calls : List OpenCall) → wants_symbol (frames_of ts calls) ≡ false → 64 ≤ length calls → opened_read (frames_of ts calls) ≡ stopped TooDeep
+opened_deep ts calls h deep =
+    let same = length-frames_of ts calls in
+    let test : nat_le 64 (length (frames_of ts calls)) ≡ true = grind (arith, nat_tests) in
+    rw (h, test) refl
+
+pub opened_room : (ts : List Tree) (calls : List OpenCall) → wants_symbol (frames_of ts calls) ≡ false → length calls < 64
+    → opened_read (frames_of ts calls) ≡ going (record { naming = true; frames = frames_of ts calls })
+opened_room ts calls h room =
+    let same = length-frames_of ts calls in
+    let test : nat_le 64 (length (frames_of ts calls)) ≡ false = grind (arith, nat_tests) in
+    rw (h, test) refl
+
+-- a bracket where the symbol of an OLD is due
+pub closed_wanted : (frames : List Frame) → wants_symbol frames ≡ true → closed_read frames ≡ stopped BadAtom
+closed_wanted [] h = cc
+closed_wanted (f ∷ rest) h = rw h refl

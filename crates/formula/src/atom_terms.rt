@@ -5,8 +5,8 @@ ghost use Rattle.formula.specs.Reading.{atom_read, symbol_read};
 ghost use Rattle.formula.specs.OpenCalls.{frames_of, CallsBelow, Leads};
 
 use crate::open_calls::{OpenCall, Turn, given};
-use crate::stack::Stack;
 use crate::{ReadFault, TermPool, Word, is_number, is_same, is_symbol, number};
+use edge_io::Stack;
 
 /// An atom in the place of a symbol.
 pub fn symbol_read(

@@ -6,9 +6,8 @@ ghost use Rattle.formula.specs.Reading.{stopped, is_empty_list, wants_symbol, en
 ghost use Rattle.formula.specs.OpenCalls.{trees_in, frames_of, CallsBelow, Leads};
 
 use crate::open_calls::{OpenCall, Turn, given};
-use crate::stack::Stack;
 use crate::{Arity, BuiltIn, Func, Head, Node, ReadFault, TermId, TermPool};
-use edge_io::List;
+use edge_io::{List, Stack};
 
 // The one argument, where there is just one.
 fn only(args: &[TermId]) -> Option<TermId>

@@ -6,8 +6,8 @@ ghost use Rattle.formula.specs.Pool.{Grows, IsIn, tree_of, trees};
 ghost use Rattle.formula.specs.Reading.{given};
 ghost use Rattle.formula.specs.OpenCalls.{frames_of, CallsBelow, Leads};
 
-use crate::stack::Stack;
 use crate::{Head, ReadFault, TermId};
+use edge_io::Stack;
 
 /// An open bracket: its head, and the arguments so far.
 #[derive(Drop)]
