@@ -33,3 +33,6 @@ pub use reader::read_term;
 pub use tokens::{Placed, Token, next_token};
 pub use value::{Cell, Value};
 pub use word::Word;
+
+#[cfg(test)]
+mod tests;
