@@ -1,3 +1,4 @@
+pub mod Digits
 pub mod Grown
 pub mod Growth
 pub mod Lookup
@@ -6,3 +7,5 @@ pub mod OneIdEach
 pub mod Padded
 pub mod Putting
 pub mod Same
+pub mod TokenSteps
+pub mod Turns

@@ -1,7 +1,8 @@
 -- What atoms are: numbers, symbols, names of functions.
-use Rattle.std.specs.Prelude.{ℕ, ℤ, pos, negsuc, zero, suc, ◌+◌, ◌-◌, ◌*◌, ◌==◌, ◌&&◌, ◌||◌, not, nat_le, nat_lt, if◌then◌else◌, Bool, true, false, List, [], ◌∷◌, length, codes}
+use Rattle.std.specs.Prelude.{ℕ, ℤ, pos, negsuc, zero, suc, ◌+◌, ◌-◌, ◌*◌, ◌==◌, ◌&&◌, ◌||◌, not, nat_le, nat_lt, if◌then◌else◌, Bool, false, List, [], ◌∷◌, length, codes}
 use Rattle.std.specs.Cmp.Lexicographic.{pointwise}
 use Rattle.std.specs.Prelude.{nat_eq}
+use Rattle.std.specs.List.{list_all}
 
 -- two texts are the same
 abbrev pub same_bytes : List ℕ → List ℕ → Bool
@@ -14,17 +15,13 @@ is_digit b = nat_le 48 b && nat_le b 57
 abbrev pub is_letter : ℕ → Bool
 is_letter b = nat_le 65 b && nat_le b 90
 
-abbrev pub all_bytes : (ℕ → Bool) → List ℕ → Bool
-all_bytes p [] = true
-all_bytes p (b ∷ rest) = p b && all_bytes p rest
-
 abbrev pub starts : (ℕ → Bool) → List ℕ → Bool
 starts p [] = false
 starts p (b ∷ rest) = p b
 
 -- one or more digits
 abbrev pub is_digits : List ℕ → Bool
-is_digits a = starts is_digit a && all_bytes is_digit a
+is_digits a = starts is_digit a && list_all is_digit a
 
 -- the number that digits spell
 abbrev pub spelled_from : ℕ → List ℕ → ℕ
@@ -69,8 +66,8 @@ is_name_byte b = is_letter b || is_digit b
 
 -- 1 to 24 letters, digits and `-`, a letter first, and neither T nor F
 abbrev pub is_symbol : List ℕ → Bool
-is_symbol a = starts is_letter a && all_bytes is_symbol_byte a && nat_le (length a) 24 && not (same_bytes a (codes "T")) && not (same_bytes a (codes "F"))
+is_symbol a = starts is_letter a && list_all is_symbol_byte a && nat_le (length a) 24 && not (same_bytes a (codes "T")) && not (same_bytes a (codes "F"))
 
 -- 1 to 12 letters and digits, a letter first
 abbrev pub is_function_name : List ℕ → Bool
-is_function_name a = starts is_letter a && all_bytes is_name_byte a && nat_le (length a) 12
+is_function_name a = starts is_letter a && list_all is_name_byte a && nat_le (length a) 12

@@ -1,6 +1,8 @@
 pub mod Atoms
 pub mod Functions
 pub mod Named
+pub mod NextToken
+pub mod OpenCalls
 pub mod Pool
 pub mod Reading
 pub mod Tokens

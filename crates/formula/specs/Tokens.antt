@@ -1,5 +1,5 @@
 -- A text as tokens: brackets, and atoms, which end at a blank or a bracket.
-use Rattle.std.specs.Prelude.{ℕ, ◌+◌, ◌==◌, if◌then◌else◌, List, [], ◌∷◌, ◌++◌}
+use Rattle.std.specs.Prelude.{ℕ, ◌+◌, ◌==◌, ◌&&◌, not, if◌then◌else◌, Bool, List, [], ◌∷◌, ◌++◌}
 
 pub data Token : Type 0 where
   opening : Token
@@ -31,3 +31,7 @@ tokens_from at passed (b ∷ rest) =
 -- the tokens of a text
 abbrev pub tokens : List ℕ → List Placed
 tokens = tokens_from 0 []
+
+-- a byte of an atom
+abbrev pub is_atom_byte : ℕ → Bool
+is_atom_byte b = not (b == 32) && not (b == 40) && not (b == 41)

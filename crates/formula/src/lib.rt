@@ -1,16 +1,27 @@
 //! Terms: the language of assertions and verification conditions.
 #![tactic(auto)]
 
+mod atom_terms;
+mod atoms;
+mod closing;
 mod definition;
 mod definitions;
 mod fault;
 mod function;
 mod head;
 mod node;
+mod open_calls;
+mod opening;
 mod pool;
+mod reader;
+mod tokens;
 mod value;
 mod word;
 
+pub use atoms::{
+    is_digit, is_digits, is_function_name, is_letter, is_long, is_number, is_same, is_symbol,
+    number, spelled,
+};
 pub use definition::{Body, Definition, Heading};
 pub use definitions::Definitions;
 pub use fault::ReadFault;
@@ -18,5 +29,10 @@ pub use function::{Arity, BuiltIn, Func};
 pub use head::{Head, head_of};
 pub use node::{Node, TermId};
 pub use pool::TermPool;
+pub use reader::read_term;
+pub use tokens::{Placed, Token, next_token};
 pub use value::{Cell, Value};
 pub use word::Word;
+
+#[cfg(test)]
+mod tests;
