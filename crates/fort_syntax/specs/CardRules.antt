@@ -1,6 +1,6 @@
 -- The rules of cards: on the length of a deck, bytes, labels, continuation cards and note cards.
 use Rattle.std.specs.Prelude.{ℕ, ◌+◌, ◌==◌, ◌&&◌, ◌||◌, not, nat_le, nat_lt, Bool, true, false, if◌then◌else◌, List, [], ◌∷◌, length, take, Option, Some, None}
-use Rattle.formula.specs.Atoms.{all_bytes}
+use Rattle.std.specs.List.{list_all}
 use Rattle.fort_syntax.specs.Cards.{Card, cards_of, column, kind_of, is_blank, label_field, is_label, is_plus}
 use Rattle.fort_syntax.specs.declared.cards.CardKind.{CardKind}
 use Rattle.fort_syntax.specs.declared.cards.CardKind.TheVariants.{NoteCard, CommentCard, ContinuationCard, InitialCard}
@@ -43,12 +43,12 @@ is_comment InitialCard = false
 
 -- a card that counts has a byte that is not printable
 abbrev pub has_bad_byte : Card → Bool
-has_bad_byte card = not (is_comment (kind_of card)) && not (all_bytes is_printable card)
+has_bad_byte card = not (is_comment (kind_of card)) && not (list_all is_printable card)
 
 -- an initial card's label is none; or a continuation card has one
 abbrev pub is_mislabelled : CardKind → Card → Bool
 is_mislabelled InitialCard card = not (is_label (label_field card))
-is_mislabelled ContinuationCard card = not (all_bytes is_blank (take 5 card))
+is_mislabelled ContinuationCard card = not (list_all is_blank (take 5 card))
 is_mislabelled NoteCard card = false
 is_mislabelled CommentCard card = false
 

@@ -1,7 +1,8 @@
 -- What the bytes of a deck say before any statement is read: cards, their kinds, and the statements and notes on them.
 use Rattle.std.specs.Prelude.{ℕ, ◌+◌, ◌-◌, ◌==◌, ◌&&◌, ◌||◌, not, nat_lt, Bool, true, false, if◌then◌else◌, List, [], ◌∷◌, ◌++◌, length, map, take, drop, replicate, get_or}
 use Rattle.std.specs.Char.{to_ascii_uppercase}
-use Rattle.formula.specs.Atoms.{all_bytes, is_digit, spelled}
+use Rattle.formula.specs.Atoms.{is_digit, spelled}
+use Rattle.std.specs.List.{list_all}
 use Rattle.fort_syntax.specs.declared.cards.CardKind.{CardKind}
 use Rattle.fort_syntax.specs.declared.cards.CardKind.TheVariants.{NoteCard, CommentCard, ContinuationCard, InitialCard}
 use Rattle.fort_syntax.specs.declared.cards.Entry.{Entry}
@@ -49,7 +50,7 @@ is_blank b = b == 32
 abbrev pub kind_of : Card → CardKind
 kind_of card =
     if is_c (column 1 card) && (column 2 card == 36) then NoteCard
-    else if is_c (column 1 card) || (column 1 card == 42) || all_bytes is_blank card then CommentCard
+    else if is_c (column 1 card) || (column 1 card == 42) || list_all is_blank card then CommentCard
     else if (column 6 card == 32) || (column 6 card == 48) then InitialCard
     else ContinuationCard
 
@@ -67,7 +68,7 @@ is_given (b ∷ rest) = true
 
 -- nothing, or digits that are not all zero
 abbrev pub is_label : List ℕ → Bool
-is_label field = all_bytes is_digit field && (not (is_given field) || nat_lt 0 (spelled field))
+is_label field = list_all is_digit field && (not (is_given field) || nat_lt 0 (spelled field))
 
 -- columns 7 to 72 without blanks, in upper case
 abbrev pub statement_text : Card → List ℕ

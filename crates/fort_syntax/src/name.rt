@@ -47,7 +47,8 @@ impl Name {
     }
 
     pub fn as_bytes(&self) -> &[u8]
-        ensures { result.now ≡ self.now }
+        ensures value { result.now ≡ self.now }
+        ensures short { (1 ≤ length result.now) × (length result.now ≤ 6) }
     {
         &self.bytes[..self.len as usize]
     }

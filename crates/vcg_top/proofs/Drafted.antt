@@ -72,3 +72,7 @@ Adds-one old new cs after c t g h k same e = record {
   known = rw e (AreChecks-append new cs c (AreChecks-Grows old new cs g h) k);
   is = ap (checks_in new) e ∙ checks_in-append new cs c ∙ (λ i. checks_in-Grows old new cs g h i ++ check c.kind c.card (same i) ∷ []);
 }
+
+-- terms were added before the checks
+pub Adds-after : (a b c : List Node) (x y : List Check) (p : List CheckTree) → Grows a b → AreChecks a x → Adds b c x y p → Adds a c x y p
+Adds-after a b c x y p g h s = Adds-trans a b c x x y [] p (Adds-none a b x g h) s

@@ -9,8 +9,8 @@ use Rattle.fort_syntax.specs.declared.dialect.BinOp.{BinOp}
 use Rattle.fort_syntax.specs.declared.dialect.BinOp.TheVariants.{Add, Sub, Mul, Div}
 use Rattle.fort_syntax.specs.declared.condition.Kind.{Kind}
 use Rattle.fort_syntax.specs.declared.condition.Kind.TheVariants.{DefinedCheck, RangeCheck, OutputCheck}
-use Rattle.fort_syntax.specs.declared.expr.Expr.{Expr, fold-Expr}
-use Rattle.fort_syntax.specs.declared.expr.Expr.TheOpen.{Expr-F}
+use Rattle.vcg_top.specs.declared.expression.Expression.{Expression, fold-Expression}
+use Rattle.vcg_top.specs.declared.expression.Expression.TheOpen.{Expression-F}
 use Rattle.vcg_top.specs.declared.assignment.Assigned.{Assigned}
 use Rattle.vcg_top.specs.FirstForm.{Deck}
 
@@ -106,17 +106,16 @@ function_of Mul = Times
 function_of Div = Quotient
 
 -- operands before operators: each read is of something defined, and each operation's value is in range
-abbrev pub evaluated_step : List Bound → ℕ → Expr-F Evaluated → Evaluated
-evaluated_step bound card (Expr-F.Const n) = record { term = num (pos n); checks = [] }
-evaluated_step bound card (Expr-F.Var x) =
+abbrev pub evaluated_step : List Bound → ℕ → Expression-F Evaluated → Evaluated
+evaluated_step bound card (Expression-F.Constant n) = record { term = num (pos n); checks = [] }
+evaluated_step bound card (Expression-F.Dummy x) =
     record { term = value_in bound x; checks = check DefinedCheck card (defined (value_in bound x)) ∷ [] }
-evaluated_step bound card (Expr-F.Bin op a b) =
+evaluated_step bound card (Expression-F.Operation op a b) =
     let t = binary (function_of op) a.term b.term in
-    record { term = t; checks = a.checks ++ b.checks ++ check RangeCheck card (in_range t) ∷ [] }
-evaluated_step bound card _ = record { term = truth false; checks = [] }
+    record { term = t; checks = a.checks ++ (b.checks ++ check RangeCheck card (in_range t) ∷ []) }
 
-abbrev pub evaluated : List Bound → ℕ → Expr → Evaluated
-evaluated bound card = fold-Expr Evaluated (evaluated_step bound card)
+abbrev pub evaluated : List Bound → ℕ → Expression → Evaluated
+evaluated bound card = fold-Expression Evaluated (evaluated_step bound card)
 
 -- the values after some assignments, and their checks; the first stands on the card
 pub record Walked : Type 0 where

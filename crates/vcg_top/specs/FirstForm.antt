@@ -1,17 +1,17 @@
 -- The first form of a deck: one subroutine of integer scalars, with one or two assignments.
 use Rattle.std.specs.Prelude.{ℕ, ℤ, pos, zero, suc, ◌+◌, ◌-◌, ◌*◌, ◌==◌, ◌&&◌, ◌||◌, not, nat_le, if◌then◌else◌, Bool, true, false, Option, Some, None, List, [], ◌∷◌, ◌++◌, length, take, drop, filter, codes, nat_eq}
-use Rattle.std.specs.List.{list_any}
+use Rattle.std.specs.List.{list_any, list_all}
 use Rattle.std.specs.Cmp.Lexicographic.{pointwise}
 use Rattle.formula.specs.declared.function.Func.{Func}
 use Rattle.formula.specs.declared.function.Func.TheVariants.{BuiltIn, Defined}
 use Rattle.formula.specs.declared.function.BuiltIn.{BuiltIn as Builtin}
 use Rattle.formula.specs.declared.function.BuiltIn.TheVariants.{And, Or, Not, Equal, Plus, Difference, Times, Less, AtMost, Defined as IsDefined}
 use Rattle.formula.specs.Tree.{Tree, num, truth, symbol, old, apply, Row, none, more}
-use Rattle.formula.specs.Atoms.{same_bytes, is_digit, is_letter, is_name_byte, starts, all_bytes}
+use Rattle.formula.specs.Atoms.{same_bytes, is_digit, is_letter, is_name_byte, starts}
 use Rattle.formula.specs.Reading.{Reading, got, fault, reads, head_named}
 use Rattle.fort_syntax.specs.declared.dialect.BinOp.{BinOp}
 use Rattle.fort_syntax.specs.declared.dialect.BinOp.TheVariants.{Add, Sub, Mul}
-use Rattle.fort_syntax.specs.declared.expr.Expr.{Expr, Const, Var, Bin}
+use Rattle.vcg_top.specs.declared.expression.Expression.{Expression, Constant, Dummy, Operation}
 use Rattle.vcg_top.specs.declared.heading.Heading.{Heading}
 use Rattle.vcg_top.specs.declared.assignment.Assigned.{Assigned}
 use Rattle.vcg_top.specs.Splitting.{is_among, split}
@@ -28,7 +28,7 @@ abbrev pub is_card_byte : ℕ → Bool
 is_card_byte b = nat_le 32 b && nat_le b 126 && not (nat_le 97 b && nat_le b 122)
 
 abbrev pub is_card : List ℕ → Bool
-is_card card = nat_le (length card) 72 && all_bytes is_card_byte card
+is_card card = nat_le (length card) 72 && list_all is_card_byte card
 
 abbrev pub all_cards : List (List ℕ) → Bool
 all_cards [] = true
@@ -48,7 +48,7 @@ is_listed names name = list_any (λ n. pointwise nat_eq n name) names
 
 -- one to six letters and digits, a letter first
 abbrev pub is_fortran_name : List ℕ → Bool
-is_fortran_name name = starts is_letter name && all_bytes is_name_byte name && nat_le (length name) 6
+is_fortran_name name = starts is_letter name && list_all is_name_byte name && nat_le (length name) 6
 
 abbrev pub is_integer_letter : ℕ → Bool
 is_integer_letter b = nat_le 73 b && nat_le b 78
@@ -102,20 +102,20 @@ abbrev pub constant_of : List ℕ → Option ℕ
 constant_of [] = None
 constant_of (b ∷ rest) = constant_from 0 (b ∷ rest)
 
-abbrev pub constant_operand : Option ℕ → Option Expr
+abbrev pub constant_operand : Option ℕ → Option Expression
 constant_operand None = None
-constant_operand (Some n) = Some (Const n)
+constant_operand (Some n) = Some (Constant n)
 
 -- the dummy that a word names
 abbrev pub dummy_named : List (List ℕ) → List ℕ → Option (List ℕ)
 dummy_named dummies word = if is_dummy_name word && is_listed dummies word then Some word else None
 
-abbrev pub dummy_or_constant : Option (List ℕ) → List ℕ → Option Expr
+abbrev pub dummy_or_constant : Option (List ℕ) → List ℕ → Option Expression
 dummy_or_constant None word = constant_operand (constant_of word)
-dummy_or_constant (Some name) word = Some (Var name)
+dummy_or_constant (Some name) word = Some (Dummy name)
 
 -- a dummy, or a constant
-abbrev pub operand : List (List ℕ) → List ℕ → Option Expr
+abbrev pub operand : List (List ℕ) → List ℕ → Option Expression
 operand dummies word = dummy_or_constant (dummy_named dummies word) word
 
 abbrev pub operators : List ℕ
@@ -125,30 +125,30 @@ abbrev pub sign_of : ℕ → BinOp
 sign_of o = if o == 43 then Add else Sub
 
 -- a sum that waits for its last product
-abbrev pub summed : Option (BinOp × Expr) → Expr → Expr
+abbrev pub summed : Option (BinOp × Expression) → Expression → Expression
 summed None product = product
-summed (Some s) product = Bin s.0 s.1 product
+summed (Some s) product = Operation s.0 s.1 product
 
 abbrev pub is_none_left : List (List ℕ) → Bool
 is_none_left [] = true
 is_none_left (word ∷ words) = false
 
 -- products bind tighter than sums, and both group from the left
-abbrev pub grouped : List (List ℕ) → Option (BinOp × Expr) → Expr → List ℕ → List (List ℕ) → Option Expr
+abbrev pub grouped : List (List ℕ) → Option (BinOp × Expression) → Expression → List ℕ → List (List ℕ) → Option Expression
 grouped dummies sum product [] words = if is_none_left words then Some (summed sum product) else None
 grouped dummies sum product (sign ∷ signs) [] = None
 grouped dummies sum product (sign ∷ signs) (word ∷ words) =
     when (operand dummies word) (λ e.
-      if sign == 42 then grouped dummies sum (Bin Mul product e) signs words
+      if sign == 42 then grouped dummies sum (Operation Mul product e) signs words
       else grouped dummies (Some (sign_of sign, summed sum product)) e signs words)
 
 -- one to eight operands with signs between
-abbrev pub joined : List (List ℕ) → List ℕ → List (List ℕ) → Option Expr
+abbrev pub joined : List (List ℕ) → List ℕ → List (List ℕ) → Option Expression
 joined dummies signs [] = None
 joined dummies signs (word ∷ words) =
     if nat_le (length words) 7 then when (operand dummies word) (λ e. grouped dummies None e signs words) else None
 
-abbrev pub expression_of : List (List ℕ) → List ℕ → Option Expr
+abbrev pub expression_of : List (List ℕ) → List ℕ → Option Expression
 expression_of dummies text = joined dummies (filter (is_among operators) text) (split operators text)
 
 abbrev pub assigned : List (List ℕ) → List (List ℕ) → Option Assigned
@@ -198,7 +198,7 @@ abbrev mutual
   is_plain_row dummies entries (more t rest) = is_plain dummies entries t && is_plain_row dummies entries rest
 
 abbrev pub is_blank : List ℕ → Bool
-is_blank text = all_bytes (λ b. b == 32) text
+is_blank text = list_all (λ b. b == 32) text
 
 -- the term that a text begins with; no definitions are there
 abbrev pub first_term : List ℕ → Reading

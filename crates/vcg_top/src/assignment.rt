@@ -6,14 +6,15 @@ ghost use Rattle.vcg_top.specs.FirstForm.{operators, constant_of, dummy_named, o
 use crate::spelling::{is_dummy_name, statement};
 use crate::splitting::split_at;
 use edge_io::{Boxed, List, NoMemory};
-use fort_syntax::{BinOp, Expr, Name};
+use crate::expression::Expression;
+use fort_syntax::{BinOp, Name};
 use std::alloc::Global;
 
 /// An assignment to a dummy.
 #[derive(Debug, Drop)]
 pub(crate) struct Assigned {
     pub target: Name,
-    pub value: Expr,
+    pub value: Expression,
 }
 
 // The constant that these digits spell, where it is at most 32767.
@@ -46,18 +47,18 @@ fn dummy(dummies: &[Name], word: &[u8]) -> Option<Name>
     if dummies.contains(&name) { Some(name) } else { None }
 }
 
-fn operand(dummies: &[Name], word: &[u8]) -> Option<Expr>
+fn operand(dummies: &[Name], word: &[u8]) -> Option<Expression>
     ensures { result ≡ operand_of dummies.now word.now }
 {
     if let Some(name) = dummy(dummies, word) {
-        return Some(Expr::Var(name));
+        return Some(Expression::Dummy(name));
     }
     let number = constant(word)?;
-    Some(Expr::Const(number))
+    Some(Expression::Constant(number))
 }
 
-fn binary(alloc: Global, op: BinOp, left: Expr, right: Expr) -> Result<Expr, NoMemory>
-    ensures { IfOk result (λ e. e ≡ Expr.Bin op left right) }
+fn binary(alloc: Global, op: BinOp, left: Expression, right: Expression) -> Result<Expression, NoMemory>
+    ensures { IfOk result (λ e. e ≡ Expression.Operation op left right) }
 {
     let Ok(left) = Boxed::new(alloc, left) else {
         return Err(NoMemory);
@@ -65,10 +66,10 @@ fn binary(alloc: Global, op: BinOp, left: Expr, right: Expr) -> Result<Expr, NoM
     let Ok(right) = Boxed::new(alloc, right) else {
         return Err(NoMemory);
     };
-    Ok(Expr::Bin(op, left, right))
+    Ok(Expression::Operation(op, left, right))
 }
 
-fn summed(alloc: Global, sum: Option<(BinOp, Expr)>, product: Expr) -> Result<Expr, NoMemory>
+fn summed(alloc: Global, sum: Option<(BinOp, Expression)>, product: Expression) -> Result<Expression, NoMemory>
     ensures { IfOk result (λ e. e ≡ summed_of sum product) }
 {
     match sum {
@@ -87,11 +88,11 @@ fn sign(byte: u8) -> BinOp
 fn grouped(
     alloc: Global,
     dummies: &[Name],
-    sum: Option<(BinOp, Expr)>,
-    product: Expr,
+    sum: Option<(BinOp, Expression)>,
+    product: Expression,
     signs: &[u8],
     words: &[List<u8>],
-) -> Result<Option<Expr>, NoMemory>
+) -> Result<Option<Expression>, NoMemory>
     ensures { IfOk result (λ e. e ≡ grouped_of dummies.now sum product signs.now words.now) }
 {
     let [first, signs @ ..] = signs else {
@@ -120,7 +121,7 @@ fn joined(
     dummies: &[Name],
     signs: &[u8],
     words: &[List<u8>],
-) -> Result<Option<Expr>, NoMemory>
+) -> Result<Option<Expression>, NoMemory>
     ensures { IfOk result (λ e. e ≡ joined_of dummies.now signs.now words.now) }
 {
     match words {
@@ -151,7 +152,7 @@ fn signs_in(alloc: Global, text: &[u8]) -> Result<List<u8>, NoMemory>
     Ok(List::from_vec(signs))
 }
 
-fn expression(alloc: Global, dummies: &[Name], text: &[u8]) -> Result<Option<Expr>, NoMemory>
+fn expression(alloc: Global, dummies: &[Name], text: &[u8]) -> Result<Option<Expression>, NoMemory>
     ensures { IfOk result (λ e. e ≡ expression_of dummies.now text.now) }
 {
     let signs = signs_in(alloc, text)?;

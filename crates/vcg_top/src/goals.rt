@@ -3,7 +3,8 @@ ghost use Rattle.std.specs.Prelude.{◌≡◌, ◌≤◌, [], ◌∷◌, ◌++�
 ghost use Rattle.fort_syntax.specs.declared.condition.Kind.TheVariants.{DefinedCheck, RangeCheck};
 ghost use Rattle.formula.specs.Tree.{symbol as symbol_tree};
 ghost use Rattle.formula.specs.Pool.{Grows, IsIn, tree_of};
-ghost use Rattle.vcg_top.specs.Conditions.{check as check_tree, defined, in_range, least as least_tree, greatest as greatest_tree};
+ghost use Rattle.formula.specs.declared.function.BuiltIn.TheVariants.{AtMost};
+ghost use Rattle.vcg_top.specs.Conditions.{binary as binary_tree, check as check_tree, defined, in_range, least as least_tree, greatest as greatest_tree};
 ghost use Rattle.vcg_top.specs.Drafts.{AreChecks, Adds};
 
 use crate::check::Check;
@@ -42,6 +43,30 @@ pub(crate) fn greatest(pool: &mut TermPool) -> Result<TermId, NoMemory>
     symbol(pool, b"GREATEST")
 }
 
+// The value is not below the least integer.
+fn at_least(pool: &mut TermPool, value: TermId) -> Result<TermId, NoMemory>
+    requires { IsIn pool.old value }
+    ensures grows { Grows pool.old pool.new }
+    ensures id { IfOk result (λ id. IsIn pool.new id) }
+    ensures tree { IfOk result (λ id. tree_of pool.new id ≡ binary_tree AtMost least_tree (tree_of pool.old value)) }
+{
+    let least = least(pool)?;
+    let low = pool.binary(BuiltIn::AtMost, least, value)?;
+    Ok(low)
+}
+
+// The value is not above the greatest integer.
+fn at_most(pool: &mut TermPool, value: TermId) -> Result<TermId, NoMemory>
+    requires { IsIn pool.old value }
+    ensures grows { Grows pool.old pool.new }
+    ensures id { IfOk result (λ id. IsIn pool.new id) }
+    ensures tree { IfOk result (λ id. tree_of pool.new id ≡ binary_tree AtMost (tree_of pool.old value) greatest_tree) }
+{
+    let greatest = greatest(pool)?;
+    let high = pool.binary(BuiltIn::AtMost, value, greatest)?;
+    Ok(high)
+}
+
 // The value is an integer of the processor.
 fn range(pool: &mut TermPool, value: TermId) -> Result<TermId, NoMemory>
     requires { IsIn pool.old value }
@@ -49,10 +74,8 @@ fn range(pool: &mut TermPool, value: TermId) -> Result<TermId, NoMemory>
     ensures id { IfOk result (λ id. IsIn pool.new id) }
     ensures tree { IfOk result (λ id. tree_of pool.new id ≡ in_range (tree_of pool.old value)) }
 {
-    let least = least(pool)?;
-    let low = pool.binary(BuiltIn::AtMost, least, value)?;
-    let greatest = greatest(pool)?;
-    let high = pool.binary(BuiltIn::AtMost, value, greatest)?;
+    let low = at_least(pool, value)?;
+    let high = at_most(pool, value)?;
     let both = pool.binary(BuiltIn::And, low, high)?;
     Ok(both)
 }

@@ -4,6 +4,7 @@
 mod assignment;
 mod check;
 mod evaluation;
+mod expression;
 mod goals;
 mod heading;
 mod spelling;

@@ -1,6 +1,7 @@
 // How names, constants and statements of the first form are spelled.
 ghost use Rattle.std.specs.Prelude.{◌≡◌, IfOk};
-ghost use Rattle.formula.specs.Atoms.{is_letter as letter, is_name_byte as name_byte, starts, all_bytes};
+ghost use Rattle.formula.specs.Atoms.{is_letter as letter, is_name_byte as name_byte, starts};
+ghost use Rattle.std.specs.List.{list_all};
 ghost use Rattle.vcg_top.specs.FirstForm.{is_card as card_fits, all_cards, is_card_byte as card_byte, statement_text, is_fortran_name as fortran_name, is_integer_letter as integer_letter, is_dummy_name as dummy_name, is_unit_name as unit_name, is_intrinsic as intrinsic, is_not_blank};
 
 use edge_io::{List, NoMemory};
@@ -70,7 +71,7 @@ fn is_name_byte(byte: u8) -> bool
 }
 
 fn are_name_bytes(text: &[u8]) -> bool
-    ensures { result ≡ all_bytes name_byte text.now }
+    ensures { result ≡ list_all name_byte text.now }
 {
     for byte in text {
         if !is_name_byte(*byte) {
