@@ -1,10 +1,10 @@
 -- What was in a pool stays when it grows.
-use Rattle.std.proofs.Common.{◌≡◌, ℕ, ◌<◌, List, [], ◌∷◌, ◌++◌, length, refl, sym, ap, ◌∙◌, subst, arith, append_assoc, length-append}
+use Rattle.std.proofs.Common.{◌≡◌, List, [], ◌++◌, length, sym, ap, ◌∙◌, subst, arith, append_assoc, length-append}
 use Rattle.std.proofs.lemmas.Grind.{common_steps}
 use Rattle.formula.specs.declared.node.Node.{Node}
 use Rattle.formula.specs.declared.node.TermId.{TermId}
 use Rattle.formula.specs.Tree.{Tree}
-use Rattle.formula.specs.Pool.{AllBelow, HasArguments, Grows, IsIn, tree_at, row_in, tree_in, tree_of, grown, trees}
+use Rattle.formula.specs.Pool.{AllBelow, HasArguments, Grows, IsIn, tree_at, row_in, tree_of, trees}
 use Rattle.formula.proofs.Growth.{grown-append, grown_from, length-trees, AllBelow-more, tree_at-append, row_in-append, HasArguments-append}
 
 pub Grows-refl : (pool : List Node) → Grows pool pool
