@@ -15,6 +15,10 @@ mod open_calls;
 mod opening;
 mod pool;
 mod reader;
+#[cfg(test)]
+mod reading_tests;
+#[cfg(test)]
+mod tests;
 mod tokens;
 mod value;
 mod word;
@@ -35,6 +39,3 @@ pub use reader::read_term;
 pub use tokens::{Placed, Token, next_token};
 pub use value::{Cell, Value};
 pub use word::Word;
-
-#[cfg(test)]
-mod tests;
