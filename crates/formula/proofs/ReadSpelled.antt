@@ -1,21 +1,20 @@
 -- What is read is spelled.
-use Rattle.std.proofs.Common.{◌≡◌, ℕ, ℤ, ◌+◌, ◌-◌, ◌<◌, ◌≤◌, Bool, true, false, if◌then◌else◌, Option, Some, None, List, [], ◌∷◌, ◌++◌, length, refl, sym, ap, ◌∙◌, subst, arith, append_assoc, max, codes, map}
+use Rattle.std.proofs.Common.{◌≡◌, ℕ, ◌+◌, ◌<◌, ◌≤◌, Bool, true, false, if◌then◌else◌, Option, Some, None, List, [], ◌∷◌, ◌++◌, length, refl, sym, ap, ◌∙◌, subst, arith, append_assoc, max, codes}
 use Rattle.std.proofs.lemmas.List.{append-nil, map-append}
-use Rattle.std.specs.Prelude.{◌&&◌, not, nat_le}
+use Rattle.std.specs.Prelude.{◌&&◌, nat_le}
 use Rattle.std.specs.Cmp.Lexicographic.{same_text}
 use Rattle.std.proofs.lemmas.Bool.Decides.{nat_tests}
-use Rattle.formula.specs.declared.fault.ReadFault.{ReadFault}
-use Rattle.formula.specs.declared.fault.ReadFault.TheVariants.{BadAtom, BadCount, BigNumber, TooDeep, UnknownFunction, Unbalanced}
+use Rattle.formula.specs.declared.fault.ReadFault.TheVariants.{BadAtom, BadCount, BigNumber, TooDeep}
 use Rattle.formula.specs.declared.function.Arity.{Arity}
 use Rattle.formula.specs.declared.function.Func.{Func}
 use Rattle.formula.specs.declared.head.Head.{Head}
 use Rattle.formula.specs.declared.head.Head.TheVariants.{EntryValue, Function}
 use Rattle.formula.specs.Functions.{fits_count}
-use Rattle.formula.specs.Tree.{Tree, num, truth, symbol, old, apply, Row, none, more, row_of, row_count, takes}
+use Rattle.formula.specs.Tree.{Tree, num, truth, symbol, old, apply, row_of, row_count, takes}
 use Rattle.formula.specs.Atoms.{same_bytes, is_number, is_long, digits_of, number_of, is_symbol, is_function_name}
 use Rattle.formula.specs.Tokens.{Token, opening, closing, atom, Placed, tokens}
-use Rattle.formula.specs.Reading.{Frame, State, Progress, going, done, stopped, given, wants_symbol, atom_read, symbol_read, entry_closed, closed, term_read, name_read, head_read, closed_read, opened_read, step, after_step, Reading, reading, got, fault, reads}
-use Rattle.formula.specs.Grammar.{IsCall, Spells, SpellsRow, depth, depth_row, end_from, tokens_of, BeginsWith}
+use Rattle.formula.specs.Reading.{Frame, State, Progress, going, done, stopped, given, wants_symbol, atom_read, symbol_read, entry_closed, closed, term_read, name_read, head_read, step, after_step, reading, got, reads}
+use Rattle.formula.specs.Grammar.{Spells, SpellsRow, depth, depth_row, tokens_of, BeginsWith}
 use Rattle.formula.proofs.SpelledRead.{end_from-append}
 
 depth_row-append : (args : List Tree) (t : Tree) → depth_row (row_of (args ++ t ∷ [])) ≡ max (depth_row (row_of args)) (depth t)

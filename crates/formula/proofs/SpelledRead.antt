@@ -1,5 +1,5 @@
 -- What is spelled is read.
-use Rattle.std.proofs.Common.{◌≡◌, ℕ, ℤ, ◌+◌, ◌-◌, ◌<◌, ◌≤◌, Bool, true, false, if◌then◌else◌, Option, Some, List, [], ◌∷◌, ◌++◌, length, refl, sym, ap, ◌∙◌, subst, arith, append_assoc, max, codes}
+use Rattle.std.proofs.Common.{◌≡◌, ℕ, ◌+◌, ◌<◌, ◌≤◌, Bool, true, false, Option, List, [], ◌∷◌, ◌++◌, length, refl, sym, ap, ◌∙◌, subst, arith, append_assoc, codes}
 use Rattle.std.proofs.lemmas.List.{append-nil}
 use Rattle.std.specs.Prelude.{◌&&◌, not, nat_le, ◌==◌}
 use Rattle.std.specs.Cmp.Lexicographic.{same_text}
@@ -10,9 +10,9 @@ use Rattle.formula.specs.declared.head.Head.{Head}
 use Rattle.formula.specs.declared.head.Head.TheVariants.{EntryValue, Function}
 use Rattle.formula.specs.Functions.{fits_count}
 use Rattle.formula.specs.Tree.{Tree, num, truth, symbol, old, apply, Row, none, more, row_of, row_count, takes}
-use Rattle.formula.specs.Atoms.{same_bytes, is_letter, is_digit, starts, is_number, is_long, digits_of, number_of, is_symbol, is_function_name}
+use Rattle.formula.specs.Atoms.{same_bytes, is_letter, is_digit, starts, is_number, is_long, digits_of, number_of, is_symbol}
 use Rattle.formula.specs.Tokens.{Token, opening, closing, atom, Placed, tokens}
-use Rattle.formula.specs.Reading.{Frame, State, Progress, given, wants_symbol, term_read, name_read, closed_read, opened_read, step, after_step, reading, got, reads}
+use Rattle.formula.specs.Reading.{Frame, State, Progress, given, wants_symbol, term_read, name_read, closed_read, opened_read, after_step, reading, got, reads}
 use Rattle.formula.specs.Grammar.{IsCall, Spells, SpellsRow, depth, depth_row, end_from, tokens_of, BeginsWith}
 
 -- ---- tokens in a row
