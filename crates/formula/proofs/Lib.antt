@@ -6,6 +6,8 @@ pub mod Names
 pub mod OneIdEach
 pub mod Padded
 pub mod Putting
+pub mod ReadSpelled
 pub mod Same
+pub mod SpelledRead
 pub mod TokenSteps
 pub mod Turns

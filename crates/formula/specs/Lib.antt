@@ -1,5 +1,6 @@
 pub mod Atoms
 pub mod Functions
+pub mod Grammar
 pub mod Named
 pub mod NextToken
 pub mod OpenCalls

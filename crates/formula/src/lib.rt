@@ -8,12 +8,17 @@ mod definition;
 mod definitions;
 mod fault;
 mod function;
+mod grammar;
 mod head;
 mod node;
 mod open_calls;
 mod opening;
 mod pool;
 mod reader;
+#[cfg(test)]
+mod reading_tests;
+#[cfg(test)]
+mod tests;
 mod tokens;
 mod value;
 mod word;
@@ -26,6 +31,7 @@ pub use definition::{Body, Definition, Heading};
 pub use definitions::Definitions;
 pub use fault::ReadFault;
 pub use function::{Arity, BuiltIn, Func};
+pub use grammar::reading_is_the_grammar;
 pub use head::{Head, head_of};
 pub use node::{Node, TermId};
 pub use pool::TermPool;
@@ -33,6 +39,3 @@ pub use reader::read_term;
 pub use tokens::{Placed, Token, next_token};
 pub use value::{Cell, Value};
 pub use word::Word;
-
-#[cfg(test)]
-mod tests;

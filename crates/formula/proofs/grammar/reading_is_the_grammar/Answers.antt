@@ -1,0 +1,6 @@
+use Rattle.formula.proofs.ReadSpelled.{read_spelled}
+use Rattle.formula.proofs.SpelledRead.{spelled_read}
+use Rattle.formula.proofs.grammar.reading_is_the_grammar.Goals as goal
+
+pub returns : goal.returns
+returns c = λ named text t n. (read_spelled named text t n, spelled_read named text t n)
