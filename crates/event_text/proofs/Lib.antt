@@ -4,3 +4,4 @@ pub mod Names
 pub mod Sent
 pub mod Size
 pub mod Trees
+pub mod Whole

@@ -35,3 +35,7 @@ pub flat_zip-map : {X Y Z A : Type 0} (f : Y × Z → List A) (g : X → Y) (xs 
 flat_zip-map f g [] zs = refl
 flat_zip-map f g (x ∷ xs) [] = refl
 flat_zip-map f g (x ∷ xs) (z ∷ zs) = ap (λ l. f (g x, z) ++ l) (flat_zip-map f g xs zs)
+
+pub map-map : {X Y Z : Type 0} (f : Y → Z) (g : X → Y) (xs : List X) → map f (map g xs) ≡ map (λ x. f (g x)) xs
+map-map f g [] = refl
+map-map f g (x ∷ xs) = ap (λ l. f (g x) ∷ l) (map-map f g xs)
