@@ -1,11 +1,11 @@
 -- What was in a pool stays when it grows.
-use Rattle.std.proofs.Common.{◌≡◌, ℕ, ◌<◌, List, [], ◌∷◌, ◌++◌, length, refl, sym, ap, ◌∙◌, subst, arith, append_assoc, length-append}
+use Rattle.std.proofs.Common.{◌≡◌, List, [], ◌++◌, length, sym, ap, ◌∙◌, subst, arith, append_assoc, length-append}
 use Rattle.std.proofs.lemmas.Grind.{common_steps}
 use Rattle.formula.specs.declared.node.Node.{Node}
 use Rattle.formula.specs.declared.node.TermId.{TermId}
 use Rattle.formula.specs.Tree.{Tree}
-use Rattle.formula.specs.Pool.{AllBelow, HasArguments, Grows, IsIn, tree_at, row_in, tree_in, tree_of, grown, trees}
-use Rattle.formula.proofs.Growth.{grown-append, grown_from, length-trees, tree_at-append, row_in-append, HasArguments-append}
+use Rattle.formula.specs.Pool.{AllBelow, HasArguments, Grows, IsIn, tree_at, row_in, tree_of, trees}
+use Rattle.formula.proofs.Growth.{grown-append, grown_from, length-trees, AllBelow-more, tree_at-append, row_in-append, HasArguments-append}
 
 pub Grows-refl : (pool : List Node) → Grows pool pool
 Grows-refl pool = record { added = []; is = grind (arith, common_steps) }
@@ -42,3 +42,10 @@ pub HasArguments-Grows : (old new : List Node) (node : Node) → Grows old new �
 HasArguments-Grows old new node g h =
     let r = trees-Grows old new g in
     subst (λ ts. HasArguments ts node) (sym r.1) (HasArguments-append (trees old) r.0 node h)
+
+pub AllBelow-Grows : (old new : List Node) (args : List TermId) → Grows old new → AllBelow (length old) args → AllBelow (length new) args
+AllBelow-Grows old new args g h =
+    let long : length new ≡ length (old ++ g.added) = ap length g.is in
+    AllBelow-more (length old) (length new) args (omega (arith, simp length-append at long)) h
+
+pub ruleset grown_terms = (tree_of-Grows, IsIn-Grows, row_in-Grows, AllBelow-Grows)

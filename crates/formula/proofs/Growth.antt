@@ -1,10 +1,10 @@
 -- The trees of a pool that grows.
-use Rattle.std.proofs.Common.{◌≡◌, ℕ, zero, suc, ◌+◌, ◌<◌, ◌≤◌, List, [], ◌∷◌, ◌++◌, length, Some, None, Option, IsTrue, refl, sym, ap, ◌∙◌, subst, arith, append_assoc, add-one, add-zero, add-suc, length-append, slice_get, slice_index_or}
+use Rattle.std.proofs.Common.{◌≡◌, ℕ, zero, suc, ◌+◌, ◌<◌, ◌≤◌, List, [], ◌∷◌, ◌++◌, length, Some, IsTrue, refl, sym, ap, ◌∙◌, subst, arith, append_assoc, length-append, slice_get}
 use Rattle.std.proofs.lemmas.Grind.{common_steps}
 use Rattle.formula.specs.declared.node.Node.{Node}
 use Rattle.formula.specs.declared.node.Node.TheVariants.{Num, Truth, Symbol, Old, Apply}
 use Rattle.formula.specs.declared.node.TermId.{TermId}
-use Rattle.formula.specs.Tree.{Tree, Row, more, apply, takes}
+use Rattle.formula.specs.Tree.{Tree, more, apply, takes}
 use Rattle.formula.specs.Pool.{AllBelow, HasArguments, HasArgumentsBelow, IsPool, tree_at, row_in, tree_in, grown, trees}
 
 -- ---- more trees

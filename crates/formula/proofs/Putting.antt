@@ -1,15 +1,14 @@
 -- A pool after a node is put in.
-use Rattle.std.proofs.Common.{◌≡◌, ℕ, ◌<◌, Bool, true, false, List, [], ◌∷◌, ◌++◌, length, refl, sym, ap, ◌∙◌, inl, inr, ◌⊎◌, true≢false, if◌then◌else◌, Contains, subst, slice_get, Some, arith}
+use Rattle.std.proofs.Common.{◌≡◌, Bool, true, false, List, [], ◌∷◌, ◌++◌, refl, sym, ap, ◌∙◌, inl, inr, ◌⊎◌, true≢false, if◌then◌else◌, Contains, subst, slice_get, Some}
 use Rattle.std.specs.List.{list_any}
 use Rattle.std.proofs.lemmas.Map.Views.{list_any-from_Contains}
-use Rattle.std.proofs.lemmas.Option.{slice_get_within}
 use Rattle.indexmap.specs.IndexSet.{insert_key}
 use Rattle.indexmap.proofs.CallerLemmas.{Contains-list_any}
 use Rattle.formula.specs.declared.node.Node.{Node}
 use Rattle.formula.specs.declared.node.TermId.{TermId}
 use Rattle.formula.specs.contracts.node.NodePartialEq.TheImpl.{ghosts as node_ghosts}
 use Rattle.formula.specs.contracts.node.NodeEq.TheImpl.Laws.{laws-law}
-use Rattle.formula.specs.Pool.{HasArguments, IsPool, IsIn, Grows, trees, tree_in, tree_of}
+use Rattle.formula.specs.Pool.{HasArguments, IsPool, Grows, trees, tree_in, tree_of}
 use Rattle.formula.proofs.Same.{same_node}
 use Rattle.formula.proofs.Growth.{IsPool-append, tree_at-trees, tree_in-append}
 use Rattle.formula.proofs.Grown.{Grows-same, trees-Grows}

@@ -1,5 +1,5 @@
 -- The names of the built-in functions, and how many arguments each takes.
-use Rattle.std.specs.Prelude.{ℕ, ◌≡◌, ◌<◌, ◌==◌, nat_lt, Bool, List, [], ◌∷◌, codes}
+use Rattle.std.specs.Prelude.{ℕ, ◌==◌, nat_lt, Bool, List, codes}
 use Rattle.formula.specs.declared.function.Arity.{Arity}
 use Rattle.formula.specs.declared.function.Arity.TheVariants.{Exactly, OneOrMore}
 use Rattle.formula.specs.declared.function.BuiltIn.{BuiltIn}

@@ -1,9 +1,8 @@
 -- What the nodes of a pool stand for.
-use Rattle.std.specs.Prelude.{ℕ, ℤ, ◌+◌, ◌<◌, ◌≡◌, Bool, true, false, List, [], ◌∷◌, ◌++◌, length, slice_index_or, IsTrue}
+use Rattle.std.specs.Prelude.{ℕ, ◌<◌, ◌≡◌, false, List, [], ◌∷◌, ◌++◌, length, slice_index_or, IsTrue}
 use Rattle.formula.specs.declared.node.Node.{Node}
 use Rattle.formula.specs.declared.node.Node.TheVariants.{Num, Truth, Symbol, Old, Apply}
 use Rattle.formula.specs.declared.node.TermId.{TermId}
-use Rattle.formula.specs.declared.function.Func.{Func}
 use Rattle.formula.specs.Tree.{Tree, num, truth, symbol, old, apply, Row, none, more, takes}
 
 -- each argument is one of the first n nodes

@@ -1,9 +1,7 @@
 -- The term that begins a text, or the first fault. The text is read from the left, token by token.
-use Rattle.std.specs.Prelude.{ℕ, ◌+◌, ◌==◌, ◌&&◌, nat_le, nat_lt, if◌then◌else◌, Bool, true, false, Option, Some, None, List, [], ◌∷◌, ◌++◌, length, codes}
-use Rattle.formula.specs.declared.word.Word.{Word}
+use Rattle.std.specs.Prelude.{ℕ, ◌+◌, ◌&&◌, nat_le, if◌then◌else◌, Bool, true, false, Option, Some, None, List, [], ◌∷◌, ◌++◌, length, codes}
 use Rattle.formula.specs.declared.function.BuiltIn.{BuiltIn as Builtin}
 use Rattle.formula.specs.declared.function.BuiltIn.TheVariants.{And, Or, Not, Implies, If, Equal, Plus, Difference, Times, Negative, Quotient, Remainder, Absolute, Maximum, Minimum, Less, AtMost, Element, Put, Size, Defined as IsDefined, IntegerCell, LogicalCell, IntegerCells, LogicalCells, Undefined, Blank}
-use Rattle.formula.specs.declared.function.Func.{Func}
 use Rattle.formula.specs.declared.function.Func.TheVariants.{BuiltIn, Defined}
 use Rattle.formula.specs.declared.definition.Definition.{Definition}
 use Rattle.formula.specs.declared.definition.Heading.{Heading}
@@ -13,7 +11,7 @@ use Rattle.formula.specs.declared.function.Arity.TheVariants.{Exactly}
 use Rattle.formula.specs.declared.head.Head.{Head}
 use Rattle.formula.specs.declared.head.Head.TheVariants.{EntryValue, Function}
 use Rattle.formula.specs.Functions.{name_of, arity_of, fits_count}
-use Rattle.formula.specs.Tree.{Tree, num, truth, symbol, old, apply, Row, none, more, row_of, takes}
+use Rattle.formula.specs.Tree.{Tree, num, truth, symbol, old, apply, row_of, takes}
 use Rattle.formula.specs.Tokens.{Token, opening, closing, atom, Placed, tokens}
 use Rattle.formula.specs.Atoms.{same_bytes, is_number, is_long, digits_of, number_of, is_symbol, is_function_name}
 

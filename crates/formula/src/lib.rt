@@ -8,6 +8,8 @@ mod function;
 mod head;
 mod node;
 mod pool;
+#[cfg(test)]
+mod tests;
 mod value;
 mod word;
 

@@ -1,4 +1,4 @@
-use Rattle.std.proofs.Common.{◌≡◌, ◌∙◌, ◌+◌, ap, sym, subst, Some, None, length, true≢false}
+use Rattle.std.proofs.Common.{◌≡◌, ◌∙◌, ◌+◌, sym, subst, Some, None, length, true≢false}
 use Rattle.formula.specs.declared.function.Func.TheVariants.{Defined}
 use Rattle.formula.specs.declared.function.Arity.TheVariants.{Exactly}
 use Rattle.formula.specs.declared.head.Head.TheVariants.{Function}

@@ -1,5 +1,5 @@
-use Rattle.std.proofs.Common.{◌≡◌, ◌∷◌, [], ◌++◌, ◌∙◌, refl, ap, sym, subst, Some, Contains}
-use Rattle.formula.specs.Pool.{HasArguments, trees, tree_in, tree_of}
+use Rattle.std.proofs.Common.{◌∙◌, refl, ap, sym, subst, Some, Contains}
+use Rattle.formula.specs.Pool.{HasArguments, trees, tree_in}
 use Rattle.formula.proofs.Same.{same_node}
 use Rattle.formula.proofs.Putting.{Put, put, IsPool-put, tree_of-put, held, added, absent}
 use Rattle.formula.proofs.pool.TermPool.make.Goals as goal
