@@ -1,1 +1,6 @@
+pub mod CardRules
+pub mod Cards
+pub mod Conditions
+pub mod FaultLine
 pub mod Name
+pub mod Rules

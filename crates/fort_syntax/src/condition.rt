@@ -1,4 +1,7 @@
 // Verification conditions.
+ghost use Rattle.std.specs.Prelude.{◌≡◌};
+ghost use Rattle.fort_syntax.specs.Conditions.{kind_word};
+
 use crate::Name;
 use edge_io::List;
 use formula::TermId;
@@ -30,6 +33,28 @@ pub enum Kind {
     FallCheck,
     /// A term of the OUTPUT holds at a RETURN.
     OutputCheck,
+}
+
+impl Kind {
+    /// The word for the kind in texts.
+    pub fn word(self) -> &'static [u8]
+        ensures { result.now ≡ kind_word self }
+    {
+        match self {
+            Kind::DefinedCheck => b"DEFINED",
+            Kind::RangeCheck => b"RANGE",
+            Kind::DivisorCheck => b"DIVISOR",
+            Kind::SubscriptCheck => b"SUBSCRIPT",
+            Kind::ChoiceCheck => b"CHOICE",
+            Kind::LoopCheck => b"LOOP",
+            Kind::ResultCheck => b"RESULT",
+            Kind::InputCheck => b"INPUT",
+            Kind::AssertCheck => b"ASSERT",
+            Kind::ClockCheck => b"CLOCK",
+            Kind::FallCheck => b"FALL",
+            Kind::OutputCheck => b"OUTPUT",
+        }
+    }
 }
 
 /// A verification condition: the hypotheses have the goal as consequence. It is the `check`-th

@@ -8,13 +8,16 @@ mod dialect;
 mod expr;
 mod name;
 mod plain;
+mod plain_condition;
+mod plain_deck;
 mod plain_expr;
+mod plain_stmt;
 mod refusal;
 mod rule;
 mod stmt;
 mod unit;
 
-pub use cards::{Cards, Entry};
+pub use cards::{CardKind, Cards, Entry};
 pub use condition::{Condition, Kind};
 pub use deck::{Deck, Placed};
 pub use dialect::{BinOp, Dialect, RelOp, Sort};
@@ -25,3 +28,6 @@ pub use refusal::{Fault, Refusal};
 pub use rule::Rule;
 pub use stmt::{BlockName, Dim, Group, Item, Param, Stmt};
 pub use unit::{DataName, FunctionName, Line, Role, Unit};
+
+#[cfg(test)]
+mod tests;

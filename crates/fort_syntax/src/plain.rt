@@ -3,6 +3,7 @@ ghost use Rattle.std.specs.Prelude.{◌≡◌, ◌↔◌, IfOk, IsTrue};
 
 use crate::{Dim, FunctionName, Name};
 use edge_io::{Boxed, List, NoMemory};
+use formula::TermId;
 use std::alloc::Global;
 
 /// Values that can be made once more, and told from each other.
@@ -99,6 +100,16 @@ impl Plain for FunctionName {
     }
 
     fn is_same(&self, other: &FunctionName) -> bool {
+        *self == *other
+    }
+}
+
+impl Plain for TermId {
+    fn copied(&self, _: Global) -> Result<TermId, NoMemory> {
+        Ok(*self)
+    }
+
+    fn is_same(&self, other: &TermId) -> bool {
         *self == *other
     }
 }

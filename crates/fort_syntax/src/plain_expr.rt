@@ -29,16 +29,8 @@ fn copied_expr(alloc: Global, e: &Expr) -> Result<Expr, NoMemory>
         Expr::Pos(a) => Ok(Expr::Pos(copied_part(alloc, a)?)),
         Expr::Neg(a) => Ok(Expr::Neg(copied_part(alloc, a)?)),
         Expr::Power(a, n) => Ok(Expr::Power(copied_part(alloc, a)?, *n)),
-        Expr::Bin(op, a, b) => Ok(Expr::Bin(
-            *op,
-            copied_part(alloc, a)?,
-            copied_part(alloc, b)?,
-        )),
-        Expr::Rel(op, a, b) => Ok(Expr::Rel(
-            *op,
-            copied_part(alloc, a)?,
-            copied_part(alloc, b)?,
-        )),
+        Expr::Bin(op, a, b) => Ok(Expr::Bin(*op, copied_part(alloc, a)?, copied_part(alloc, b)?)),
+        Expr::Rel(op, a, b) => Ok(Expr::Rel(*op, copied_part(alloc, a)?, copied_part(alloc, b)?)),
         Expr::Not(a) => Ok(Expr::Not(copied_part(alloc, a)?)),
         Expr::And(a, b) => Ok(Expr::And(copied_part(alloc, a)?, copied_part(alloc, b)?)),
         Expr::Or(a, b) => Ok(Expr::Or(copied_part(alloc, a)?, copied_part(alloc, b)?)),

@@ -1,4 +1,7 @@
 // The rules of decks.
+ghost use Rattle.std.specs.Prelude.{◌≡◌};
+ghost use Rattle.fort_syntax.specs.Rules.{rule_number, rule_name};
+
 use formula::Word;
 
 /// A rule that a deck can break; `Excluded` with the word that is not served.
@@ -106,4 +109,124 @@ pub enum Rule {
     DimensionSmashed,
     /// The statements of a block IF are out of order.
     BadBlockIf,
+}
+
+impl Rule {
+    /// The rule's number, 1 to 50; 0 for `NotBuilt`.
+    pub fn number(&self) -> u32
+        ensures { result ≡ rule_number self.now }
+    {
+        match self {
+            Rule::NotBuilt => 0,
+            Rule::TooLong => 1,
+            Rule::BadByte => 2,
+            Rule::BadLabel => 3,
+            Rule::NoInitial => 4,
+            Rule::ManyCards => 5,
+            Rule::BadNoteCard => 6,
+            Rule::Excluded(_) => 7,
+            Rule::BadStatement => 8,
+            Rule::RealConstant => 9,
+            Rule::BigNumber => 10,
+            Rule::TooDeep => 11,
+            Rule::StatementOrder => 12,
+            Rule::NoHead => 13,
+            Rule::NoEnd => 14,
+            Rule::NameTwice => 15,
+            Rule::ImplicitReal => 16,
+            Rule::BadDimension => 17,
+            Rule::BadUse => 18,
+            Rule::BadType => 19,
+            Rule::BadSubscript => 20,
+            Rule::LabelTwice => 21,
+            Rule::NoLabel => 22,
+            Rule::BadResult => 23,
+            Rule::BlocksDiffer => 24,
+            Rule::BadAdjustable => 25,
+            Rule::BadLastOfDo => 26,
+            Rule::CrossedDo => 27,
+            Rule::JumpIntoDo => 28,
+            Rule::DoSmashed => 29,
+            Rule::FallsOffEnd => 30,
+            Rule::UncutCycle => 31,
+            Rule::BadNote => 32,
+            Rule::NoInputOrOutput => 33,
+            Rule::UnknownNoteName => 34,
+            Rule::OutputNamesLocal => 35,
+            Rule::ClockLength => 36,
+            Rule::UnitTwice => 37,
+            Rule::UnknownUnit => 38,
+            Rule::Recursion => 39,
+            Rule::BadArguments => 40,
+            Rule::SmashedNotName => 41,
+            Rule::SmashedTwice => 42,
+            Rule::SmashedCommon => 43,
+            Rule::BlockMissing => 44,
+            Rule::FunctionSmashes => 45,
+            Rule::ManyPaths => 46,
+            Rule::ManyConditions => 47,
+            Rule::Heavy => 48,
+            Rule::DimensionSmashed => 49,
+            Rule::BadBlockIf => 50,
+        }
+    }
+
+    /// The rule's name, as the variant is called.
+    pub fn name(&self) -> &'static [u8]
+        ensures { result.now ≡ rule_name self.now }
+    {
+        match self {
+            Rule::NotBuilt => b"NotBuilt",
+            Rule::TooLong => b"TooLong",
+            Rule::BadByte => b"BadByte",
+            Rule::BadLabel => b"BadLabel",
+            Rule::NoInitial => b"NoInitial",
+            Rule::ManyCards => b"ManyCards",
+            Rule::BadNoteCard => b"BadNoteCard",
+            Rule::Excluded(_) => b"Excluded",
+            Rule::BadStatement => b"BadStatement",
+            Rule::RealConstant => b"RealConstant",
+            Rule::BigNumber => b"BigNumber",
+            Rule::TooDeep => b"TooDeep",
+            Rule::StatementOrder => b"StatementOrder",
+            Rule::NoHead => b"NoHead",
+            Rule::NoEnd => b"NoEnd",
+            Rule::NameTwice => b"NameTwice",
+            Rule::ImplicitReal => b"ImplicitReal",
+            Rule::BadDimension => b"BadDimension",
+            Rule::BadUse => b"BadUse",
+            Rule::BadType => b"BadType",
+            Rule::BadSubscript => b"BadSubscript",
+            Rule::LabelTwice => b"LabelTwice",
+            Rule::NoLabel => b"NoLabel",
+            Rule::BadResult => b"BadResult",
+            Rule::BlocksDiffer => b"BlocksDiffer",
+            Rule::BadAdjustable => b"BadAdjustable",
+            Rule::BadLastOfDo => b"BadLastOfDo",
+            Rule::CrossedDo => b"CrossedDo",
+            Rule::JumpIntoDo => b"JumpIntoDo",
+            Rule::DoSmashed => b"DoSmashed",
+            Rule::FallsOffEnd => b"FallsOffEnd",
+            Rule::UncutCycle => b"UncutCycle",
+            Rule::BadNote => b"BadNote",
+            Rule::NoInputOrOutput => b"NoInputOrOutput",
+            Rule::UnknownNoteName => b"UnknownNoteName",
+            Rule::OutputNamesLocal => b"OutputNamesLocal",
+            Rule::ClockLength => b"ClockLength",
+            Rule::UnitTwice => b"UnitTwice",
+            Rule::UnknownUnit => b"UnknownUnit",
+            Rule::Recursion => b"Recursion",
+            Rule::BadArguments => b"BadArguments",
+            Rule::SmashedNotName => b"SmashedNotName",
+            Rule::SmashedTwice => b"SmashedTwice",
+            Rule::SmashedCommon => b"SmashedCommon",
+            Rule::BlockMissing => b"BlockMissing",
+            Rule::FunctionSmashes => b"FunctionSmashes",
+            Rule::ManyPaths => b"ManyPaths",
+            Rule::ManyConditions => b"ManyConditions",
+            Rule::Heavy => b"Heavy",
+            Rule::DimensionSmashed => b"DimensionSmashed",
+            Rule::BadBlockIf => b"BadBlockIf",
+        }
+    }
 }

@@ -1,0 +1,112 @@
+-- The numbers of the rules and their names.
+use Rattle.std.specs.Prelude.{ℕ, List, codes}
+use Rattle.fort_syntax.specs.declared.rule.Rule.{Rule}
+use Rattle.fort_syntax.specs.declared.rule.Rule.TheVariants.{NotBuilt, TooLong, BadByte, BadLabel, NoInitial, ManyCards, BadNoteCard, Excluded, BadStatement, RealConstant, BigNumber, TooDeep, StatementOrder, NoHead, NoEnd, NameTwice, ImplicitReal, BadDimension, BadUse, BadType, BadSubscript, LabelTwice, NoLabel, BadResult, BlocksDiffer, BadAdjustable, BadLastOfDo, CrossedDo, JumpIntoDo, DoSmashed, FallsOffEnd, UncutCycle, BadNote, NoInputOrOutput, UnknownNoteName, OutputNamesLocal, ClockLength, UnitTwice, UnknownUnit, Recursion, BadArguments, SmashedNotName, SmashedTwice, SmashedCommon, BlockMissing, FunctionSmashes, ManyPaths, ManyConditions, Heavy, DimensionSmashed, BadBlockIf}
+
+-- the number of a rule; 0 where none is broken and the deck is not served
+abbrev pub rule_number : Rule → ℕ
+rule_number NotBuilt = 0
+rule_number TooLong = 1
+rule_number BadByte = 2
+rule_number BadLabel = 3
+rule_number NoInitial = 4
+rule_number ManyCards = 5
+rule_number BadNoteCard = 6
+rule_number (Excluded word) = 7
+rule_number BadStatement = 8
+rule_number RealConstant = 9
+rule_number BigNumber = 10
+rule_number TooDeep = 11
+rule_number StatementOrder = 12
+rule_number NoHead = 13
+rule_number NoEnd = 14
+rule_number NameTwice = 15
+rule_number ImplicitReal = 16
+rule_number BadDimension = 17
+rule_number BadUse = 18
+rule_number BadType = 19
+rule_number BadSubscript = 20
+rule_number LabelTwice = 21
+rule_number NoLabel = 22
+rule_number BadResult = 23
+rule_number BlocksDiffer = 24
+rule_number BadAdjustable = 25
+rule_number BadLastOfDo = 26
+rule_number CrossedDo = 27
+rule_number JumpIntoDo = 28
+rule_number DoSmashed = 29
+rule_number FallsOffEnd = 30
+rule_number UncutCycle = 31
+rule_number BadNote = 32
+rule_number NoInputOrOutput = 33
+rule_number UnknownNoteName = 34
+rule_number OutputNamesLocal = 35
+rule_number ClockLength = 36
+rule_number UnitTwice = 37
+rule_number UnknownUnit = 38
+rule_number Recursion = 39
+rule_number BadArguments = 40
+rule_number SmashedNotName = 41
+rule_number SmashedTwice = 42
+rule_number SmashedCommon = 43
+rule_number BlockMissing = 44
+rule_number FunctionSmashes = 45
+rule_number ManyPaths = 46
+rule_number ManyConditions = 47
+rule_number Heavy = 48
+rule_number DimensionSmashed = 49
+rule_number BadBlockIf = 50
+
+-- the name of a rule, in ASCII
+abbrev pub rule_name : Rule → List ℕ
+rule_name NotBuilt = codes "NotBuilt"
+rule_name TooLong = codes "TooLong"
+rule_name BadByte = codes "BadByte"
+rule_name BadLabel = codes "BadLabel"
+rule_name NoInitial = codes "NoInitial"
+rule_name ManyCards = codes "ManyCards"
+rule_name BadNoteCard = codes "BadNoteCard"
+rule_name (Excluded word) = codes "Excluded"
+rule_name BadStatement = codes "BadStatement"
+rule_name RealConstant = codes "RealConstant"
+rule_name BigNumber = codes "BigNumber"
+rule_name TooDeep = codes "TooDeep"
+rule_name StatementOrder = codes "StatementOrder"
+rule_name NoHead = codes "NoHead"
+rule_name NoEnd = codes "NoEnd"
+rule_name NameTwice = codes "NameTwice"
+rule_name ImplicitReal = codes "ImplicitReal"
+rule_name BadDimension = codes "BadDimension"
+rule_name BadUse = codes "BadUse"
+rule_name BadType = codes "BadType"
+rule_name BadSubscript = codes "BadSubscript"
+rule_name LabelTwice = codes "LabelTwice"
+rule_name NoLabel = codes "NoLabel"
+rule_name BadResult = codes "BadResult"
+rule_name BlocksDiffer = codes "BlocksDiffer"
+rule_name BadAdjustable = codes "BadAdjustable"
+rule_name BadLastOfDo = codes "BadLastOfDo"
+rule_name CrossedDo = codes "CrossedDo"
+rule_name JumpIntoDo = codes "JumpIntoDo"
+rule_name DoSmashed = codes "DoSmashed"
+rule_name FallsOffEnd = codes "FallsOffEnd"
+rule_name UncutCycle = codes "UncutCycle"
+rule_name BadNote = codes "BadNote"
+rule_name NoInputOrOutput = codes "NoInputOrOutput"
+rule_name UnknownNoteName = codes "UnknownNoteName"
+rule_name OutputNamesLocal = codes "OutputNamesLocal"
+rule_name ClockLength = codes "ClockLength"
+rule_name UnitTwice = codes "UnitTwice"
+rule_name UnknownUnit = codes "UnknownUnit"
+rule_name Recursion = codes "Recursion"
+rule_name BadArguments = codes "BadArguments"
+rule_name SmashedNotName = codes "SmashedNotName"
+rule_name SmashedTwice = codes "SmashedTwice"
+rule_name SmashedCommon = codes "SmashedCommon"
+rule_name BlockMissing = codes "BlockMissing"
+rule_name FunctionSmashes = codes "FunctionSmashes"
+rule_name ManyPaths = codes "ManyPaths"
+rule_name ManyConditions = codes "ManyConditions"
+rule_name Heavy = codes "Heavy"
+rule_name DimensionSmashed = codes "DimensionSmashed"
+rule_name BadBlockIf = codes "BadBlockIf"
