@@ -3,33 +3,13 @@ ghost use Rattle.std.specs.Prelude.{◌≡◌, length, map};
 ghost use Rattle.std.specs.List.{All, flat_map, zip};
 ghost use Rattle.event_text.specs.Sending.{Goes};
 ghost use Rattle.event_text.specs.Conditions.{condition_tree, IsConditionIn};
-ghost use Rattle.event_text.specs.EventText.{condition_line, kind_word, lemma_name, note_text};
+ghost use Rattle.event_text.specs.EventText.{condition_line, lemma_name, note_text};
 
 use crate::out::Out;
 use crate::terms::{put_term, put_terms};
 use edge_io::Sink;
 use formula::{Definitions, TermPool};
-use fort_syntax::{Condition, Kind};
-
-/// The word of a kind.
-fn word(kind: Kind) -> &'static [u8]
-    ensures { result.now ≡ kind_word kind }
-{
-    match kind {
-        Kind::DefinedCheck => b"DEFINED",
-        Kind::RangeCheck => b"RANGE",
-        Kind::DivisorCheck => b"DIVISOR",
-        Kind::SubscriptCheck => b"SUBSCRIPT",
-        Kind::ChoiceCheck => b"CHOICE",
-        Kind::LoopCheck => b"LOOP",
-        Kind::ResultCheck => b"RESULT",
-        Kind::InputCheck => b"INPUT",
-        Kind::AssertCheck => b"ASSERT",
-        Kind::ClockCheck => b"CLOCK",
-        Kind::FallCheck => b"FALL",
-        Kind::OutputCheck => b"OUTPUT",
-    }
-}
+use fort_syntax::Condition;
 
 /// Puts the name of a condition: its unit, path and check.
 fn put_lemma_name<K: Sink>(out: &mut Out, sink: &mut K, condition: &Condition)
@@ -46,7 +26,7 @@ fn put_lemma_name<K: Sink>(out: &mut Out, sink: &mut K, condition: &Condition)
 fn put_note<K: Sink>(out: &mut Out, sink: &mut K, condition: &Condition, mark: u8)
     ensures { (pool : _) → Goes (K.written sink.old) (K.written sink.new) (K.faults sink.old) (K.faults sink.new) out.old out.new (note_text (condition_tree pool condition.now) mark) }
 {
-    out.put(sink, word(condition.kind));
+    out.put(sink, condition.kind.word());
     out.put(sink, b" CARD ");
     out.put_number(sink, condition.card as u64);
     out.put(sink, b" ");
@@ -54,7 +34,14 @@ fn put_note<K: Sink>(out: &mut Out, sink: &mut K, condition: &Condition, mark: u
 }
 
 /// Puts the line of a condition.
-fn put_condition<K: Sink>(out: &mut Out, sink: &mut K, pool: &TermPool, definitions: &Definitions, condition: &Condition, mark: u8)
+fn put_condition<K: Sink>(
+    out: &mut Out,
+    sink: &mut K,
+    pool: &TermPool,
+    definitions: &Definitions,
+    condition: &Condition,
+    mark: u8,
+)
     requires { IsConditionIn pool.now condition.now }
     ensures { Goes (K.written sink.old) (K.written sink.new) (K.faults sink.old) (K.faults sink.new) out.old out.new (condition_line (map (λ d. d.name) definitions.now) (condition_tree pool.now condition.now) mark) }
 {
@@ -70,7 +57,14 @@ fn put_condition<K: Sink>(out: &mut Out, sink: &mut K, pool: &TermPool, definiti
 }
 
 /// Puts a line for each condition and its mark.
-pub fn put_conditions<K: Sink>(out: &mut Out, sink: &mut K, pool: &TermPool, definitions: &Definitions, conditions: &[Condition], letters: &[u8])
+pub fn put_conditions<K: Sink>(
+    out: &mut Out,
+    sink: &mut K,
+    pool: &TermPool,
+    definitions: &Definitions,
+    conditions: &[Condition],
+    letters: &[u8],
+)
     requires inside { All (IsConditionIn pool.now) conditions.now }
     requires letters { length letters.now ≡ length conditions.now }
     ensures { Goes (K.written sink.old) (K.written sink.new) (K.faults sink.old) (K.faults sink.new) out.old out.new (flat_map (λ p. condition_line (map (λ d. d.name) definitions.now) (condition_tree pool.now p.0) p.1) (zip conditions.now letters.now)) }

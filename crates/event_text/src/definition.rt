@@ -40,7 +40,13 @@ fn put_first_word<K: Sink>(out: &mut Out, sink: &mut K, words: &[Word])
 }
 
 /// Puts what a definition stands for.
-fn put_body<K: Sink>(out: &mut Out, sink: &mut K, pool: &TermPool, definitions: &Definitions, definition: &Definition)
+fn put_body<K: Sink>(
+    out: &mut Out,
+    sink: &mut K,
+    pool: &TermPool,
+    definitions: &Definitions,
+    definition: &Definition,
+)
     requires { IsBodyIn pool.now definition.now.body }
     ensures { Goes (K.written sink.old) (K.written sink.new) (K.faults sink.old) (K.faults sink.new) out.old out.new (body_text (map (λ d. d.name) definitions.now) definition.now.params (body_tree pool.now definition.now.body)) }
 {
@@ -59,7 +65,13 @@ fn put_body<K: Sink>(out: &mut Out, sink: &mut K, pool: &TermPool, definitions: 
 }
 
 /// Puts the line of a definition.
-fn put_definition<K: Sink>(out: &mut Out, sink: &mut K, pool: &TermPool, definitions: &Definitions, definition: &Definition)
+fn put_definition<K: Sink>(
+    out: &mut Out,
+    sink: &mut K,
+    pool: &TermPool,
+    definitions: &Definitions,
+    definition: &Definition,
+)
     requires { IsDefinitionIn pool.now definition.now }
     ensures { Goes (K.written sink.old) (K.written sink.new) (K.faults sink.old) (K.faults sink.new) out.old out.new (definition_line (map (λ d. d.name) definitions.now) (definition_tree pool.now definition.now)) }
 {
@@ -73,7 +85,12 @@ fn put_definition<K: Sink>(out: &mut Out, sink: &mut K, pool: &TermPool, definit
 }
 
 /// Puts a line for each definition.
-pub fn put_definitions<K: Sink>(out: &mut Out, sink: &mut K, pool: &TermPool, definitions: &Definitions)
+pub fn put_definitions<K: Sink>(
+    out: &mut Out,
+    sink: &mut K,
+    pool: &TermPool,
+    definitions: &Definitions,
+)
     requires { All (IsDefinitionIn pool.now) definitions.now }
     ensures { Goes (K.written sink.old) (K.written sink.new) (K.faults sink.old) (K.faults sink.new) out.old out.new (flat_map (λ d. definition_line (map (λ d. d.name) definitions.now) (definition_tree pool.now d)) definitions.now) }
 {

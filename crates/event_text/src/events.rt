@@ -38,14 +38,28 @@ fn put_closing<K: Sink>(out: &mut Out, sink: &mut K, count: usize)
 }
 
 /// Puts the text of definitions, conditions and marks.
-fn put_events<K: Sink>(out: &mut Out, sink: &mut K, pool: &TermPool, definitions: &Definitions, conditions: &[Condition], marks: &Marks)
+fn put_events<K: Sink>(
+    out: &mut Out,
+    sink: &mut K,
+    pool: &TermPool,
+    definitions: &Definitions,
+    conditions: &[Condition],
+    marks: &Marks,
+)
     requires definitions { All (IsDefinitionIn pool.now) definitions.now }
     requires conditions { All (IsConditionIn pool.now) conditions.now }
     requires letters { length marks.now.letters ≡ length conditions.now }
     ensures { Goes (K.written sink.old) (K.written sink.new) (K.faults sink.old) (K.faults sink.new) out.old out.new (event_text (map (definition_tree pool.now) definitions.now) (map (condition_tree pool.now) conditions.now) marks.now) }
 {
     put_definitions(out, sink, pool, definitions);
-    put_conditions(out, sink, pool, definitions, conditions, marks.letters.as_slice());
+    put_conditions(
+        out,
+        sink,
+        pool,
+        definitions,
+        conditions,
+        marks.letters.as_slice(),
+    );
     put_asked(out, sink, marks.asked.as_slice());
     put_closing(out, sink, conditions.len());
 }
@@ -71,7 +85,14 @@ pub fn write_events<K: Sink>(
     ensures cause { HasCause (K.faults sink.old) (K.faults sink.new) result }
 {
     let mut out = Out::new();
-    put_events(&mut out, sink, pool, definitions, conditions.as_slice(), marks);
+    put_events(
+        &mut out,
+        sink,
+        pool,
+        definitions,
+        conditions.as_slice(),
+        marks,
+    );
     out.finish(sink);
     if out.failed { Err(Failed) } else { Ok(()) }
 }

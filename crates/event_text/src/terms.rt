@@ -41,7 +41,13 @@ fn put_function<K: Sink>(out: &mut Out, sink: &mut K, definitions: &Definitions,
 
 /// Puts a term.
 #[cycle(term)]
-pub fn put_term<K: Sink>(out: &mut Out, sink: &mut K, pool: &TermPool, definitions: &Definitions, id: TermId)
+pub fn put_term<K: Sink>(
+    out: &mut Out,
+    sink: &mut K,
+    pool: &TermPool,
+    definitions: &Definitions,
+    id: TermId,
+)
     requires { IsIn pool.now id }
     ensures { Goes (K.written sink.old) (K.written sink.new) (K.faults sink.old) (K.faults sink.new) out.old out.new (term_text (map (λ d. d.name) definitions.now) (tree_of pool.now id)) }
 {
@@ -65,7 +71,13 @@ pub fn put_term<K: Sink>(out: &mut Out, sink: &mut K, pool: &TermPool, definitio
 
 /// Puts terms, with a blank before each.
 #[cycle(term)]
-pub fn put_terms<K: Sink>(out: &mut Out, sink: &mut K, pool: &TermPool, definitions: &Definitions, ids: &[TermId])
+pub fn put_terms<K: Sink>(
+    out: &mut Out,
+    sink: &mut K,
+    pool: &TermPool,
+    definitions: &Definitions,
+    ids: &[TermId],
+)
     requires { AllBelow (length pool.now) ids.now }
     ensures { Goes (K.written sink.old) (K.written sink.new) (K.faults sink.old) (K.faults sink.new) out.old out.new (row_text (map (λ d. d.name) definitions.now) (row_in (trees pool.now) ids.now)) }
 {

@@ -12,9 +12,9 @@ pub put_term-put_terms-requires : goal.put_term-put_terms-requires
 put_term-put_terms-requires g t c κs within =
     let ts = trees c.args.pool.now in
     let small : HasArgumentsBelow c.args.id.place (Apply c.in-Apply.function c.in-Apply.args) =
-        subst (HasArgumentsBelow c.args.id.place) c.in-Apply.is c.node.ensures.below in
+    subst (HasArgumentsBelow c.args.id.place) c.in-Apply.is c.node.ensures.below in
     let below : AllBelow (length c.args.pool.now) c.as_slice.result.now =
-        subst (AllBelow (length c.args.pool.now)) (sym c.as_slice.ensures) (AllBelow-later c.args.id.place (length c.args.pool.now) c.in-Apply.args (omega arith) small) in
+    subst (AllBelow (length c.args.pool.now)) (sym c.as_slice.ensures) (AllBelow-later c.args.id.place (length c.args.pool.now) c.in-Apply.args (omega arith) small) in
     search rules
 
 pub put_term-returns-in-Old : goal.put_term-returns-in-Old
