@@ -1,0 +1,4 @@
+pub mod Conditions
+pub mod EventText
+pub mod Sending
+pub mod TermText

@@ -1,0 +1,75 @@
+// Conditions on their way out.
+ghost use Rattle.std.specs.Prelude.{◌≡◌, length, map};
+ghost use Rattle.std.specs.List.{All, flat_map, zip};
+ghost use Rattle.event_text.specs.Sending.{Goes};
+ghost use Rattle.event_text.specs.Conditions.{condition_tree, IsConditionIn};
+ghost use Rattle.event_text.specs.EventText.{condition_line, lemma_name, note_text};
+
+use crate::out::Out;
+use crate::terms::{put_term, put_terms};
+use edge_io::Sink;
+use formula::{Definitions, TermPool};
+use fort_syntax::Condition;
+
+/// Puts the name of a condition: its unit, path and check.
+fn put_lemma_name<K: Sink>(out: &mut Out, sink: &mut K, condition: &Condition)
+    ensures { (pool : _) → Goes (K.written sink.old) (K.written sink.new) (K.faults sink.old) (K.faults sink.new) out.old out.new (lemma_name (condition_tree pool condition.now)) }
+{
+    out.put(sink, condition.unit.as_bytes());
+    out.put(sink, b"-");
+    out.put_number(sink, condition.path as u64);
+    out.put(sink, b"-");
+    out.put_number(sink, condition.check as u64);
+}
+
+/// Puts what stands behind a condition: its kind, its card and its mark.
+fn put_note<K: Sink>(out: &mut Out, sink: &mut K, condition: &Condition, mark: u8)
+    ensures { (pool : _) → Goes (K.written sink.old) (K.written sink.new) (K.faults sink.old) (K.faults sink.new) out.old out.new (note_text (condition_tree pool condition.now) mark) }
+{
+    out.put(sink, condition.kind.word());
+    out.put(sink, b" CARD ");
+    out.put_number(sink, condition.card as u64);
+    out.put(sink, b" ");
+    out.put(sink, &[mark]);
+}
+
+/// Puts the line of a condition.
+fn put_condition<K: Sink>(
+    out: &mut Out,
+    sink: &mut K,
+    pool: &TermPool,
+    definitions: &Definitions,
+    condition: &Condition,
+    mark: u8,
+)
+    requires { IsConditionIn pool.now condition.now }
+    ensures { Goes (K.written sink.old) (K.written sink.new) (K.faults sink.old) (K.faults sink.new) out.old out.new (condition_line (map (λ d. d.name) definitions.now) (condition_tree pool.now condition.now) mark) }
+{
+    out.put(sink, b"(PROVE-LEMMA ");
+    put_lemma_name(out, sink, condition);
+    out.put(sink, b" NIL (IMPLIES (AND");
+    put_terms(out, sink, pool, definitions, condition.hyps.as_slice());
+    out.put(sink, b") ");
+    put_term(out, sink, pool, definitions, condition.goal);
+    out.put(sink, b")) ; ");
+    put_note(out, sink, condition, mark);
+    out.put(sink, b"\n");
+}
+
+/// Puts a line for each condition and its mark.
+pub fn put_conditions<K: Sink>(
+    out: &mut Out,
+    sink: &mut K,
+    pool: &TermPool,
+    definitions: &Definitions,
+    conditions: &[Condition],
+    letters: &[u8],
+)
+    requires inside { All (IsConditionIn pool.now) conditions.now }
+    requires letters { length letters.now ≡ length conditions.now }
+    ensures { Goes (K.written sink.old) (K.written sink.new) (K.faults sink.old) (K.faults sink.new) out.old out.new (flat_map (λ p. condition_line (map (λ d. d.name) definitions.now) (condition_tree pool.now p.0) p.1) (zip conditions.now letters.now)) }
+{
+    for (k, condition) in conditions.iter().enumerate() {
+        put_condition(out, sink, pool, definitions, condition, letters[k]);
+    }
+}

@@ -1,0 +1,17 @@
+//! Conditions as text, and text as conditions.
+#![tactic(auto)]
+
+mod condition;
+mod definition;
+mod events;
+mod marks;
+mod out;
+mod page;
+mod putting;
+mod terms;
+
+pub use events::write_events;
+pub use marks::Marks;
+
+#[cfg(test)]
+mod tests;
