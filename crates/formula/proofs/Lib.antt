@@ -1,6 +1,8 @@
 pub mod Grown
 pub mod Growth
+pub mod Images
 pub mod Lookup
+pub mod Marks
 pub mod Names
 pub mod OneIdEach
 pub mod Padded

@@ -3,6 +3,7 @@ pub mod Functions
 pub mod Named
 pub mod Pool
 pub mod Reading
+pub mod Substitution
 pub mod Tokens
 pub mod Tree
 pub mod Word

@@ -8,6 +8,7 @@ mod function;
 mod head;
 mod node;
 mod pool;
+mod substitution;
 #[cfg(test)]
 mod tests;
 mod value;
@@ -20,5 +21,6 @@ pub use function::{Arity, BuiltIn, Func};
 pub use head::{Head, head_of};
 pub use node::{Node, TermId};
 pub use pool::TermPool;
+pub use substitution::{Binding, substitute};
 pub use value::{Cell, Value};
 pub use word::Word;
