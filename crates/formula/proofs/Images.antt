@@ -1,9 +1,8 @@
 -- What becomes of the nodes of a term under bindings.
-use Rattle.std.proofs.Common.{◌≡◌, ℕ, zero, suc, ◌+◌, ◌<◌, ◌≤◌, Bool, true, false, List, [], ◌∷◌, ◌++◌, length, Option, Some, None, IsTrue, refl, sym, ap, ◌∙◌, subst, arith, true≢false, slice_get, slice_index_or, unwrap_or, length-append, nat_eq, if◌then◌else◌}
+use Rattle.std.proofs.Common.{◌≡◌, ℕ, zero, suc, ◌+◌, ◌<◌, ◌≤◌, Bool, true, false, List, [], ◌∷◌, ◌++◌, length, Option, Some, None, IsTrue, refl, sym, ap, ◌∙◌, subst, arith, true≢false, slice_get, unwrap_or, length-append, nat_eq, if◌then◌else◌}
 use Rattle.std.proofs.lemmas.Grind.{common_steps}
 use Rattle.std.proofs.lemmas.Bool.{eqb-true, eqb-false}
 use Rattle.formula.specs.declared.node.Node.{Node}
-use Rattle.formula.specs.declared.node.Node.TheVariants.{Num, Truth, Symbol, Old, Apply}
 use Rattle.formula.specs.declared.node.TermId.{TermId}
 use Rattle.formula.specs.declared.function.Func.{Func}
 use Rattle.formula.specs.declared.function.Func.TheVariants.{BuiltIn, Defined}
@@ -12,7 +11,7 @@ use Rattle.formula.specs.declared.substitution.Binding.{Binding}
 use Rattle.formula.specs.Atoms.{same_bytes}
 use Rattle.formula.specs.Functions.{arity_of, fits_count}
 use Rattle.formula.specs.Tree.{Tree, num, truth, symbol, old, apply, Row, none, more, row_count, takes}
-use Rattle.formula.specs.Pool.{AllBelow, Grows, HasArgumentsBelow, IsIn, row_in, tree_at, tree_in, tree_of, trees}
+use Rattle.formula.specs.Pool.{AllBelow, Grows, IsIn, row_in, tree_at, tree_of, trees}
 use Rattle.formula.specs.Substitution.{substituted, row_substituted, binding_of, tree_or, bound, AreIn, under, arguments_of, is_marked, AllMarked, id_at, ids_at, IsImage, AreImages, AreRight, HasImages, IsClosedFrom}
 use Rattle.formula.proofs.Grown.{Grows-refl, IsIn-Grows, tree_of-Grows}
 use Rattle.formula.proofs.Marks.{arguments-below}

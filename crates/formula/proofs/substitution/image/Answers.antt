@@ -1,5 +1,4 @@
-use Rattle.std.proofs.Common.{◌≡◌, ◌∙◌, List, length, IsTrue, IfOk, ap, sym, subst}
-use Rattle.formula.specs.declared.node.TermId.{TermId}
+use Rattle.std.proofs.Common.{◌≡◌, ◌∙◌, length, IsTrue, IfOk, ap, sym, subst}
 use Rattle.formula.specs.Tree.{apply, symbol, old, takes}
 use Rattle.formula.specs.Pool.{AllBelow, HasArguments, row_in, tree_in, tree_of, trees}
 use Rattle.formula.specs.Substitution.{AreImages, arguments_of, bound, ids_at, under}

@@ -1,4 +1,4 @@
-use Rattle.std.proofs.Common.{◌≡◌, ◌∙◌, ◌-◌, ◌+◌, ◌≤◌, ◌<◌, length, ap, sym, subst, arith}
+use Rattle.std.proofs.Common.{◌≡◌, ◌∙◌, ◌-◌, ◌+◌, ◌≤◌, length, ap, sym, subst, arith}
 use Rattle.formula.specs.Pool.{AllBelow}
 use Rattle.formula.specs.Substitution.{IsClosedFrom, arguments_of, is_marked, marked}
 use Rattle.formula.proofs.Growth.{AllBelow-more}
