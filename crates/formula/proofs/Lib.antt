@@ -1,7 +1,9 @@
 pub mod Digits
 pub mod Grown
 pub mod Growth
+pub mod Images
 pub mod Lookup
+pub mod Marks
 pub mod Names
 pub mod OneIdEach
 pub mod Padded

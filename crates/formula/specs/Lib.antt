@@ -6,6 +6,7 @@ pub mod NextToken
 pub mod OpenCalls
 pub mod Pool
 pub mod Reading
+pub mod Substitution
 pub mod Tokens
 pub mod Tree
 pub mod Word

@@ -17,6 +17,7 @@ mod pool;
 mod reader;
 #[cfg(test)]
 mod reading_tests;
+mod substitution;
 #[cfg(test)]
 mod tests;
 mod tokens;
@@ -37,5 +38,6 @@ pub use node::{Node, TermId};
 pub use pool::TermPool;
 pub use reader::read_term;
 pub use tokens::{Placed, Token, next_token};
+pub use substitution::{Binding, substitute};
 pub use value::{Cell, Value};
 pub use word::Word;

@@ -68,6 +68,18 @@ fn names_have_heads(rt: HostRuntime) -> Result<(), Fail> {
     Ok(())
 }
 
+#[test]
+fn symbols_give_way(rt: HostRuntime) -> Result<(), Fail> {
+    let mut pool = TermPool::new(rt.alloc());
+    let name = word(b"X")?;
+    let x = pool.symbol(name).map_err(full)?;
+    let one = pool.number(1).map_err(full)?;
+    let bindings = [Binding { name, term: one }];
+    let changed = substitute(rt.alloc(), &mut pool, &bindings, &[], x).map_err(full)?;
+    assert_eq!(rt; changed, one);
+    Ok(())
+}
+
 fn word(bytes: &[u8]) -> Result<Word, Fail> {
     match Word::new(bytes) {
         Some(word) => Ok(word),
