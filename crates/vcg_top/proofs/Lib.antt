@@ -1,3 +1,5 @@
 pub mod Drafted
 pub mod Evaluated
 pub mod Found
+pub mod Rebound
+pub mod Sized

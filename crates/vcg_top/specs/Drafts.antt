@@ -29,6 +29,12 @@ abbrev pub found : List Binding → List ℕ → Option Binding
 found [] name = None
 found (b ∷ rest) name = if same_bytes b.name name then Some b else found rest name
 
+-- the bindings where a name has another value
+abbrev pub rebound : List Binding → List ℕ → TermId → List Binding
+rebound [] name id = []
+rebound (b ∷ rest) name id =
+    if same_bytes b.name name then record { name = b.name; value = id; entry = b.entry } ∷ rest else b ∷ rebound rest name id
+
 -- the terms of the bindings are in the pool
 abbrev pub AreBound : List Node → List Binding → Type 0
 AreBound pool [] = Unit {0}

@@ -7,7 +7,7 @@ ghost use Rattle.vcg_top.specs.declared.expression.Expression.{Expression};
 ghost use Rattle.vcg_top.specs.Drafts.{found, AreBound, AreChecks, Adds, bound_in};
 
 use crate::check::{Binding, Check};
-use crate::goals::{check_defined, check_range};
+use crate::goals::{check_defined, check_range, constant};
 use edge_io::NoMemory;
 use formula::{BuiltIn, TermId, TermPool, Word};
 use crate::expression::Expression;
@@ -149,7 +149,7 @@ pub(crate) fn evaluate(
 {
     match e {
         Expression::Constant(n) => {
-            let id = pool.number(i128::from(*n))?;
+            let id = constant(pool, *n)?;
             Ok(id)
         }
         Expression::Dummy(name) => read(pool, bindings, card, name, checks),

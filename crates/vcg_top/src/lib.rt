@@ -9,3 +9,4 @@ mod goals;
 mod heading;
 mod spelling;
 mod splitting;
+mod walk;
