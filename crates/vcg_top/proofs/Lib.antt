@@ -3,3 +3,5 @@ pub mod Evaluated
 pub mod Found
 pub mod Rebound
 pub mod Sized
+pub mod Stated
+pub mod Steps
