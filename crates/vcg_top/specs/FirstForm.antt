@@ -197,32 +197,38 @@ abbrev mutual
   is_plain_row dummies entries none = true
   is_plain_row dummies entries (more t rest) = is_plain dummies entries t && is_plain_row dummies entries rest
 
+abbrev pub is_blank_byte : ℕ → Bool
+is_blank_byte b = b == 32
+
 abbrev pub is_blank : List ℕ → Bool
-is_blank text = list_all (λ b. b == 32) text
+is_blank text = list_all is_blank_byte text
 
--- the term that a text begins with; no definitions are there
-abbrev pub first_term : List ℕ → Reading
-first_term text = reads (head_named [] None) text
+-- the term that was read, with the number of bytes taken, where it is plain
+abbrev pub plain_read : List (List ℕ) → Bool → Reading → Option (Tree × ℕ)
+plain_read dummies entries (got t taken) = if is_plain dummies entries t then Some (t, taken) else None
+plain_read dummies entries (fault e) = None
 
-abbrev pub read_on : Reading → (Tree → ℕ → Option (List Tree)) → Option (List Tree)
-read_on (got t n) f = f t n
-read_on (fault e) f = None
+-- the plain term that a text begins with; no definitions are there
+abbrev pub plain_term : List (List ℕ) → Bool → List ℕ → Option (Tree × ℕ)
+plain_term dummies entries text = plain_read dummies entries (reads (head_named [] None) text)
 
--- the terms of a text, at most so many
-abbrev pub plain_terms : List (List ℕ) → Bool → ℕ → List ℕ → Option (List Tree)
-plain_terms dummies entries zero text = None
-plain_terms dummies entries (suc n) text =
-    if is_blank text then Some []
-    else read_on (first_term text) (λ t taken.
-      if is_plain dummies entries t then when (plain_terms dummies entries n (drop taken text)) (λ rest. Some (t ∷ rest)) else None)
+-- these terms, and those of the text behind them, up to its end; they are fewer than `fuel`
+abbrev pub terms_from : List (List ℕ) → Bool → List Tree → ℕ → List ℕ → Option (List Tree)
+terms_from dummies entries done zero text = None
+terms_from dummies entries done (suc fuel) text =
+    if is_blank text then Some done
+    else when (plain_term dummies entries text) (λ r. terms_from dummies entries (done ++ r.0 ∷ []) fuel (drop r.1 text))
 
-abbrev pub some_terms : Option (List Tree) → Option (List Tree)
-some_terms (Some (t ∷ rest)) = Some (t ∷ rest)
-some_terms _ = None
+-- the terms of a text, which has no more of them than bytes
+abbrev pub plain_terms : List (List ℕ) → Bool → List ℕ → Option (List Tree)
+plain_terms dummies entries text = terms_from dummies entries [] (length text + 1) text
 
--- a text has no more terms than bytes
+abbrev pub one_or_more : List Tree → Option (List Tree)
+one_or_more [] = None
+one_or_more (t ∷ rest) = Some (t ∷ rest)
+
 abbrev pub terms_of : List (List ℕ) → Bool → List ℕ → Option (List Tree)
-terms_of dummies entries text = some_terms (plain_terms dummies entries (length text + 1) text)
+terms_of dummies entries text = when (plain_terms dummies entries text) one_or_more
 
 abbrev pub is_separator : ℕ → Bool
 is_separator b = b == 32 || b == 40
@@ -250,15 +256,29 @@ body_cards (first ∷ second ∷ last ∷ end ∷ [] ∷ []) =
     if same_bytes last (codes "      RETURN") && same_bytes end (codes "      END") then Some (first ∷ second ∷ []) else None
 body_cards _ = None
 
+-- the heading on a card
+abbrev pub card_heading : List ℕ → Option Heading
+card_heading card = when (statement_text card) heading_of
+
+-- the input and the output assertion; OLD stands only in the latter
+abbrev pub assertions_of : List (List ℕ) → List ℕ → List ℕ → Option (List Tree × List Tree)
+assertions_of dummies input output =
+    when (note_of dummies false (codes "C$ INPUT") input) (λ before.
+      when (note_of dummies true (codes "C$ OUTPUT") output) (λ after. Some (before, after)))
+
+-- the assignments of the cards behind the assertions
+abbrev pub body_of : List (List ℕ) → List (List ℕ) → Option (List Assigned)
+body_of dummies rest = when (body_cards rest) (assignments dummies)
+
+abbrev pub deck : Heading → List Tree × List Tree → List Assigned → Deck
+deck h terms body = record { unit = h.unit; dummies = h.dummies; input = terms.0; output = terms.1; body = body }
+
+abbrev pub headed_deck : Heading → List ℕ → List ℕ → List (List ℕ) → Option Deck
+headed_deck h input output rest =
+    when (assertions_of h.dummies input output) (λ terms. when (body_of h.dummies rest) (λ body. Some (deck h terms body)))
+
 abbrev pub deck_of : List (List ℕ) → Option Deck
-deck_of (head ∷ input ∷ output ∷ rest) =
-    when (statement_text head) (λ text.
-      when (heading_of text) (λ h.
-        when (note_of h.dummies false (codes "C$ INPUT") input) (λ before.
-          when (note_of h.dummies true (codes "C$ OUTPUT") output) (λ after.
-            when (body_cards rest) (λ cards.
-              when (assignments h.dummies cards) (λ body.
-                Some (record { unit = h.unit; dummies = h.dummies; input = before; output = after; body = body })))))))
+deck_of (head ∷ input ∷ output ∷ rest) = when (card_heading head) (λ h. headed_deck h input output rest)
 deck_of _ = None
 
 -- the deck of an input of the first form: cards that each end with a line feed

@@ -7,5 +7,7 @@ mod evaluation;
 mod expression;
 mod goals;
 mod heading;
+mod notes;
+mod plain;
 mod spelling;
 mod splitting;
