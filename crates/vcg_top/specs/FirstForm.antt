@@ -160,10 +160,13 @@ assigned dummies _ = None
 abbrev pub assignment_of : List (List ℕ) → List ℕ → Option Assigned
 assignment_of dummies card = when (statement_text card) (λ text. assigned dummies (split (codes "=") text))
 
+-- these assignments, and those of the cards behind them
+abbrev pub assignments_from : List (List ℕ) → List Assigned → List (List ℕ) → Option (List Assigned)
+assignments_from dummies done [] = Some done
+assignments_from dummies done (card ∷ rest) = when (assignment_of dummies card) (λ a. assignments_from dummies (done ++ a ∷ []) rest)
+
 abbrev pub assignments : List (List ℕ) → List (List ℕ) → Option (List Assigned)
-assignments dummies [] = Some []
-assignments dummies (card ∷ rest) =
-    when (assignment_of dummies card) (λ a. when (assignments dummies rest) (λ more. Some (a ∷ more)))
+assignments dummies cards = assignments_from dummies [] cards
 
 -- ---- terms
 
@@ -236,7 +239,7 @@ is_separator b = b == 32 || b == 40
 -- a note of this first word with one or more terms
 abbrev pub note_of : List (List ℕ) → Bool → List ℕ → List ℕ → Option (List Tree)
 note_of dummies entries word card =
-    if same_bytes (take (length word) card) word && starts is_separator (drop (length word) card)
+    if same_bytes word (take (length word) card) && starts is_separator (drop (length word) card)
     then terms_of dummies entries (drop (length word) card) else None
 
 -- ---- the deck
@@ -248,13 +251,14 @@ pub record Deck : Type 0 where
   pub output : List Tree
   pub body : List Assigned
 
--- the assignments' cards, where RETURN and END stand behind one or two of them
+-- RETURN, END and the end of the input
+abbrev pub is_end : List (List ℕ) → Bool
+is_end (last ∷ end ∷ [] ∷ []) = same_bytes last (codes "      RETURN") && same_bytes end (codes "      END")
+is_end _ = false
+
+-- the assignments' cards, where the end stands behind one or two of them
 abbrev pub body_cards : List (List ℕ) → Option (List (List ℕ))
-body_cards (first ∷ last ∷ end ∷ [] ∷ []) =
-    if same_bytes last (codes "      RETURN") && same_bytes end (codes "      END") then Some (first ∷ []) else None
-body_cards (first ∷ second ∷ last ∷ end ∷ [] ∷ []) =
-    if same_bytes last (codes "      RETURN") && same_bytes end (codes "      END") then Some (first ∷ second ∷ []) else None
-body_cards _ = None
+body_cards cards = if is_end (drop 1 cards) then Some (take 1 cards) else if is_end (drop 2 cards) then Some (take 2 cards) else None
 
 -- the heading on a card
 abbrev pub card_heading : List ℕ → Option Heading

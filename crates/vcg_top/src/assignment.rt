@@ -1,7 +1,7 @@
 // Assignments of the first form.
 ghost use Rattle.std.specs.Prelude.{◌≡◌, IfOk, filter};
 ghost use Rattle.vcg_top.specs.Splitting.{is_among};
-ghost use Rattle.vcg_top.specs.FirstForm.{operators, constant_of, dummy_named, operand as operand_of, summed as summed_of, sign_of, grouped as grouped_of, joined as joined_of, expression_of, assigned as assigned_of, assignment_of, assignments as assignments_of};
+ghost use Rattle.vcg_top.specs.FirstForm.{operators, constant_of, dummy_named, operand as operand_of, summed as summed_of, sign_of, grouped as grouped_of, joined as joined_of, expression_of, assigned as assigned_of, assignment_of};
 
 use crate::spelling::{is_dummy_name, statement};
 use crate::splitting::split_at;
@@ -179,8 +179,8 @@ fn assigned_value(
     Ok(Some(Assigned { target, value }))
 }
 
-// The assignment of a card, if it has one.
-fn assignment(
+/// The assignment of a card, if it has one.
+pub(crate) fn assignment(
     alloc: Global,
     dummies: &[Name],
     card: &[u8],

@@ -5,6 +5,7 @@ mod assignment;
 mod check;
 mod evaluation;
 mod expression;
+mod first_form;
 mod goals;
 mod heading;
 mod notes;

@@ -1,8 +1,9 @@
 // Assertions on cards.
 ghost use Rattle.std.specs.Prelude.{◌≡◌, ◌≤◌, [], length, IfOk, IfSome};
 ghost use Rattle.std.specs.Option.{option_map};
+ghost use Rattle.formula.specs.Atoms.{starts};
 ghost use Rattle.formula.specs.Pool.{AllBelow, Grows, IsIn};
-ghost use Rattle.vcg_top.specs.FirstForm.{is_blank as blank, note_of, plain_term as plain_term_of, plain_terms as plain_terms_of, terms_of};
+ghost use Rattle.vcg_top.specs.FirstForm.{is_blank as blank, is_separator, note_of, plain_term as plain_term_of, plain_terms as plain_terms_of, terms_of};
 ghost use Rattle.vcg_top.specs.Drafts.{tree_read, trees_in};
 
 use crate::plain::is_plain;
@@ -62,8 +63,9 @@ fn plain_terms(
     ensures grows { Grows pool.old pool.new }
 {
     let mut ids = Vec::new(alloc);
-    let mut rest = text;
+    let mut at = 0;
     for _ in 0..text.len() + 1 {
+        let rest = &text[at..];
         if is_blank(rest) {
             return Ok(Some(List::from_vec(ids)));
         }
@@ -73,7 +75,7 @@ fn plain_terms(
         let Ok(()) = ids.push(id) else {
             return Err(NoMemory);
         };
-        rest = &rest[taken..];
+        at += taken;
     }
     Ok(None)
 }
@@ -98,6 +100,16 @@ fn terms(
     Ok(Some(ids))
 }
 
+// Whether a blank or an opening bracket stands first.
+fn is_separated(text: &[u8]) -> bool
+    ensures { result ≡ starts is_separator text.now }
+{
+    match text {
+        [] => false,
+        [first, ..] => *first == b' ' || *first == b'(',
+    }
+}
+
 /// The terms of an assertion whose card begins with this word, where each is plain; none where the
 /// card has another form. `entries` tells whether OLD may stand in them.
 pub(crate) fn note(
@@ -116,8 +128,8 @@ pub(crate) fn note(
         return Ok(None);
     }
     let text = &card[word.len()..];
-    match text {
-        [b' ' | b'(', ..] => terms(alloc, pool, dummies, entries, text),
-        _ => Ok(None),
+    if !is_separated(text) {
+        return Ok(None);
     }
+    terms(alloc, pool, dummies, entries, text)
 }
