@@ -1,10 +1,9 @@
 -- The first form of a deck: one subroutine of integer scalars, with one or two assignments.
-use Rattle.std.specs.Prelude.{ℕ, ℤ, pos, zero, suc, ◌+◌, ◌-◌, ◌*◌, ◌==◌, ◌&&◌, ◌||◌, not, nat_le, if◌then◌else◌, Bool, true, false, Option, Some, None, List, [], ◌∷◌, ◌++◌, length, take, drop, filter, codes, nat_eq}
+use Rattle.std.specs.Prelude.{ℕ, zero, suc, ◌+◌, ◌-◌, ◌*◌, ◌==◌, ◌&&◌, ◌||◌, not, nat_le, if◌then◌else◌, Bool, true, false, Option, Some, None, List, [], ◌∷◌, ◌++◌, length, take, drop, filter, codes, nat_eq}
 use Rattle.std.specs.List.{list_any, list_all}
 use Rattle.std.specs.Cmp.Lexicographic.{pointwise}
 use Rattle.formula.specs.declared.function.Func.{Func}
-use Rattle.formula.specs.declared.function.Func.TheVariants.{BuiltIn, Defined}
-use Rattle.formula.specs.declared.function.BuiltIn.{BuiltIn as Builtin}
+use Rattle.formula.specs.declared.function.Func.TheVariants.{BuiltIn}
 use Rattle.formula.specs.declared.function.BuiltIn.TheVariants.{And, Or, Not, Equal, Plus, Difference, Times, Less, AtMost, Defined as IsDefined}
 use Rattle.formula.specs.Tree.{Tree, num, truth, symbol, old, apply, Row, none, more}
 use Rattle.formula.specs.Atoms.{same_bytes, is_digit, is_letter, is_name_byte, starts}
@@ -139,8 +138,8 @@ grouped dummies sum product [] words = if is_none_left words then Some (summed s
 grouped dummies sum product (sign ∷ signs) [] = None
 grouped dummies sum product (sign ∷ signs) (word ∷ words) =
     when (operand dummies word) (λ e.
-      if sign == 42 then grouped dummies sum (Operation Mul product e) signs words
-      else grouped dummies (Some (sign_of sign, summed sum product)) e signs words)
+    if sign == 42 then grouped dummies sum (Operation Mul product e) signs words
+    else grouped dummies (Some (sign_of sign, summed sum product)) e signs words)
 
 -- one to eight operands with signs between
 abbrev pub joined : List (List ℕ) → List ℕ → List (List ℕ) → Option Expression
@@ -268,7 +267,7 @@ card_heading card = when (statement_text card) heading_of
 abbrev pub assertions_of : List (List ℕ) → List ℕ → List ℕ → Option (List Tree × List Tree)
 assertions_of dummies input output =
     when (note_of dummies false (codes "C$ INPUT") input) (λ before.
-      when (note_of dummies true (codes "C$ OUTPUT") output) (λ after. Some (before, after)))
+    when (note_of dummies true (codes "C$ OUTPUT") output) (λ after. Some (before, after)))
 
 -- the assignments of the cards behind the assertions
 abbrev pub body_of : List (List ℕ) → List (List ℕ) → Option (List Assigned)

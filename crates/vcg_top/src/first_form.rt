@@ -170,7 +170,14 @@ fn deck(
     let Some(heading) = card_heading(alloc, head.as_slice())? else {
         return Ok(None);
     };
-    headed(alloc, pool, heading, input.as_slice(), output.as_slice(), rest)
+    headed(
+        alloc,
+        pool,
+        heading,
+        input.as_slice(),
+        output.as_slice(),
+        rest,
+    )
 }
 
 /// The deck of the first form that an input is, and none where it is no such deck. The pool keeps

@@ -43,17 +43,17 @@ loop-preserved c =
     let within = c.loop.invariant.within in
     let blank : is_blank (drop at text) ≡ false = ap is_blank (sym whole) ∙ sym c.is_blank.ensures ∙ c.if-is_blank.false in
     let read : Some (tree_of new id, taken) ≡ plain_term c.args.dummies.now c.args.entries (drop at text) =
-      sym (ap (option_map (tree_read new)) c.in-Some.is) ∙ c.in_ok-id.ensures.value ∙ ap (plain_term c.args.dummies.now c.args.entries) whole in
+    sym (ap (option_map (tree_read new)) c.in-Some.is) ∙ c.in_ok-id.ensures.value ∙ ap (plain_term c.args.dummies.now c.args.entries) whole in
     record {
       grows = Grows-trans _ _ _ c.loop.invariant.grows c.in_ok-id.ensures.grows;
       known = subst (λ (ids : List TermId). AllBelow (length new) ids) (sym c.in-Ok.ensures.items)
-      (AllBelow-more c.loop.pool new c.loop.ids.items id c.in_ok-id.ensures.grows c.loop.invariant.known known);
+          (AllBelow-more c.loop.pool new c.loop.ids.items id c.in_ok-id.ensures.grows c.loop.invariant.known known);
       within = omega (arith, short, long, within);
       same = λ left e.
-        ap (λ (ids : List TermId). terms_from c.args.dummies.now c.args.entries (trees_in new ids) left (drop (at + taken) text)) c.in-Ok.ensures.items
-        ∙ ap (terms_from c.args.dummies.now c.args.entries (trees_in new (c.loop.ids.items ++ id ∷ [])) left) (sym (drop-drop taken at text))
-        ∙ terms_from-more c.loop.pool new c.args.dummies.now c.args.entries c.loop.ids.items id left taken (drop at text) c.in_ok-id.ensures.grows c.loop.invariant.known blank read
-        ∙ c.loop.invariant.same (suc left) (omega (arith, e));
+          ap (λ (ids : List TermId). terms_from c.args.dummies.now c.args.entries (trees_in new ids) left (drop (at + taken) text)) c.in-Ok.ensures.items
+          ∙ ap (terms_from c.args.dummies.now c.args.entries (trees_in new (c.loop.ids.items ++ id ∷ [])) left) (sym (drop-drop taken at text))
+          ∙ terms_from-more c.loop.pool new c.args.dummies.now c.args.entries c.loop.ids.items id left taken (drop at text) c.in_ok-id.ensures.grows c.loop.invariant.known blank read
+          ∙ c.loop.invariant.same (suc left) (omega (arith, e));
     }
 
 pub returns-clause-value : goal.returns-clause-value

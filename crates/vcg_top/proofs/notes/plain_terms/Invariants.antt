@@ -10,5 +10,5 @@ invariant-loop l = record {
   known : AllBelow (length l.pool) l.ids.items;
   within : l.at ≤ length l.text;
   same : (left : ℕ) → l.counter + left ≡ l.end
-    → terms_from l.dummies l.entries (trees_in l.pool l.ids.items) left (drop l.at l.text) ≡ plain_terms l.dummies l.entries l.text;
+      → terms_from l.dummies l.entries (trees_in l.pool l.ids.items) left (drop l.at l.text) ≡ plain_terms l.dummies l.entries l.text;
 }
