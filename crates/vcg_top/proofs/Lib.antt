@@ -5,3 +5,4 @@ pub mod Rebound
 pub mod Sized
 pub mod Stated
 pub mod Steps
+pub mod TermsRead

@@ -27,6 +27,10 @@ checks_in pool checks = map (check_of pool) checks
 abbrev pub trees_in : List Node → List TermId → List Tree
 trees_in pool ids = map (tree_of pool) ids
 
+-- a term that was read, with the number of bytes taken
+abbrev pub tree_read : List Node → TermId × ℕ → Tree × ℕ
+tree_read pool r = (tree_of pool r.0, r.1)
+
 -- the binding of a name
 abbrev pub found : List Binding → List ℕ → Option Binding
 found [] name = None

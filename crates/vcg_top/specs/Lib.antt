@@ -1,4 +1,5 @@
 pub mod Conditions
+pub mod Decks
 pub mod Drafts
 pub mod FirstForm
 pub mod Splitting
