@@ -1,3 +1,4 @@
 pub mod Drafted
 pub mod Evaluated
 pub mod Found
+pub mod Taken

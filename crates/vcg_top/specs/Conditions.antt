@@ -12,6 +12,7 @@ use Rattle.fort_syntax.specs.declared.condition.Kind.TheVariants.{DefinedCheck, 
 use Rattle.vcg_top.specs.declared.expression.Expression.{Expression, fold-Expression}
 use Rattle.vcg_top.specs.declared.expression.Expression.TheOpen.{Expression-F}
 use Rattle.vcg_top.specs.declared.assignment.Assigned.{Assigned}
+use Rattle.event_text.specs.Conditions.{ConditionTree}
 use Rattle.vcg_top.specs.FirstForm.{Deck}
 
 -- ---- terms
@@ -156,3 +157,13 @@ path_checks w card output = w.checks ++ map (output_check w.bound card) output
 
 abbrev pub checks_of : Deck → List CheckTree
 checks_of d = path_checks (walked (entered_all d.dummies) 4 d.body) (4 + length d.body) d.output
+
+-- the checks as conditions, counted on from a number; each goal is a hypothesis of those behind it
+abbrev pub numbered : List ℕ → ℕ → List Tree → List CheckTree → List ConditionTree
+numbered unit k hyps [] = []
+numbered unit k hyps (c ∷ rest) =
+    record { unit = unit; path = 1; check = k; kind = c.kind; card = c.card; hyps = hyps; goal = c.goal }
+    ∷ numbered unit (k + 1) (hyps ++ c.goal ∷ []) rest
+
+abbrev pub conditions_of : Deck → List ConditionTree
+conditions_of d = numbered d.unit 1 (hypotheses_of (entered_all d.dummies) d.input) (checks_of d)

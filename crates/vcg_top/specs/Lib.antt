@@ -1,4 +1,7 @@
+pub mod Answers
 pub mod Conditions
 pub mod Drafts
 pub mod FirstForm
+pub mod Found
 pub mod Splitting
+pub mod Status
