@@ -78,3 +78,49 @@ fn tell<K: Sink>(alloc: Global, sink: &mut K, found: &Conditions) -> Status
     };
     Status::Done
 }
+
+/// The top call: the text of the conditions of a deck, or of why it is refused. The words are
+/// those behind the program's name; the deck comes by the source, and the text goes to the sink.
+///
+/// `Done` answers that the deck has the first form and that the text of its conditions was
+/// written, and `Refused` that it has not and that the line of its fault was. `Usage` answers that
+/// the words are not the one word `vc`: nothing is read or written. At `ReadFault` the source
+/// failed, and at `NoMemory` memory was wanted and not had: nothing is written. At `WriteFault` the
+/// sink failed, and a front part of the text was written.
+pub fn vcg<S: Source, K: Sink>(
+    alloc: Global,
+    words: &[String],
+    source: &mut S,
+    sink: &mut K,
+) -> Status
+    ensures usage { (result ≡ Usage) ↔ ¬ IsVc words.now }
+    ensures untouched { result ≡ Usage → (source.new ≡ source.old) × (sink.new ≡ sink.old) }
+    ensures later_read { S.faults source.old ≤ S.faults source.new }
+    ensures later_write { K.faults sink.old ≤ K.faults sink.new }
+    ensures read_fault { result ≡ ReadFault → IsVc words.now × Rose (S.faults source.old) (S.faults source.new) }
+    ensures write_fault { result ≡ WriteFault → IsVc words.now × Rose (K.faults sink.old) (K.faults sink.new) }
+    ensures never_faults { S.never source.old ≡ true → result ≢ ReadFault }
+    ensures unwritten { (result ≡ ReadFault) ⊎ (result ≡ Starved) → sink.new ≡ sink.old }
+
+    // Of a source that tells its bytes: what was read, and what was written for it.
+    ensures done { (bytes : List ℕ) → S.left source.old ≡ Some bytes → result ≡ Done → IsSome (first_deck bytes) × (S.left source.new ≡ Some (drop most_read bytes)) × Appends (K.written sink.old) (K.written sink.new) (reply bytes) }
+    ensures refused { (bytes : List ℕ) → S.left source.old ≡ Some bytes → result ≡ Refused → (first_deck bytes ≡ None) × (S.left source.new ≡ Some (drop most_read bytes)) × Appends (K.written sink.old) (K.written sink.new) (reply bytes) }
+    ensures part { (bytes : List ℕ) → S.left source.old ≡ Some bytes → result ≡ WriteFault → (S.left source.new ≡ Some (drop most_read bytes)) × AppendsPart (K.written sink.old) (K.written sink.new) (reply bytes) }
+
+    // A deck of the first form is done where neither end fails and there is memory.
+    ensures complete { (bytes : List ℕ) → S.left source.old ≡ Some bytes → IsVc words.now → IsSome (first_deck bytes) → ¬ Rose (S.faults source.old) (S.faults source.new) → ¬ Rose (K.faults sink.old) (K.faults sink.new) → (result ≡ Done) ⊎ (result ≡ Starved) }
+{
+    if !is_vc(words) {
+        return Status::Usage;
+    }
+    let bytes = match read_all(alloc, source) {
+        Ok(bytes) => bytes,
+        Err(ReadError::Fault) => return Status::ReadFault,
+        Err(ReadError::NoMemory) => return Status::NoMemory,
+    };
+    match conditions_of_input(alloc, &bytes) {
+        Err(NoMemory) => Status::NoMemory,
+        Ok(None) => refuse(sink),
+        Ok(Some(found)) => tell(alloc, sink, &found),
+    }
+}

@@ -14,4 +14,5 @@ mod spelling;
 mod splitting;
 mod status;
 
+pub use call::vcg;
 pub use status::Status;
