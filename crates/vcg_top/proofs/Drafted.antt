@@ -75,11 +75,11 @@ Adds-after a b c x y p g h s = Adds-trans a b c x x y [] p (Adds-none a b x g h)
 
 -- ---- terms that are added
 
-AllBelow-append : (n : ℕ) (ids : List TermId) (id : TermId) → AllBelow n ids → id.place < n → AllBelow n (ids ++ id ∷ [])
+pub AllBelow-append : (n : ℕ) (ids : List TermId) (id : TermId) → AllBelow n ids → id.place < n → AllBelow n (ids ++ id ∷ [])
 AllBelow-append n [] id h k = (k, tt)
 AllBelow-append n (x ∷ ids) id h k = (h.0, AllBelow-append n ids id h.1 k)
 
-trees_in-append : (pool : List Node) (ids : List TermId) (id : TermId) → trees_in pool (ids ++ id ∷ []) ≡ trees_in pool ids ++ tree_of pool id ∷ []
+pub trees_in-append : (pool : List Node) (ids : List TermId) (id : TermId) → trees_in pool (ids ++ id ∷ []) ≡ trees_in pool ids ++ tree_of pool id ∷ []
 trees_in-append pool [] id = refl
 trees_in-append pool (x ∷ ids) id = ap (λ r. tree_of pool x ∷ r) (trees_in-append pool ids id)
 

@@ -14,7 +14,7 @@ use Rattle.vcg_top.specs.declared.expression.Expression.{Expression, fold-Expres
 use Rattle.vcg_top.specs.declared.expression.Expression.TheOpen.{Expression-F}
 use Rattle.vcg_top.specs.declared.assignment.Assigned.{Assigned}
 use Rattle.event_text.specs.Conditions.{ConditionTree}
-use Rattle.vcg_top.specs.FirstForm.{Deck, first_deck, when}
+use Rattle.vcg_top.specs.FirstForm.{Deck, spelled_deck, when}
 
 -- ---- terms
 
@@ -170,5 +170,5 @@ abbrev pub within_limit : Deck → Option Deck
 within_limit d = if nat_le (length (checks_of d)) 100000 then Some d else None
 
 -- the deck of an input of the first form
-abbrev pub first_form : List ℕ → Option Deck
-first_form bytes = when (first_deck bytes) within_limit
+abbrev pub first_deck : List ℕ → Option Deck
+first_deck bytes = when (spelled_deck bytes) within_limit

@@ -285,6 +285,6 @@ deck_of (head ∷ input ∷ output ∷ rest) = when (card_heading head) (λ h. h
 deck_of _ = None
 
 -- the deck of an input of the first form: cards that each end with a line feed
-abbrev pub first_deck : List ℕ → Option Deck
-first_deck bytes =
+abbrev pub spelled_deck : List ℕ → Option Deck
+spelled_deck bytes =
     if nat_le (length bytes) 1048576 && all_cards (split (codes "\n") bytes) then deck_of (split (codes "\n") bytes) else None

@@ -2,7 +2,7 @@
 ghost use Rattle.std.specs.Prelude.{◌≡◌, ◌≤◌, drop, length, IfOk, IfSome, IsTrue};
 ghost use Rattle.std.specs.Option.{option_map};
 ghost use Rattle.formula.specs.Pool.{AllBelow, Grows};
-ghost use Rattle.vcg_top.specs.FirstForm.{assertions_of, assignments as assignments_of, body_of, card_heading as card_heading_of, deck_of, first_deck, headed_deck, is_end as end};
+ghost use Rattle.vcg_top.specs.FirstForm.{assertions_of, assignments as assignments_of, body_of, card_heading as card_heading_of, deck_of, spelled_deck, headed_deck, is_end as end};
 ghost use Rattle.vcg_top.specs.Decks.{assertions_in, deck_in};
 
 use crate::assignment::{Assigned, assignment};
@@ -187,7 +187,7 @@ pub(crate) fn first_form(
     pool: &mut TermPool,
     bytes: &[u8],
 ) -> Result<Option<FirstDeck>, NoMemory>
-    ensures value { IfOk result (λ o. option_map (deck_in pool.new) o ≡ first_deck bytes.now) }
+    ensures value { IfOk result (λ o. option_map (deck_in pool.new) o ≡ spelled_deck bytes.now) }
     ensures input { IfOk result (λ o. IfSome o (λ d. AllBelow (length pool.new) d.input)) }
     ensures output { IfOk result (λ o. IfSome o (λ d. AllBelow (length pool.new) d.output)) }
     ensures short { IfOk result (λ o. IfSome o (λ d. length d.body ≤ 2)) }

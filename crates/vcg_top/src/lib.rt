@@ -2,7 +2,9 @@
 #![tactic(auto)]
 
 mod assignment;
+mod call;
 mod check;
+mod deck_text;
 mod evaluation;
 mod expression;
 mod first_form;
@@ -11,8 +13,16 @@ mod heading;
 mod hypotheses;
 mod numbering;
 mod notes;
+mod path;
 mod plain;
 mod spelling;
 mod splitting;
 mod statement;
 mod walk;
+mod reading;
+mod spelling;
+mod splitting;
+mod status;
+
+pub use call::vcg;
+pub use status::Status;
