@@ -8,7 +8,8 @@ use Rattle.formula.specs.Atoms.{same_bytes, starts}
 use Rattle.formula.specs.Pool.{AllBelow, Grows, IsIn, tree_of}
 use Rattle.vcg_top.specs.FirstForm.{when, is_blank, is_separator, plain_term, terms_from, terms_of, note_of}
 use Rattle.vcg_top.specs.Drafts.{trees_in}
-use Rattle.vcg_top.proofs.Drafted.{AllBelow-Grows, trees_in-Grows}
+use Rattle.formula.proofs.Grown.{AllBelow-Grows}
+use Rattle.vcg_top.proofs.Drafted.{trees_in-Grows}
 
 AllBelow-append : (n : ℕ) (ids : List TermId) (id : TermId) → AllBelow n ids → id.place < n → AllBelow n (ids ++ id ∷ [])
 AllBelow-append n [] id h k = (k, tt)

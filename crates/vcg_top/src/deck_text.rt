@@ -1,6 +1,5 @@
 // The conditions of the text of a deck.
-ghost use Rattle.std.specs.Prelude.{◌≡◌, List, IfOk, IfSome};
-ghost use Rattle.formula.specs.declared.node.Node.{Node};
+ghost use Rattle.std.specs.Prelude.{◌≡◌, IfOk, IfSome};
 ghost use Rattle.std.specs.Option.{option_map};
 ghost use Rattle.std.specs.List.{All};
 ghost use Rattle.event_text.specs.Conditions.{IsConditionIn};
@@ -33,9 +32,8 @@ fn number_path(
     deck: &FirstDeck,
     path: Path,
 ) -> Result<Option<Conditions>, NoMemory>
-    ghost before: { List Node }
-    requires { IsPathOf before pool deck.now path.hyps.items path.checks.items }
-    ensures value { IfOk result (λ o. option_map condition_trees_of o ≡ option_map conditions_of (within_limit (deck_in before deck.now))) }
+    requires { IsPathOf pool deck.now path.hyps.items path.checks.items }
+    ensures value { IfOk result (λ o. option_map condition_trees_of o ≡ option_map conditions_of (within_limit (deck_in pool deck.now))) }
     ensures known { IfOk result (λ o. IfSome o (λ c. All (IsConditionIn c.pool) c.conditions)) }
 {
     let Path { mut hyps, checks } = path;

@@ -4,7 +4,8 @@ use Rattle.formula.specs.Tree.{Tree}
 use Rattle.formula.specs.Pool.{AllBelow}
 use Rattle.vcg_top.specs.FirstForm.{when, note_of}
 use Rattle.vcg_top.specs.Drafts.{trees_in}
-use Rattle.vcg_top.proofs.Drafted.{AllBelow-Grows, trees_in-Grows}
+use Rattle.formula.proofs.Grown.{AllBelow-Grows}
+use Rattle.vcg_top.proofs.Drafted.{trees_in-Grows}
 use Rattle.vcg_top.proofs.first_form.assertions.Goals as goal
 
 pub returns-clause-value : goal.returns-clause-value
