@@ -5,12 +5,7 @@ use std::alloc::Global;
 use std::test::Fail;
 use vcg_top::{Status, vcg};
 
-fn source_of(
-    alloc: Global,
-    deck: &[u8],
-    fails: &[u64],
-    most: usize,
-) -> Result<MemSource, Fail> {
+fn source_of(alloc: Global, deck: &[u8], fails: &[u64], most: usize) -> Result<MemSource, Fail> {
     Ok(MemSource::slow(alloc, deck, fails, most.max(1)).map_err(|_| "no memory")?)
 }
 
@@ -41,7 +36,10 @@ fn the_text_is_the_same_at_every_pace(rt: HostRuntime) -> Result<(), Fail> {
         assert_eq!(rt; sink.bytes(), INC_TEXT);
         let mut source = source_of(alloc, OTHER, &[], most)?;
         let mut sink = sink_of(alloc, &[], most)?;
-        assert_eq!(rt; call(alloc, &["vc"], &mut source, &mut sink)?, Status::Refused);
+        assert_eq!(rt;
+            call(alloc, &["vc"], &mut source, &mut sink)?,
+            Status::Refused
+        );
         assert_eq!(rt; sink.bytes(), OTHER_TEXT);
     }
     Ok(())
@@ -88,7 +86,10 @@ fn a_failing_write_leaves_a_front_part(rt: HostRuntime) -> Result<(), Fail> {
     for k in 1..51 {
         let mut source = source_of(alloc, INC, &[], 10_000)?;
         let mut sink = sink_of(alloc, &[k], 1)?;
-        assert_eq!(rt; call(alloc, &["vc"], &mut source, &mut sink)?, Status::WriteFault);
+        assert_eq!(rt;
+            call(alloc, &["vc"], &mut source, &mut sink)?,
+            Status::WriteFault
+        );
         assert_eq!(rt; sink.bytes().len() as u64, k - 1);
         assert!(rt; INC_TEXT.starts_with(sink.bytes()));
         assert_eq!(rt; sink.faults(), 1);
