@@ -8,8 +8,8 @@ use Rattle.std.specs.declared.option.Option.{Option}
 use Rattle.std.specs.declared.option.Option.TheVariants.{Some, None}
 use Rattle.vcg_top.specs.declared.deck_text.Conditions.{Conditions}
 use Rattle.vcg_top.specs.Answers.{most_read, reply, reply_to, conditions_text}
-use Rattle.vcg_top.specs.Conditions.{conditions_of}
-use Rattle.vcg_top.specs.FirstForm.{Deck, first_deck, all_cards, deck_of}
+use Rattle.vcg_top.specs.FirstForm.{Deck, all_cards, deck_of, when}
+use Rattle.vcg_top.specs.Conditions.{conditions_of, first_deck, within_limit}
 use Rattle.vcg_top.specs.Found.{condition_trees_of}
 use Rattle.vcg_top.specs.Splitting.{split}
 
@@ -17,7 +17,7 @@ use Rattle.vcg_top.specs.Splitting.{split}
 too_long : (bytes : List ℕ) → 1048576 < length bytes → first_deck bytes ≡ None
 too_long bytes h =
     let e : nat_le (length bytes) 1048576 ≡ false = lt-leb (length bytes) 1048576 h in
-    ap (λ b. if b && all_cards (split (codes "\n") bytes) then deck_of (split (codes "\n") bytes) else None) e
+    ap (λ b. when (if b && all_cards (split (codes "\n") bytes) then deck_of (split (codes "\n") bytes) else None) within_limit) e
 
 front : (n : ℕ) (bytes : List ℕ) → 1048576 < n → ((nat_le (length bytes) n ≡ true) × (length bytes ≤ n)) ⊎ ((nat_le (length bytes) n ≡ false) × (n < length bytes)) → first_deck (take n bytes) ≡ first_deck bytes
 front n bytes h (inl short) = ap first_deck (take_all n bytes short.1)

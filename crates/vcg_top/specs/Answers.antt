@@ -7,8 +7,8 @@ use Rattle.fort_syntax.specs.declared.rule.Rule.TheVariants.{NotBuilt}
 use Rattle.event_text.specs.Conditions.{ConditionTree}
 use Rattle.event_text.specs.EventText.{event_text}
 use Rattle.event_text.specs.declared.marks.Marks.{Marks}
-use Rattle.vcg_top.specs.Conditions.{conditions_of}
-use Rattle.vcg_top.specs.FirstForm.{Deck, first_deck}
+use Rattle.vcg_top.specs.Conditions.{conditions_of, first_deck}
+use Rattle.vcg_top.specs.FirstForm.{Deck}
 
 -- the one word `vc`
 abbrev pub IsVc : {A : Type 0} → List (String A) → Type 0

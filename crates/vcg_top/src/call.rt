@@ -7,7 +7,7 @@ ghost use Rattle.event_text.specs.Conditions.{IsConditionIn};
 ghost use Rattle.event_text.specs.Sending.{AppendsPart};
 ghost use Rattle.fort_syntax.specs.FaultLine.{fault_line};
 ghost use Rattle.vcg_top.specs.Answers.{IsVc, conditions_text, most_read, not_built, reply, unmarked as no_marks};
-ghost use Rattle.vcg_top.specs.FirstForm.{first_deck};
+ghost use Rattle.vcg_top.specs.Conditions.{first_deck};
 ghost use Rattle.vcg_top.specs.Found.{condition_trees_of};
 ghost use Rattle.vcg_top.specs.declared.status.Status.TheVariants.{Done, Refused, Usage, ReadFault, WriteFault, NoMemory as Starved};
 

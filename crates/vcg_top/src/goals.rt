@@ -1,7 +1,7 @@
 // The goals of the checks of an assignment.
-ghost use Rattle.std.specs.Prelude.{◌≡◌, ◌≤◌, [], ◌∷◌, ◌++◌, length, IfOk, OnOk};
+ghost use Rattle.std.specs.Prelude.{◌≡◌, ◌≤◌, [], ◌∷◌, ◌++◌, length, pos, IfOk, OnOk};
 ghost use Rattle.fort_syntax.specs.declared.condition.Kind.TheVariants.{DefinedCheck, RangeCheck};
-ghost use Rattle.formula.specs.Tree.{symbol as symbol_tree};
+ghost use Rattle.formula.specs.Tree.{num, symbol as symbol_tree};
 ghost use Rattle.formula.specs.Pool.{Grows, IsIn, tree_of};
 ghost use Rattle.formula.specs.declared.function.BuiltIn.TheVariants.{AtMost};
 ghost use Rattle.vcg_top.specs.Conditions.{binary as binary_tree, check as check_tree, defined, in_range, least as least_tree, greatest as greatest_tree};
@@ -23,6 +23,15 @@ pub(crate) fn symbol(pool: &mut TermPool, bytes: &[u8]) -> Result<TermId, NoMemo
         unreachable!()
     };
     pool.symbol(word)
+}
+
+/// The term of a constant.
+pub(crate) fn constant(pool: &mut TermPool, n: u64) -> Result<TermId, NoMemory>
+    ensures grows { Grows pool.old pool.new }
+    ensures id { IfOk result (λ id. IsIn pool.new id) }
+    ensures tree { IfOk result (λ id. tree_of pool.new id ≡ num (pos n)) }
+{
+    pool.number(i128::from(n))
 }
 
 /// The term of the least integer.
