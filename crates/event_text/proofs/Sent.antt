@@ -73,6 +73,14 @@ AppendsPart-rest a b c p q bytes at h k =
     subst (λ bs. AppendsPart a c (p ++ bs)) (take-append-drop at bytes)
     (AppendsPart-after a b c p q (take at bytes) (drop at bytes) h (AppendsPart-more b c q (drop at bytes) k))
 
+-- from an empty page, where no write has failed and nothing waits
+pub Goes-whole : (w v : Option (List ℕ)) (m n : ℕ) (old new : Out) (bytes : List ℕ) → old ≡ record { page = []; failed = false } → new.failed ≡ false → new.page ≡ []
+    → Goes w v m n old new bytes → Appends w v bytes
+Goes-whole w v m n old new bytes e f p h =
+    let s : Sends w v [] [] bytes = subst (λ q. Sends w v [] q bytes) p (subst (λ b. Moves false b w v m n [] new.page bytes) f
+    (subst (λ o. Moves o.failed new.failed w v m n o.page new.page bytes) e h.moves)) in
+    subst (Appends w v) (sym (append-nil s.0) ∙ sym s.2) s.1
+
 -- where one has
 pub Goes-part : (w v : Option (List ℕ)) (m n : ℕ) (old new : Out) (bytes : List ℕ) → old ≡ record { page = []; failed = false } → new.failed ≡ true
     → Goes w v m n old new bytes → AppendsPart w v bytes × Rose m n

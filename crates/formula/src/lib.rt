@@ -37,7 +37,7 @@ pub use head::{Head, head_of};
 pub use node::{Node, TermId};
 pub use pool::TermPool;
 pub use reader::read_term;
-pub use tokens::{Placed, Token, next_token};
 pub use substitution::{Binding, substitute};
+pub use tokens::{Placed, Token, next_token};
 pub use value::{Cell, Value};
 pub use word::Word;

@@ -1,5 +1,5 @@
 -- The rules of cards: on the length of a deck, bytes, labels, continuation cards and note cards.
-use Rattle.std.specs.Prelude.{ℕ, ◌+◌, ◌==◌, ◌&&◌, ◌||◌, not, nat_le, nat_lt, Bool, true, false, if◌then◌else◌, List, [], ◌∷◌, length, take, Option, Some, None}
+use Rattle.std.specs.Prelude.{ℕ, ◌+◌, ◌==◌, ◌&&◌, not, nat_le, nat_lt, Bool, true, false, if◌then◌else◌, List, [], ◌∷◌, length, take, Option, Some, None}
 use Rattle.std.specs.List.{list_all}
 use Rattle.fort_syntax.specs.Cards.{Card, cards_of, column, kind_of, is_blank, label_field, is_label, is_plus}
 use Rattle.fort_syntax.specs.declared.cards.CardKind.{CardKind}

@@ -24,7 +24,10 @@ pub enum Entry {
         text: List<u8>,
     },
     /// A note: its text in upper case.
-    Note { card: u32, text: List<u8> },
+    Note {
+        card: u32,
+        text: List<u8>,
+    },
 }
 
 /// The statements and notes of a deck in the order of their cards.

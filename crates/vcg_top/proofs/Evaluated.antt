@@ -55,11 +55,11 @@ operation_adds p0 p1 p2 p3 bs card op a b c0 c1 c2 c3 left right h first l secon
     let same : (evaluated (bound_in p1 bs) card b).checks ≡ eb.checks = ap (λ (env : List Bound). (evaluated env card b).checks) (bound_in-Grows p0 p1 bs first.grows h) in
     let later : Adds p1 p2 c1 c2 eb.checks = subst (λ (cs : List CheckTree). Adds p1 p2 c1 c2 cs) same second in
     let ranged : Adds p2 p3 c2 c3 (check RangeCheck card (in_range (binary (function_of op) ea.term eb.term)) ∷ []) =
-      subst (λ (t : Tree). Adds p2 p3 c2 c3 (check RangeCheck card (in_range (binary (function_of op) ea.term t)) ∷ [])) r
-      (subst (λ (t : Tree). Adds p2 p3 c2 c3 (check RangeCheck card (in_range (binary (function_of op) t right)) ∷ [])) l last) in
+    subst (λ (t : Tree). Adds p2 p3 c2 c3 (check RangeCheck card (in_range (binary (function_of op) ea.term t)) ∷ [])) r
+    (subst (λ (t : Tree). Adds p2 p3 c2 c3 (check RangeCheck card (in_range (binary (function_of op) t right)) ∷ [])) l last) in
     subst (λ (cs : List CheckTree). Adds p0 p3 c0 c3 cs)
     (append_assoc ea.checks eb.checks (check RangeCheck card (in_range (binary (function_of op) ea.term eb.term)) ∷ [])
-      ∙ sym (ap (λ (e : Evaluated). e.checks) (evaluated-Operation (bound_in p0 bs) card op a b)))
+    ∙ sym (ap (λ (e : Evaluated). e.checks) (evaluated-Operation (bound_in p0 bs) card op a b)))
     (Adds-trans p0 p2 p3 c0 c2 c3 _ _ (Adds-trans p0 p1 p2 c0 c1 c2 _ _ first later) ranged)
 
 pub operation_tree : (p0 : List Node) (bs : List Binding) (card : ℕ) (op : BinOp) (a b : Expression) (t left right : Tree) → t ≡ binary (function_of op) left right

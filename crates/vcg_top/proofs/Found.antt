@@ -38,6 +38,6 @@ pub AreBound-found : (pool : List Node) (bs : List Binding) (name : List ℕ) (c
 AreBound-found pool [] name c h e = absurd (let no : ⊥ = cc in no)
 AreBound-found pool (b ∷ rest) name c h e =
     elim (branch_Some (same_bytes b.name name) b c (found rest name) e) [
-      inl same ↦ subst (λ (d : Binding). IsIn pool d.value × IsIn pool d.entry) same h.0
-    | inr later ↦ AreBound-found pool rest name c h.1 later
+      | inl same ↦ subst (λ (d : Binding). IsIn pool d.value × IsIn pool d.entry) same h.0
+      | inr later ↦ AreBound-found pool rest name c h.1 later
     ]

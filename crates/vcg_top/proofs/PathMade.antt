@@ -35,16 +35,18 @@ path_made p1 p2 p3 p4 d bs last hyps c0 c1 c2 card input output bound entered hy
     let later : bound_in p2 bs ≡ entered_all d.dummies = bound_in-Grows p1 p2 bs g12 bound ∙ entered in
     let final : bound_in p3 last ≡ (walked (entered_all d.dummies) 4 d.body).bound = values ∙ ap (λ (v : List Bound). (walked v 4 d.body).bound) later in
     let both = Adds-trans p2 p3 p4 c0 c1 c2 _ _ walked_checks outputs in
-    let goals : trees_in p3 d.output ≡ trees_in p4 d.output = trees_in-Grows p1 p3 d.output g13 output ∙ sym (trees_in-Grows p1 p4 d.output g14 output) in
-    (record {
-      known = AllBelow-Grows p2 p4 hyps g24 hypos.known;
-      checked = outputs.known;
-      hypotheses = trees_in-Grows p2 p4 hyps g24 hypos.known ∙ hypos.is
-        ∙ (λ i. hypotheses_of (entered i) (sym (trees_in-Grows p1 p4 d.input g14 input) i));
-      goals = both.is
-        ∙ ap (λ (l : List Check). checks_in p2 l ++ ((walked (bound_in p2 bs) 4 d.body).checks ++ map (output_check (bound_in p3 last) card) (trees_in p3 d.output))) e0
-        ∙ (λ i. (walked (later i) 4 d.body).checks ++ map (output_check (final i) (at i)) (goals i));
-    }, g14)
+    let goals : trees_in p3 d.output ≡ trees_in p4 d.output = trees_in-Grows p1 p3 d.output g13 output ∙ sym (trees_in-Grows p1 p4 d.output g14 output) in (
+      record {
+        known = AllBelow-Grows p2 p4 hyps g24 hypos.known;
+        checked = outputs.known;
+        hypotheses = trees_in-Grows p2 p4 hyps g24 hypos.known ∙ hypos.is
+            ∙ (λ i. hypotheses_of (entered i) (sym (trees_in-Grows p1 p4 d.input g14 input) i));
+        goals = both.is
+            ∙ ap (λ (l : List Check). checks_in p2 l ++ ((walked (bound_in p2 bs) 4 d.body).checks ++ map (output_check (bound_in p3 last) card) (trees_in p3 d.output))) e0
+            ∙ (λ i. (walked (later i) 4 d.body).checks ++ map (output_check (final i) (at i)) (goals i));
+      },
+      g14,
+    )
 
 -- the deck is the same as terms are added
 pub deck_in-Grows : (old new : List Node) (d : FirstDeck) → Grows old new → AllBelow (length old) d.input → AllBelow (length old) d.output → deck_in new d ≡ deck_in old d
@@ -59,7 +61,7 @@ conditions_trees pool unit k hyps [] = refl
 conditions_trees pool unit k hyps (c ∷ rest) =
     ap (λ (l : List ConditionTree). condition_tree pool (condition_at unit k hyps c) ∷ l)
     (conditions_trees pool unit (k + 1) (hyps ++ c.goal ∷ []) rest
-      ∙ ap (λ (ts : List Tree). numbered unit (k + 1) ts (checks_in pool rest)) (trees_in-append pool hyps c.goal))
+    ∙ ap (λ (ts : List Tree). numbered unit (k + 1) ts (checks_in pool rest)) (trees_in-append pool hyps c.goal))
 
 pub conditions_known : (pool : List Node) (unit : List ℕ) (k : ℕ) (hyps : List TermId) (cs : List Check) → AllBelow (length pool) hyps → AreChecks pool cs
     → All (IsConditionIn pool) (conditions_from unit k hyps cs)
@@ -82,7 +84,7 @@ pub conditions_made : (pool : List Node) (d : FirstDeck) (hyps : List TermId) (c
 conditions_made pool d hyps cs made p few e =
     let short : length (checks_of (deck_in pool d)) ≤ 100000 = omega (arith, count_of pool d hyps cs p) in
     let same : map (condition_tree pool) made ≡ conditions_of (deck_in pool d) =
-      ap (map (condition_tree pool)) e ∙ conditions_trees pool d.unit 1 hyps cs ∙ (λ i. numbered d.unit 1 (p.hypotheses i) (p.goals i)) in
+    ap (map (condition_tree pool)) e ∙ conditions_trees pool d.unit 1 hyps cs ∙ (λ i. numbered d.unit 1 (p.hypotheses i) (p.goals i)) in
     ap Some same ∙ sym (ap (λ (b : Bool). option_map conditions_of (if b then Some (deck_in pool d) else None)) (le-leb (length (checks_of (deck_in pool d))) 100000 short))
 
 -- a path with more has none

@@ -62,9 +62,9 @@ pub stated_step : (p0 p1 p2 : List Node) (bs : List Binding) (ids rest : List Te
 stated_step p0 p1 p2 bs ids rest first id terms0 terms1 terms2 e below h known g k t pushed later =
     let one : AddsTerms p0 p1 terms0 terms1 (stated (bound_in p0 bs) (tree_of p0 first) ∷ []) = AddsTerms-one p0 p1 terms0 terms1 id _ g known k t pushed in
     let others : map (stated (bound_in p1 bs)) (trees_in p1 rest) ≡ map (stated (bound_in p0 bs)) (trees_in p0 rest) =
-      λ i. map (stated (bound_in-Grows p0 p1 bs g h i)) (trees_in-Grows p0 p1 rest g (rest_below (length p0) ids rest first e below) i) in
+    λ i. map (stated (bound_in-Grows p0 p1 bs g h i)) (trees_in-Grows p0 p1 rest g (rest_below (length p0) ids rest first e below) i) in
     let all : AddsTerms p0 p2 terms0 terms2 (stated (bound_in p0 bs) (tree_of p0 first) ∷ map (stated (bound_in p0 bs)) (trees_in p0 rest)) =
-      AddsTerms-trans p0 p1 p2 terms0 terms1 terms2 _ _ one (subst (λ (ts : List Tree). AddsTerms p1 p2 terms1 terms2 ts) others later) in
+    AddsTerms-trans p0 p1 p2 terms0 terms1 terms2 _ _ one (subst (λ (ts : List Tree). AddsTerms p1 p2 terms1 terms2 ts) others later) in
     subst (λ (xs : List TermId). AddsTerms p0 p2 terms0 terms2 (map (stated (bound_in p0 bs)) (trees_in p0 xs))) (sym e) all
 
 -- the same, where the first was read as an item

@@ -36,8 +36,8 @@ pub enter_step : (p0 p1 p2 : List Node) (dummies rest : List (List ℕ)) (first 
 enter_step p0 p1 p2 dummies rest first id bs0 bs1 bs2 e h g t pushed later =
     later
     ∙ ap (λ (l : List Bound). l ++ entered_all rest)
-      (ap (bound_in p1) pushed ∙ bound_in-append p1 bs0 (bound_at first id)
-        ∙ (λ i. bound_in-Grows p0 p1 bs0 g h i ++ record { name = first; value = t i; entry = t i } ∷ []))
+    (ap (bound_in p1) pushed ∙ bound_in-append p1 bs0 (bound_at first id)
+    ∙ (λ i. bound_in-Grows p0 p1 bs0 g h i ++ record { name = first; value = t i; entry = t i } ∷ []))
     ∙ append_assoc (bound_in p0 bs0) (entered first ∷ []) (entered_all rest)
     ∙ ap (λ (l : List (List ℕ)). bound_in p0 bs0 ++ entered_all l) (sym e)
 
@@ -58,7 +58,7 @@ sorts_step p0 p1 p2 bs rest first id terms0 terms1 terms2 e h known g k t pushed
     let one : AddsTerms p0 p1 terms0 terms1 (sort_of (bound_of p0 first) ∷ []) = AddsTerms-one p0 p1 terms0 terms1 id _ g known k t pushed in
     let others : map sort_of (bound_in p1 rest) ≡ map sort_of (bound_in p0 rest) = ap (map sort_of) (bound_in-Grows p0 p1 rest g (rest_bound p0 bs rest first e h)) in
     let all : AddsTerms p0 p2 terms0 terms2 (sort_of (bound_of p0 first) ∷ map sort_of (bound_in p0 rest)) =
-      AddsTerms-trans p0 p1 p2 terms0 terms1 terms2 _ _ one (subst (λ (ts : List Tree). AddsTerms p1 p2 terms1 terms2 ts) others later) in
+    AddsTerms-trans p0 p1 p2 terms0 terms1 terms2 _ _ one (subst (λ (ts : List Tree). AddsTerms p1 p2 terms1 terms2 ts) others later) in
     subst (λ (l : List Binding). AddsTerms p0 p2 terms0 terms2 (map sort_of (bound_in p0 l))) (sym e) all
 
 -- ---- the checks of the output assertion
@@ -92,7 +92,7 @@ outputs_added p0 p1 card env start ids ts cs after none s h e =
       grows = s.grows;
       known = subst (λ (l : List Check). AreChecks p1 l) (sym e) (AreChecks-outputs p1 card cs ids (AreChecks-Grows p0 p1 cs s.grows h) s.known);
       is = ap (checks_in p1) e ∙ checks_in-append p1 cs (map (output_of card) ids)
-        ∙ (λ i. checks_in-Grows p0 p1 cs s.grows h i ++ outputs_in p1 card env ids ts are i);
+          ∙ (λ i. checks_in-Grows p0 p1 cs s.grows h i ++ outputs_in p1 card env ids ts are i);
     }
 
 -- ---- the hypotheses
@@ -104,8 +104,8 @@ pub hypotheses_added : (p0 p1 p2 p3 : List Node) (bs : List Binding) (ids t0 t1 
 hypotheses_added p0 p1 p2 p3 bs ids t0 t1 t2 t3 h below e first second third =
     let g2 : Grows p0 p2 = Grows-trans p0 p1 p2 first.grows second.grows in
     let sorts : AddsTerms p1 p2 t1 t2 (map sort_of (bound_in p0 bs)) =
-      subst (λ (env : List Bound). AddsTerms p1 p2 t1 t2 (map sort_of env)) (bound_in-Grows p0 p1 bs first.grows h) second in
+    subst (λ (env : List Bound). AddsTerms p1 p2 t1 t2 (map sort_of env)) (bound_in-Grows p0 p1 bs first.grows h) second in
     let terms : AddsTerms p2 p3 t2 t3 (map (stated (bound_in p0 bs)) (trees_in p0 ids)) =
-      subst (λ (ts : List Tree). AddsTerms p2 p3 t2 t3 ts) (λ i. map (stated (bound_in-Grows p0 p2 bs g2 h i)) (trees_in-Grows p0 p2 ids g2 below i)) third in
+    subst (λ (ts : List Tree). AddsTerms p2 p3 t2 t3 ts) (λ i. map (stated (bound_in-Grows p0 p2 bs g2 h i)) (trees_in-Grows p0 p2 ids g2 below i)) third in
     subst (λ (t : List TermId). AddsTerms p0 p3 t t3 (hypotheses_of (bound_in p0 bs) (trees_in p0 ids))) e
     (AddsTerms-trans p0 p2 p3 t0 t2 t3 _ _ (AddsTerms-trans p0 p1 p2 t0 t1 t2 _ _ first sorts) terms)

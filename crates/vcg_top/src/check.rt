@@ -1,6 +1,6 @@
 // The values of the dummies along the path, and the checks on it.
-use fort_syntax::{Kind, Name};
 use formula::TermId;
+use fort_syntax::{Kind, Name};
 
 /// A dummy with the term of its value, and of its value at entry.
 #[derive(Clone, Copy, Debug)]

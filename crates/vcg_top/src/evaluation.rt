@@ -7,10 +7,10 @@ ghost use Rattle.vcg_top.specs.declared.expression.Expression.{Expression};
 ghost use Rattle.vcg_top.specs.Drafts.{found, AreBound, AreChecks, Adds, bound_in};
 
 use crate::check::{Binding, Check};
+use crate::expression::Expression;
 use crate::goals::{check_defined, check_range, constant};
 use edge_io::NoMemory;
 use formula::{BuiltIn, TermId, TermPool, Word};
-use crate::expression::Expression;
 use fort_syntax::{BinOp, Name};
 
 /// The binding of a name, if there is one.

@@ -104,11 +104,7 @@ fn sort(pool: &mut TermPool, entry: TermId) -> Result<TermId, NoMemory>
 }
 
 // Adds the sorts of the dummies.
-fn sorts(
-    pool: &mut TermPool,
-    bindings: &[Binding],
-    terms: &mut Vec<TermId>,
-) -> Result<(), NoMemory>
+fn sorts(pool: &mut TermPool, bindings: &[Binding], terms: &mut Vec<TermId>) -> Result<(), NoMemory>
     requires bound { AreBound pool.old bindings.now }
     requires known { AllBelow (length pool.old) terms.old.items }
     ensures { OnOk result (AddsTerms pool.old pool.new terms.old.items terms.new.items (map sort_of (bound_in pool.old bindings.now))) }

@@ -8,8 +8,7 @@ use Rattle.vcg_top.proofs.hypotheses.+sorts.Goals as goal
 pub sorts-requires : goal.sorts-requires
 sorts-requires t c =
     let parts = first_rest_item c.args.bindings.now c.first-item.result c.in-len1-up.len_at_least c.first-item.is in
-    let one = AddsTerms-one _ _ _ _ _ _ c.sort.ensures.grows c.requires.known c.in_ok-id-in-len1-up.ensures.id c.in_ok-id-in-len1-up.ensures.tree c.in_ok-push-in-len1-up.ensures in
-    (
+    let one = AddsTerms-one _ _ _ _ _ _ c.sort.ensures.grows c.requires.known c.in_ok-id-in-len1-up.ensures.id c.in_ok-id-in-len1-up.ensures.tree c.in_ok-push-in-len1-up.ensures in (
       grind (arith, common_steps, c.decreases, c.in-len1-up.len_at_least),
       (AreBound-Grows _ _ _ c.sort.ensures.grows (rest_bound c.args.pool.now c.args.bindings.now _ c.first-item.result parts c.requires.bound), one.known),
     )

@@ -6,5 +6,5 @@ abbrev pub invariant-loop-check : goal.invariant-loop-check
 invariant-loop-check l = record {
   number : l.next ≡ l.fn.number + l.check-index;
   same : l.conditions.items ++ conditions_from l.unit l.next l.hyps.items (drop l.check-index l.checks)
-    ≡ l.fn.conditions.items ++ conditions_from l.unit l.fn.number l.fn.hyps.items l.checks;
+      ≡ l.fn.conditions.items ++ conditions_from l.unit l.fn.number l.fn.hyps.items l.checks;
 }

@@ -30,7 +30,7 @@ returns c =
     let adds = subst (λ (l : List Assigned). Adds second third checks walked_checks (walked env 4 l).checks) c.as_slice-body.ensures c.in_ok-walk.ensures.adds in
     let card = ap (λ (l : List Assigned). 4 + length l) c.as_slice-body.ensures in
     let outputs = subst (λ (l : List TermId). Adds third last walked_checks all_checks (map (output_check (bound_in third c.walk.new.bindings) (4 + length c.as_slice-body.result.now)) (trees_in third l)))
-      c.as_slice-output.ensures c.in_ok-check_outputs.ensures in
+    c.as_slice-output.ensures c.in_ok-check_outputs.ensures in
     let made = path_made start second third last c.args.deck.now c.args.bindings.now c.walk.new.bindings c.in_ok-hyps.hyps.items checks walked_checks all_checks _
-      c.requires.input c.requires.output c.requires.bound c.requires.entered hypos c.new-checks.ensures.items values adds card outputs in
+    c.requires.input c.requires.output c.requires.bound c.requires.entered hypos c.new-checks.ensures.items values adds card outputs in
     record { path = made.0; grows = made.1 }

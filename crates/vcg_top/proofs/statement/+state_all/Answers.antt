@@ -8,8 +8,7 @@ use Rattle.vcg_top.proofs.statement.+state_all.Goals as goal
 pub state_all-requires : goal.state_all-requires
 state_all-requires t c =
     let parts = first_rest c.args.ids.now (record { place = 0 }) c.in-len1-up.len_at_least in
-    let one = AddsTerms-one _ _ _ _ _ _ c.state.ensures.grows c.requires.known c.in_ok-id-in-len1-up.ensures.id c.in_ok-id-in-len1-up.ensures.tree c.in_ok-push-in-len1-up.ensures in
-    (
+    let one = AddsTerms-one _ _ _ _ _ _ c.state.ensures.grows c.requires.known c.in_ok-id-in-len1-up.ensures.id c.in_ok-id-in-len1-up.ensures.tree c.in_ok-push-in-len1-up.ensures in (
       grind (arith, common_steps, c.decreases, c.in-len1-up.len_at_least),
       (
         AreBound-Grows _ _ _ c.state.ensures.grows c.requires.bound,
