@@ -1,5 +1,5 @@
 -- Bindings and checks keep their trees as the pool grows.
-use Rattle.std.proofs.Common.{◌≡◌, ℕ, ◌<◌, ◌+◌, List, [], ◌∷◌, ◌++◌, length, map, refl, sym, ap, ◌∙◌, arith, append_assoc}
+use Rattle.std.proofs.Common.{◌≡◌, ℕ, ◌<◌, List, [], ◌∷◌, ◌++◌, length, refl, ap, ◌∙◌, arith, append_assoc}
 use Rattle.std.proofs.lemmas.Grind.{common_steps}
 use Rattle.formula.specs.declared.node.Node.{Node}
 use Rattle.formula.specs.declared.node.TermId.{TermId}
@@ -8,8 +8,8 @@ use Rattle.formula.specs.Pool.{AllBelow, Grows, IsIn, tree_of}
 use Rattle.formula.proofs.Grown.{AllBelow-Grows, Grows-trans, Grows-refl, IsIn-Grows, tree_of-Grows}
 use Rattle.vcg_top.specs.declared.check.Binding.{Binding}
 use Rattle.vcg_top.specs.declared.check.Check.{Check}
-use Rattle.vcg_top.specs.Conditions.{Bound, CheckTree, check}
-use Rattle.vcg_top.specs.Drafts.{bound_of, bound_in, check_of, checks_in, trees_in, AreBound, AreChecks, Adds, AddsTerms}
+use Rattle.vcg_top.specs.Conditions.{CheckTree, check}
+use Rattle.vcg_top.specs.Drafts.{bound_in, check_of, checks_in, trees_in, AreBound, AreChecks, Adds, AddsTerms}
 
 pub trees_in-Grows : (old new : List Node) (ids : List TermId) → Grows old new → AllBelow (length old) ids → trees_in new ids ≡ trees_in old ids
 trees_in-Grows old new [] g h = refl

@@ -1,10 +1,8 @@
 -- The checks of an operation, after those of its operands.
-use Rattle.std.proofs.Common.{◌≡◌, ℕ, pos, List, [], ◌∷◌, ◌++◌, refl, sym, ap, ◌∙◌, subst, append_assoc}
+use Rattle.std.proofs.Common.{◌≡◌, ℕ, pos, List, [], ◌∷◌, ◌++◌, sym, ap, ◌∙◌, subst, append_assoc}
 use Rattle.formula.specs.declared.node.Node.{Node}
-use Rattle.formula.specs.declared.node.TermId.{TermId}
 use Rattle.formula.specs.Tree.{Tree, num}
-use Rattle.formula.specs.Pool.{Grows, IsIn, tree_of}
-use Rattle.formula.proofs.Grown.{tree_of-Grows}
+use Rattle.formula.specs.Pool.{Grows}
 use Rattle.fort_syntax.specs.declared.dialect.BinOp.{BinOp}
 use Rattle.fort_syntax.specs.declared.condition.Kind.TheVariants.{DefinedCheck, RangeCheck}
 use Rattle.vcg_top.specs.declared.check.Binding.{Binding}
@@ -14,7 +12,7 @@ use Rattle.vcg_top.specs.declared.expression.Expression.TheOpen.{Expression-F}
 use Rattle.vcg_top.specs.declared.expression.Expression.TheViews.{rolls-Constant, rolls-Dummy, rolls-Operation}
 use Rattle.vcg_top.specs.declared.expression.Expression.TheFolds.{fold-roll-Expression}
 use Rattle.vcg_top.specs.Conditions.{Bound, CheckTree, Evaluated, check, evaluated, evaluated_step, value_in, defined, binary, function_of, in_range}
-use Rattle.vcg_top.specs.Drafts.{bound_in, AreBound, AreChecks, Adds}
+use Rattle.vcg_top.specs.Drafts.{bound_in, AreBound, Adds}
 use Rattle.vcg_top.proofs.Drafted.{bound_in-Grows, Adds-trans}
 
 -- ---- an expression by its form

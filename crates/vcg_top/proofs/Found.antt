@@ -5,7 +5,7 @@ use Rattle.formula.specs.Tree.{Tree, symbol}
 use Rattle.formula.specs.Atoms.{same_bytes}
 use Rattle.formula.specs.Pool.{IsIn, tree_of}
 use Rattle.vcg_top.specs.declared.check.Binding.{Binding}
-use Rattle.vcg_top.specs.Conditions.{Bound, value_in}
+use Rattle.vcg_top.specs.Conditions.{value_in}
 use Rattle.vcg_top.specs.Drafts.{bound_in, found, AreBound}
 
 -- the value of a binding, or the symbol itself

@@ -1,6 +1,5 @@
 -- The path of a deck, step by step, and its conditions.
-use Rattle.std.proofs.Common.{◌≡◌, ℕ, Bool, if◌then◌else◌, Option, Some, None, ◌+◌, ◌≤◌, ◌<◌, List, [], ◌∷◌, ◌++◌, length, map, refl, sym, ap, ◌∙◌, subst, arith}
-use Rattle.std.proofs.lemmas.Grind.{common_steps}
+use Rattle.std.proofs.Common.{◌≡◌, ℕ, Bool, if◌then◌else◌, Some, None, ◌+◌, ◌≤◌, ◌<◌, List, [], ◌∷◌, ◌++◌, length, map, refl, sym, ap, ◌∙◌, subst, arith}
 use Rattle.std.specs.List.{All}
 use Rattle.std.specs.Option.{option_map}
 use Rattle.std.proofs.lemmas.List.Elements.{All-nil, All-cons}
@@ -8,17 +7,16 @@ use Rattle.std.proofs.lemmas.Bool.{le-leb, lt-leb}
 use Rattle.formula.specs.declared.node.Node.{Node}
 use Rattle.formula.specs.declared.node.TermId.{TermId}
 use Rattle.formula.specs.Tree.{Tree}
-use Rattle.formula.specs.Pool.{AllBelow, Grows, IsIn, tree_of}
+use Rattle.formula.specs.Pool.{AllBelow, Grows}
 use Rattle.formula.proofs.Grown.{AllBelow-Grows, Grows-trans}
 use Rattle.fort_syntax.specs.declared.condition.Condition.{Condition}
 use Rattle.event_text.specs.Conditions.{ConditionTree, condition_tree, IsConditionIn}
 use Rattle.vcg_top.specs.declared.check.Binding.{Binding}
 use Rattle.vcg_top.specs.declared.check.Check.{Check}
 use Rattle.vcg_top.specs.declared.first_form.FirstDeck.{FirstDeck}
-use Rattle.vcg_top.specs.Conditions.{Bound, CheckTree, Walked, checks_of, conditions_of, within_limit, entered_all, hypotheses_of, numbered, output_check, path_checks, walked}
+use Rattle.vcg_top.specs.Conditions.{Bound, checks_of, conditions_of, within_limit, entered_all, hypotheses_of, numbered, output_check, walked}
 use Rattle.vcg_top.specs.Decks.{IsPathOf, deck_in}
-use Rattle.vcg_top.specs.FirstForm.{Deck}
-use Rattle.vcg_top.specs.Drafts.{Adds, AddsTerms, AreBound, AreChecks, bound_in, check_of, checks_in, condition_at, conditions_from, trees_in}
+use Rattle.vcg_top.specs.Drafts.{Adds, AddsTerms, AreBound, AreChecks, bound_in, checks_in, condition_at, conditions_from, trees_in}
 use Rattle.vcg_top.proofs.Drafted.{bound_in-Grows, trees_in-Grows, trees_in-append, AllBelow-append, Adds-trans}
 
 pub path_made : (p1 p2 p3 p4 : List Node) (d : FirstDeck) (bs last : List Binding) (hyps : List TermId) (c0 c1 c2 : List Check) (card : ℕ)

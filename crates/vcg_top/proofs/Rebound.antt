@@ -8,7 +8,7 @@ use Rattle.formula.specs.Pool.{IsIn, tree_of}
 use Rattle.vcg_top.specs.declared.check.Binding.{Binding}
 use Rattle.vcg_top.specs.declared.check.Check.{Check}
 use Rattle.vcg_top.specs.declared.assignment.Assigned.{Assigned}
-use Rattle.vcg_top.specs.Conditions.{Bound, CheckTree, assigned_in, evaluated, walked, with_value}
+use Rattle.vcg_top.specs.Conditions.{Bound, assigned_in, evaluated, walked, with_value}
 use Rattle.vcg_top.specs.Drafts.{bound_of, bound_in, rebound, AreBound, Adds}
 use Rattle.vcg_top.proofs.Drafted.{Adds-trans}
 

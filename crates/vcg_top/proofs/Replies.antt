@@ -1,5 +1,5 @@
 -- What is written for an input.
-use Rattle.std.proofs.Common.{◌≡◌, ◌≤◌, ◌<◌, ◌⊎◌, inl, inr, ℕ, List, length, take, ap, sym, ◌∙◌, refl, nat_le, ◌&&◌, if◌then◌else◌, Bool, true, false, codes, arith, IsSome, subst}
+use Rattle.std.proofs.Common.{◌≡◌, ◌≤◌, ◌<◌, ◌⊎◌, inl, inr, ℕ, List, length, take, ap, sym, ◌∙◌, refl, nat_le, ◌&&◌, if◌then◌else◌, true, false, codes, arith, IsSome, subst}
 use Rattle.std.proofs.lemmas.List.{take_all, length-take-le}
 use Rattle.std.proofs.lemmas.Bool.{lt-leb}
 use Rattle.std.proofs.lemmas.Bool.Decides.{leb_tells}

@@ -1,5 +1,5 @@
 -- Bindings and terms that are added one after the other.
-use Rattle.std.proofs.Common.{◌≡◌, ℕ, ◌+◌, ◌-◌, ◌<◌, ◌≤◌, List, [], ◌∷◌, ◌++◌, length, map, refl, sym, ap, ◌∙◌, subst, append_assoc}
+use Rattle.std.proofs.Common.{◌≡◌, ℕ, List, [], ◌∷◌, ◌++◌, length, map, refl, sym, ap, ◌∙◌, subst, append_assoc}
 use Rattle.formula.specs.declared.node.Node.{Node}
 use Rattle.formula.specs.declared.node.TermId.{TermId}
 use Rattle.formula.specs.Tree.{Tree}
@@ -10,7 +10,7 @@ use Rattle.vcg_top.specs.declared.check.Check.{Check}
 use Rattle.fort_syntax.specs.declared.condition.Kind.TheVariants.{OutputCheck}
 use Rattle.vcg_top.specs.Conditions.{Bound, CheckTree, bounds, hypotheses_of, cell_of, entered, entered_all, entry_of, output_check, sort_of, stated}
 use Rattle.vcg_top.specs.Drafts.{Adds, AddsTerms, AreBound, AreChecks, bound_in, bound_of, check_of, checks_in, output_of, trees_in}
-use Rattle.vcg_top.proofs.Drafted.{bound_in-Grows, trees_in-Grows, AreBound-Grows, AreChecks-Grows, checks_in-Grows, AddsTerms-one, AddsTerms-trans}
+use Rattle.vcg_top.proofs.Drafted.{bound_in-Grows, trees_in-Grows, AreChecks-Grows, checks_in-Grows, AddsTerms-one, AddsTerms-trans}
 
 -- ---- bindings
 

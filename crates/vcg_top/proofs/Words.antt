@@ -1,5 +1,5 @@
 -- Words of a call.
-use Rattle.std.proofs.Common.{◌≡◌, ◌≤◌, ◌<◌, ◌↔◌, Bool, true, false, ℕ, List, [], ◌∷◌, length, slice_index_or, refl, ap, sym, ◌∙◌, codes, arith, rules, IsTrue, nat_eq, string_bytes, subst}
+use Rattle.std.proofs.Common.{◌≡◌, ◌≤◌, ◌<◌, ◌↔◌, Bool, true, false, List, [], ◌∷◌, length, slice_index_or, refl, ap, sym, codes, arith, rules, IsTrue, nat_eq, string_bytes, subst}
 use Rattle.std.specs.Cmp.Lexicographic.{pointwise, told_text}
 use Rattle.std.specs.declared.string.String.{String}
 use Rattle.vcg_top.specs.Answers.{IsVc}

@@ -1,9 +1,9 @@
 -- The conditions of a deck of the first form, term by term.
-use Rattle.std.specs.Prelude.{ℕ, ℤ, pos, negsuc, ◌+◌, if◌then◌else◌, Bool, true, false, nat_le, Option, Some, None, List, [], ◌∷◌, ◌++◌, length, map, codes}
-use Rattle.formula.specs.declared.function.Func.TheVariants.{BuiltIn, Defined}
+use Rattle.std.specs.Prelude.{ℕ, pos, negsuc, ◌+◌, if◌then◌else◌, nat_le, Option, Some, None, List, [], ◌∷◌, ◌++◌, length, map, codes}
+use Rattle.formula.specs.declared.function.Func.TheVariants.{BuiltIn}
 use Rattle.formula.specs.declared.function.BuiltIn.{BuiltIn as Builtin}
 use Rattle.formula.specs.declared.function.BuiltIn.TheVariants.{And, Plus, Difference, Times, Quotient, AtMost, Defined as IsDefined, IntegerCell}
-use Rattle.formula.specs.Tree.{Tree, num, truth, symbol, old, apply, Row, none, more}
+use Rattle.formula.specs.Tree.{Tree, num, symbol, old, apply, none, more}
 use Rattle.formula.specs.Atoms.{same_bytes}
 use Rattle.formula.specs.Substitution.{substituted}
 use Rattle.fort_syntax.specs.declared.dialect.BinOp.{BinOp}

@@ -1,4 +1,4 @@
-use Rattle.std.proofs.Common.{◌≡◌, ◌∙◌, ap, sym, subst, is_some, true≢false}
+use Rattle.std.proofs.Common.{◌∙◌, ap, sym, subst, is_some, true≢false}
 use Rattle.std.specs.Io.KnownBytes.{Appends}
 use Rattle.event_text.specs.Sending.{AppendsPart}
 use Rattle.vcg_top.specs.Answers.{reply_to}

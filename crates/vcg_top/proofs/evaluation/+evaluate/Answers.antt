@@ -1,4 +1,4 @@
-use Rattle.std.proofs.Common.{◌≡◌, ◌+◌, List, [], ◌∷◌, ◌∙◌, sym, ap, subst, arith}
+use Rattle.std.proofs.Common.{◌≡◌, ◌+◌, List, ◌∙◌, sym, ap, subst, arith}
 use Rattle.formula.proofs.Grown.{tree_of-Grows}
 use Rattle.vcg_top.specs.declared.expression.Expression.{Expression}
 use Rattle.vcg_top.specs.Conditions.{CheckTree, Evaluated, evaluated}

@@ -1,4 +1,4 @@
-use Rattle.std.proofs.Common.{◌≡◌, ◌∙◌}
+use Rattle.std.proofs.Common.{◌∙◌}
 use Rattle.vcg_top.proofs.Found.{value_in-Some, value_in-None, AreBound-found}
 use Rattle.vcg_top.proofs.evaluation.value.Goals as goal
 

@@ -1,4 +1,4 @@
-use Rattle.formula.proofs.Grown.{Grows-trans, IsIn-Grows, tree_of-Grows}
+use Rattle.formula.proofs.Grown.{Grows-trans, tree_of-Grows}
 use Rattle.vcg_top.proofs.hypotheses.sort.Goals as goal
 
 pub returns-clause-tree : goal.returns-clause-tree

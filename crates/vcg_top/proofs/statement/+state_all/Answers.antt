@@ -1,8 +1,8 @@
-use Rattle.std.proofs.Common.{◌∙◌, arith}
+use Rattle.std.proofs.Common.{arith}
 use Rattle.std.proofs.lemmas.Grind.{common_steps}
 use Rattle.formula.proofs.Grown.{AllBelow-Grows}
 use Rattle.vcg_top.proofs.Drafted.{AreBound-Grows, AddsTerms-one}
-use Rattle.vcg_top.proofs.Stated.{first_rest, first_below, rest_below, stated_step}
+use Rattle.vcg_top.proofs.Stated.{first_rest, rest_below, stated_step}
 use Rattle.vcg_top.proofs.statement.+state_all.Goals as goal
 
 pub state_all-requires : goal.state_all-requires

@@ -1,7 +1,6 @@
-use Rattle.std.proofs.Common.{◌≡◌, List, ◌∙◌, ap, subst, sym}
-use Rattle.formula.specs.Tree.{Tree}
+use Rattle.std.proofs.Common.{List, ◌∙◌, ap, subst, sym}
 use Rattle.vcg_top.specs.declared.check.Binding.{Binding}
-use Rattle.vcg_top.specs.Conditions.{Bound, assigned_in, evaluated}
+use Rattle.vcg_top.specs.Conditions.{assigned_in}
 use Rattle.vcg_top.specs.Drafts.{AreBound, bound_in}
 use Rattle.vcg_top.proofs.Drafted.{AreBound-Grows, bound_in-Grows}
 use Rattle.vcg_top.proofs.Rebound.{AreBound-rebound, bound_in-rebound}
