@@ -11,3 +11,5 @@ pub mod Passing
 pub mod Evaluate
 pub mod Perform
 pub mod Run
+pub mod Decks
+pub mod Rows
