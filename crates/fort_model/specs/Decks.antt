@@ -10,7 +10,7 @@ use Rattle.fort_syntax.specs.declared.dialect.Sort.TheVariants.{Integer}
 use mathlib.Core.Former.{arity, this}
 use Rattle.edge_io.specs.formers.list.List as former
 use Rattle.fort_syntax.specs.declared.expr.Expr.{Expr, Row_of-Expr, end_of-Expr, more_of-Expr}
-use Rattle.fort_syntax.specs.declared.expr.Expr.TheVariants.{Apply', Paren', Neg', Bin', Rel', And'}
+use Rattle.fort_syntax.specs.declared.expr.Expr.TheVariants.{Apply', Paren', Neg', Power', Bin', Rel', And'}
 use Rattle.fort_syntax.specs.declared.stmt.Dim.{Dim}
 use Rattle.fort_syntax.specs.declared.stmt.Stmt.{Stmt}
 use Rattle.fort_syntax.specs.declared.stmt.Stmt.TheVariants.{LogicalIf'}
@@ -32,6 +32,9 @@ rel o a b = Rel' o _ (only a) _ (only b)
 
 abbrev pub conj : Expr → Expr → Expr
 conj a b = And' _ (only a) _ (only b)
+
+abbrev pub power : Expr → ℕ → Expr
+power a n = Power' _ (only a) n
 
 abbrev pub minus : Expr → Expr
 minus a = Neg' _ (only a)

@@ -23,10 +23,10 @@ use Rattle.fort_model.specs.Passing.{Taken, Cells, Fresh, passed, Caller, call}
 
 -- where evaluation goes on: the processor, the units of the deck, and the unit with its cells
 pub record Scene : Type 0 where
-  pub p : Processor
+  pub processor : Processor
   pub units : List Routine
-  pub u : Routine
-  pub env : Environment
+  pub unit : Routine
+  pub environment : Environment
 
 -- a cell that is read must be defined
 abbrev pub read : ℕ → ℕ → Act Cell
@@ -124,71 +124,71 @@ fresh act = do
 abbrev pub call_at : Scene → Caller → ℕ → Act (List Taken) → Option ℕ → Act Cell
 call_at s run k actuals callee = do
   xs ← actuals
-  call run s.env (unit_at s.units callee) (passed (s.p.copies s.u.name k) 1 xs)
+  call run s.environment (unit_at s.units callee) (passed (s.processor.copies s.unit.name k) 1 xs)
 
 -- a name before a bracket: subscripts and the arguments of an intrinsic function are read, actuals are only taken
 abbrev pub apply : Scene → Caller → ℕ → ℕ → Name → Applied → Act (List Cell) → Act (List Taken) → Act Taken
 apply s run card k f (Element dims) values actuals = do
   cs ← values
-  element s.env card (s.env f) dims cs
+  element s.environment card (s.environment f) dims cs
 apply s run card k f (BuiltIn i) values actuals = do
   cs ← values
-  fresh (intrinsic_value s.p card i cs)
+  fresh (intrinsic_value s.processor card i cs)
 apply s run card k f Reference values actuals = fresh (call_at s run (suc k) actuals (function s.units f))
 
 -- An expression is taken at a card, where k calls stand before it in the text of the unit. A row is
 -- read from the left, or its parts are only taken.
 abbrev mutual
   pub taken : Scene → Caller → ℕ → ℕ → Expr → Act Taken
-  taken s run card k (Const c) = fresh (constant s.p card c)
+  taken s run card k (Const c) = fresh (constant s.processor card c)
   taken s run card k (Truth b) = give (Fresh (Logical b))
-  taken s run card k (Var x) = give (Cells (s.env x))
+  taken s run card k (Var x) = give (Cells (s.environment x))
   taken s run card k (Apply' f _ args) =
-      apply s run card k f (applied s.u f)
+      apply s run card k f (applied s.unit f)
       (values s run card k args)
       (actuals s run card (suc k) args)
   taken s run card k (Paren' _ (only a)) = fresh (valued card (taken s run card k a))
   taken s run card k (Pos' _ (only a)) = fresh (valued card (taken s run card k a))
   taken s run card k (Neg' _ (only a)) = do
     v ← valued card (taken s run card k a)
-    fresh (ranged s.p card (neg_ℤ (num v)))
+    fresh (ranged s.processor card (neg_ℤ (num v)))
   taken s run card k (Power' _ (only a) n) = do
     v ← valued card (taken s run card k a)
-    fresh (power s.p card (num v) n)
+    fresh (power s.processor card (num v) n)
   taken s run card k (Bin' o _ (only a) _ (only b)) = do
     v ← valued card (taken s run card k a)
-    w ← valued card (taken s run card (k + calls_in s.u a) b)
-    fresh (operate s.p card o (num v) (num w))
+    w ← valued card (taken s run card (k + calls_in s.unit a) b)
+    fresh (operate s.processor card o (num v) (num w))
   taken s run card k (Rel' o _ (only a) _ (only b)) = do
     v ← valued card (taken s run card k a)
-    w ← valued card (taken s run card (k + calls_in s.u a) b)
+    w ← valued card (taken s run card (k + calls_in s.unit a) b)
     give (Fresh (Logical (compares o v w)))
   taken s run card k (Not' _ (only a)) = do
     v ← valued card (taken s run card k a)
     give (Fresh (Logical (not (holds v))))
   taken s run card k (And' _ (only a) _ (only b)) = do
     v ← valued card (taken s run card k a)
-    cond (s.p.lazy && not (holds v)) (give (Fresh (Logical false))) do
-      w ← valued card (taken s run card (k + calls_in s.u a) b)
+    cond (s.processor.lazy && not (holds v)) (give (Fresh (Logical false))) do
+      w ← valued card (taken s run card (k + calls_in s.unit a) b)
       give (Fresh (Logical (holds v && holds w)))
   taken s run card k (Or' _ (only a) _ (only b)) = do
     v ← valued card (taken s run card k a)
-    cond (s.p.lazy && holds v) (give (Fresh (Logical true))) do
-      w ← valued card (taken s run card (k + calls_in s.u a) b)
+    cond (s.processor.lazy && holds v) (give (Fresh (Logical true))) do
+      w ← valued card (taken s run card (k + calls_in s.unit a) b)
       give (Fresh (Logical (holds v || holds w)))
 
   pub values : Scene → Caller → ℕ → ℕ → {m : Count} → Row_of-Expr m → Act (List Cell)
   values s run card k end_of-Expr = give []
   values s run card k (more_of-Expr e es) = do
     c ← valued card (taken s run card k e)
-    cs ← values s run card (k + calls_in s.u e) es
+    cs ← values s run card (k + calls_in s.unit e) es
     give (c ∷ cs)
 
   pub actuals : Scene → Caller → ℕ → ℕ → {m : Count} → Row_of-Expr m → Act (List Taken)
   actuals s run card k end_of-Expr = give []
   actuals s run card k (more_of-Expr e es) = do
     x ← taken s run card k e
-    xs ← actuals s run card (k + calls_in s.u e) es
+    xs ← actuals s run card (k + calls_in s.unit e) es
     give (x ∷ xs)
 
 -- the value of an expression

@@ -82,12 +82,13 @@ pub record Loop : Type 0 where
   pub last : Param
   pub step : Option Param
 
--- the loops of a statement at a point i whose last statement stands at pc, before those around it
+-- a DO at the point i is put before the DOs that were met before it, where its last statement stands at pc
 abbrev pub loop_of : List Line → ℕ → ℕ → Stmt → List Loop → List Loop
 loop_of all pc i (Do label x first last step) around =
     cond (target all label == pc) (record { at = i; variable = x; last = last; step = step } ∷ around) around
 loop_of all pc i _ around = around
 
+-- the same for some lines, of which the first stands at the point i
 abbrev pub loops_from : List Line → ℕ → ℕ → List Line → List Loop → List Loop
 loops_from all pc i [] around = around
 loops_from all pc i (line ∷ lines) around = loops_from all pc (suc i) lines (loop_of all pc i line.stmt around)
@@ -96,13 +97,14 @@ loops_from all pc i (line ∷ lines) around = loops_from all pc (suc i) lines (l
 abbrev pub loops_at : Routine → ℕ → List Loop
 loops_at u pc = loops_from u.lines pc 0 u.lines []
 
--- of these the ones around the DO at a point
+-- the DOs of a list that stand before a point
 abbrev pub around : ℕ → List Loop → List Loop
 around pc [] = []
 around pc (d ∷ ds) =
     let rest = around pc ds in
     cond (nat_lt d.at pc) (d ∷ rest) rest
 
+-- the DOs around the one at pc that have the same last statement
 abbrev pub loops_around : Routine → ℕ → ℕ → List Loop
 loops_around u last pc = around pc (loops_at u last)
 

@@ -13,3 +13,5 @@ pub mod Perform
 pub mod Run
 pub mod Decks
 pub mod Rows
+pub mod FormRows
+pub mod FlowRows

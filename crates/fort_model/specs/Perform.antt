@@ -28,7 +28,7 @@ write_cell i c = do
   put (store st i c)
 
 abbrev pub set_variable : Scene → Name → Cell → Act (Unit {0})
-set_variable s x c = write_cell (s.env x).first c
+set_variable s x c = write_cell (s.environment x).first c
 
 -- the left side of an assignment gets a value
 abbrev pub assign : Taken → Cell → Act (Unit {0})
@@ -36,11 +36,11 @@ assign (Cells e) c = write_cell e.first c
 assign (Fresh v) c = stuck
 
 abbrev pub variable : Scene → ℕ → Name → Act Cell
-variable s card x = read card (s.env x).first
+variable s card x = read card (s.environment x).first
 
 -- a parameter of a DO is a constant or a variable; an absent step is 1
 abbrev pub parameter : Scene → ℕ → Param → Act Cell
-parameter s card (Fixed c) = constant s.p card c
+parameter s card (Fixed c) = constant s.processor card c
 parameter s card (Named x) = variable s card x
 
 abbrev pub step_value : Scene → ℕ → Option Param → Act Cell
@@ -60,20 +60,20 @@ tests s card (d ∷ ds) = do
   step
   i ← variable s card d.variable
   by ← step_value s card d.step
-  sum ← ranged s.p card (num i +ℤ num by)
+  sum ← ranged s.processor card (num i +ℤ num by)
   last ← parameter s card d.last
   cond (int_le (num sum) (num last))
       (do
         set_variable s d.variable sum
         give (1 ∷ []))
       (do
-        set_variable s d.variable (left_with s.p.dialect sum)
+        set_variable s d.variable (left_with s.processor.dialect sum)
         choices ← tests s card ds
         give (2 ∷ choices))
 
 -- behind a statement at a point
 abbrev pub go_on : Scene → ℕ → ℕ → Act (List ℕ)
-go_on s card pc = tests s card (loops_at s.u pc)
+go_on s card pc = tests s card (loops_at s.unit pc)
 
 abbrev pub card_in : Option Line → ℕ
 card_in None = 0
@@ -81,7 +81,7 @@ card_in (Some line) = line.card
 
 -- behind a DO that is not entered; the tests are at the card of the last statement
 abbrev pub pass_over : Scene → ℕ → ℕ → Act (List ℕ)
-pass_over s last pc = tests s (card_in (slice_get s.u.lines last)) (loops_around s.u last pc)
+pass_over s last pc = tests s (card_in (slice_get s.unit.lines last)) (loops_around s.unit last pc)
 
 -- A DO with its first value, last value and step. Its range is performed at least once; under 77 it may be
 -- passed over, and the numbers that tell how often it is performed must be in range.
@@ -92,8 +92,8 @@ begin Common s card last pc x m1 m2 m3 = do
   give []
 begin SeventySeven s card last pc x m1 m2 m3 = do
   check LoopCheck card (int_le (pos 1) m3)
-  ranged s.p card (m2 -ℤ m1)
-  ranged s.p card (m2 -ℤ m1 +ℤ m3)
+  ranged s.processor card (m2 -ℤ m1)
+  ranged s.processor card (m2 -ℤ m1 +ℤ m3)
   set_variable s x (Int m1)
   cond (int_le m1 m2) (give (1 ∷ [])) do
     choices ← pass_over s last pc
@@ -121,19 +121,19 @@ abbrev pub result : Scene → ℕ → Bool → Act (Unit {0})
 result s card false = give tt
 result s card true = do
   st ← held
-  check ResultCheck card (is_defined (load st (s.env s.u.name).first))
+  check ResultCheck card (is_defined (load st (s.environment s.unit.name).first))
 
 -- A statement is performed at a card and a point, where k calls stand before it in the text of the unit.
 abbrev pub perform : Scene → Caller → ℕ → ℕ → ℕ → Stmt → Act (List ℕ)
 perform s run card pc k (Assign left right) = do
-  c ← evaluate s run card (k + calls_in s.u left) right
+  c ← evaluate s run card (k + calls_in s.unit left) right
   x ← taken s run card k left
   assign x c
   go_on s card pc
 perform s run card pc k (GoTo label) = give []
 perform s run card pc k (Computed labels x) = do
   i ← variable s card x
-  select s.p.dialect s card pc (length labels) (num i)
+  select s.processor.dialect s card pc (length labels) (num i)
 perform s run card pc k (ArithIf e l m n) = do
   v ← evaluate s run card k e
   give (sign_choice v ∷ [])
@@ -142,7 +142,7 @@ perform s run card pc k (LogicalIf' e _ (carried b)) = do
   cond (holds v)
       (do
         step
-        choices ← perform s run card pc (k + calls_in s.u e) b
+        choices ← perform s run card pc (k + calls_in s.unit e) b
         give (1 ∷ choices))
       (do
         choices ← go_on s card pc
@@ -151,13 +151,13 @@ perform s run card pc k (Do label x first last by) = do
   m1 ← parameter s card first
   m2 ← parameter s card last
   m3 ← step_value s card by
-  begin s.p.dialect s card (target s.u.lines label) pc x (num m1) (num m2) (num m3)
+  begin s.processor.dialect s card (target s.unit.lines label) pc x (num m1) (num m2) (num m3)
 perform s run card pc k Continue = go_on s card pc
 perform s run card pc k (Call f args) = do
   call_at s run (suc k) (actuals s run card (suc k) (row_of args)) (subroutine s.units f)
   go_on s card pc
 perform s run card pc k Return = do
-  result s card (is_function s.u)
+  result s card (is_function s.unit)
   give []
 perform s run card pc k (BlockIf e) = do
   v ← evaluate s run card k e
