@@ -1,5 +1,5 @@
 -- What goes through a page, in steps.
-use Rattle.std.proofs.Common.{◌≡◌, ℕ, ◌+◌, ◌≤◌, List, [], ◌++◌, ◌-◌, length, take, drop, refl, sym, ap, ◌∙◌, arith, append_assoc, append-nil, length-append, Option, subst, Bool, true, false}
+use Rattle.std.proofs.Common.{◌≡◌, ℕ, ◌+◌, ◌≤◌, List, [], ◌++◌, ◌-◌, length, take, drop, sym, ap, ◌∙◌, arith, append_assoc, append-nil, length-append, Option, subst, Bool, true, false}
 use Rattle.std.proofs.Math.Seq.{take-append-add, take-add}
 use Rattle.std.proofs.lemmas.Grind.{common_steps}
 use Rattle.std.proofs.lemmas.List.{take-append-le, take-append-drop}
@@ -9,17 +9,9 @@ use Rattle.event_text.specs.Sending.{Sends, AppendsPart, Moves, Goes}
 use Rattle.event_text.specs.declared.out.Out.{Out}
 use Rattle.edge_io.specs.Causes.{Rose}
 
--- nothing was put
-pub Sends-none : (a : Option (List ℕ)) (p : List ℕ) → Sends a a p p []
-Sends-none a p = ([], Appends-nil a, append-nil p)
-
 -- the page took all of it
 pub Sends-fill : (a : Option (List ℕ)) (p q bs : List ℕ) → q ≡ p ++ bs → Sends a a p q bs
 Sends-fill a p q bs e = ([], Appends-nil a, sym e)
-
--- the page was written
-pub Sends-page : (a b : Option (List ℕ)) (p : List ℕ) → Appends a b p → Sends a b p [] []
-Sends-page a b p h = (p, h, refl)
 
 pub Sends-trans : (a b c : Option (List ℕ)) (p q r xs ys : List ℕ) → Sends a b p q xs → Sends b c q r ys → Sends a c p r (xs ++ ys)
 Sends-trans a b c p q r xs ys h k = (
@@ -81,14 +73,6 @@ AppendsPart-rest a b c p q bytes at h k =
     subst (λ bs. AppendsPart a c (p ++ bs)) (take-append-drop at bytes)
     (AppendsPart-after a b c p q (take at bytes) (drop at bytes) h (AppendsPart-more b c q (drop at bytes) k))
 
--- from an empty page, where no write has failed and nothing waits
-pub Goes-whole : (w v : Option (List ℕ)) (m n : ℕ) (old new : Out) (bytes : List ℕ) → old ≡ record { page = []; failed = false } → new.failed ≡ false → new.page ≡ []
-    → Goes w v m n old new bytes → Appends w v bytes
-Goes-whole w v m n old new bytes e f p h =
-    let s : Sends w v [] [] bytes = subst (λ q. Sends w v [] q bytes) p (subst (λ b. Moves false b w v m n [] new.page bytes) f
-    (subst (λ o. Moves o.failed new.failed w v m n o.page new.page bytes) e h.moves)) in
-    subst (Appends w v) (sym (append-nil s.0) ∙ sym s.2) s.1
-
 -- where one has
 pub Goes-part : (w v : Option (List ℕ)) (m n : ℕ) (old new : Out) (bytes : List ℕ) → old ≡ record { page = []; failed = false } → new.failed ≡ true
     → Goes w v m n old new bytes → AppendsPart w v bytes × Rose m n
@@ -98,6 +82,6 @@ Goes-part w v m n old new bytes e f h =
 pub Goes-end : (a b c : Option (List ℕ)) (l m n : ℕ) (p q r : Out) (xs : List ℕ) → Goes a b l m p q xs → Goes b c m n q r [] → Goes a c l n p r xs
 Goes-end a b c l m n p q r xs s t = subst (Goes a c l n p r) (append-nil xs) (Goes-trans a b c l m n p q r xs [] s t)
 
--- the same, from the two facts alone
+-- the same, with what the two facts tell left out
 pub goes : {a b c : Option (List ℕ)} {l m n : ℕ} {p q r : Out} {xs ys : List ℕ} → Goes a b l m p q xs → Goes b c m n q r ys → Goes a c l n p r (xs ++ ys)
 goes {a} {b} {c} {l} {m} {n} {p} {q} {r} {xs} {ys} s t = Goes-trans a b c l m n p q r xs ys s t

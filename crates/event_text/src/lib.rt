@@ -4,6 +4,7 @@
 mod condition;
 mod definition;
 mod events;
+mod fault;
 mod marks;
 mod out;
 mod page;
@@ -11,6 +12,7 @@ mod putting;
 mod terms;
 
 pub use events::write_events;
+pub use fault::write_fault;
 pub use marks::Marks;
 
 #[cfg(test)]

@@ -1,111 +1,88 @@
 // One text, and the pieces in which texts go out.
 use crate::{Marks, write_events};
 use edge_io::{List, MemSink};
-use formula::{BuiltIn, Definitions, TermId, TermPool, Word};
+use formula::{BuiltIn, Definitions, TermPool, Word};
 use fort_syntax::{Condition, Kind, Name};
 use std::alloc::Global;
 use std::test::Fail;
 
-fn symbol(pool: &mut TermPool, name: &[u8]) -> Result<TermId, Fail> {
-    let Some(word) = Word::new(name) else {
-        return Err(Fail::from("no word"));
+// Conditions: N and -4 have (ZLEQ N -4) as consequence.
+fn write(alloc: Global, sink: &mut MemSink, unit: Name, word: Word) -> Result<bool, Fail> {
+    let mut pool = TermPool::new(alloc);
+    let n = pool.symbol(word).map_err(|_| "no memory")?;
+    let four = pool.number(-4).map_err(|_| "no memory")?;
+    if pool.count() <= n.place {
+        return Err(Fail::from("not in the pool"));
+    }
+    let goal = pool
+        .binary(BuiltIn::AtMost, n, four)
+        .map_err(|_| "no memory")?;
+    if pool.count() <= n.place || pool.count() <= four.place {
+        return Err(Fail::from("not in the pool"));
+    }
+    let mut conditions = Vec::new(alloc);
+    conditions.push(Condition {
+        unit,
+        path: 1,
+        check: 2,
+        kind: Kind::DefinedCheck,
+        card: 4,
+        hyps: List::from_vec(Vec::from_slice(alloc, &[n, four])?),
+        goal,
+    })?;
+    let marks = Marks {
+        letters: List::from_vec(Vec::from_slice(alloc, b"-")?),
+        asked: List::from_vec(Vec::from_slice(alloc, &[(b'G', 1)])?),
     };
-    Ok(pool.symbol(word).map_err(|_| "no memory")?)
-}
-
-fn apply(pool: &mut TermPool, at_most: bool, a: TermId, b: TermId) -> Result<TermId, Fail> {
-    let count = pool.count();
-    if count <= a.place || count <= b.place {
-        return Err(Fail::from("not in the pool"));
-    }
-    if at_most {
-        Ok(pool.binary(BuiltIn::AtMost, a, b).map_err(|_| "no memory")?)
-    } else {
-        Ok(pool.binary(BuiltIn::Less, a, b).map_err(|_| "no memory")?)
-    }
-}
-
-fn defined(pool: &mut TermPool, a: TermId) -> Result<TermId, Fail> {
-    if pool.count() <= a.place {
-        return Err(Fail::from("not in the pool"));
-    }
-    Ok(pool.unary(BuiltIn::Defined, a).map_err(|_| "no memory")?)
-}
-
-fn number(pool: &mut TermPool, n: i128) -> Result<TermId, Fail> {
-    Ok(pool.number(n).map_err(|_| "no memory")?)
+    let definitions = Definitions::new(alloc);
+    Ok(write_events(
+        sink,
+        &pool,
+        &definitions,
+        &List::from_vec(conditions),
+        &marks,
+    )
+    .is_ok())
 }
 
 #[test]
 fn a_condition_is_written(rt: HostRuntime) -> Result<(), Fail> {
-    let mut pool = TermPool::new(rt.alloc());
-    let least = symbol(&mut pool, b"LEAST")?;
-    let entry = symbol(&mut pool, b"I-IN")?;
-    let bound = number(&mut pool, -32767)?;
-    let hundred = number(&mut pool, 100)?;
-    let low = apply(&mut pool, true, least, bound)?;
-    let is_defined = defined(&mut pool, entry)?;
-    let less = apply(&mut pool, false, entry, hundred)?;
-    let count = pool.count();
-    if count <= low.place || count <= is_defined.place || count <= less.place {
-        return Err(Fail::from("not in the pool"));
-    }
-    let Some(unit) = Name::new(b"INC") else {
+    let (Some(word), Some(unit)) = (Word::new(b"N"), Name::new(b"INC")) else {
         return Err(Fail::from("no name"));
     };
-    let condition = Condition {
-        unit,
-        path: 1,
-        check: 1,
-        kind: Kind::DefinedCheck,
-        card: 4,
-        hyps: List::from_vec(Vec::from_slice(rt.alloc(), &[low, is_defined, less])?),
-        goal: is_defined,
-    };
-    let mut conditions = Vec::new(rt.alloc());
-    conditions.push(condition)?;
-    let marks = Marks {
-        letters: List::from_vec(Vec::from_slice(rt.alloc(), b"-")?),
-        asked: List::from_vec(Vec::from_slice(rt.alloc(), &[(b'G', 1)])?),
-    };
-    let definitions = Definitions::new(rt.alloc());
     let mut sink = MemSink::new(rt.alloc(), 200, &[]).map_err(|_| "no memory")?;
-    assert!(rt;
-        write_events(
-            &mut sink,
-            &pool,
-            &definitions,
-            &List::from_vec(conditions),
-            &marks
-        )
-        .is_ok()
-    );
+    assert!(rt; write(rt.alloc(), &mut sink, unit, word)?);
     let text =
-        b"(PROVE-LEMMA INC-1-1 NIL (IMPLIES (AND (ZLEQ LEAST -32767) (DEFINED I-IN) (ZLESSP I-IN 100)) (DEFINED I-IN))) ; DEFINED CARD 4 -\n; ASKED G 1\n; 1 CONDITIONS\n";
+        b"(PROVE-LEMMA INC-1-2 NIL (IMPLIES (AND N -4) (ZLEQ N -4))) ; DEFINED CARD 4 -\n; ASKED G 1\n; 1 CONDITIONS\n";
     assert_eq!(rt; sink.bytes(), text.as_slice());
     Ok(())
 }
 
-// Marks whose lines take 12 bytes each.
-fn many(alloc: Global, count: usize) -> Result<Marks, Fail> {
+// Provers whose lines take 12 bytes each.
+fn provers(alloc: Global, count: usize) -> Result<List<(u8, u64)>, Fail> {
     let mut asked = Vec::new(alloc);
     for _ in 0..count {
         asked.push((b'G', 1))?;
     }
-    Ok(Marks {
-        letters: List::from_vec(Vec::new(alloc)),
-        asked: List::from_vec(asked),
-    })
+    Ok(List::from_vec(asked))
 }
 
 // Writes 8,415 bytes, and answers whether that went well and how many bytes were written.
 fn written(alloc: Global, fails: &[u64]) -> Result<(bool, usize), Fail> {
+    let asked = provers(alloc, 700)?;
+    let mut sink = MemSink::new(alloc, 10_000, fails).map_err(|_| "no memory")?;
     let pool = TermPool::new(alloc);
     let definitions = Definitions::new(alloc);
     let conditions = List::from_vec(Vec::new(alloc));
-    let marks = many(alloc, 700)?;
-    let mut sink = MemSink::new(alloc, 10_000, fails).map_err(|_| "no memory")?;
-    let ok = write_events(&mut sink, &pool, &definitions, &conditions, &marks).is_ok();
+    let letters = List::from_vec(Vec::new(alloc));
+    let ok = write_events(
+        &mut sink,
+        &pool,
+        &definitions,
+        &conditions,
+        &Marks { letters, asked },
+    )
+    .is_ok();
     Ok((ok, sink.bytes().len()))
 }
 

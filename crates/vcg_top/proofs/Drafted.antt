@@ -5,15 +5,11 @@ use Rattle.formula.specs.declared.node.Node.{Node}
 use Rattle.formula.specs.declared.node.TermId.{TermId}
 use Rattle.formula.specs.Tree.{Tree}
 use Rattle.formula.specs.Pool.{AllBelow, Grows, IsIn, tree_of}
-use Rattle.formula.proofs.Grown.{Grows-trans, Grows-refl, IsIn-Grows, tree_of-Grows}
+use Rattle.formula.proofs.Grown.{AllBelow-Grows, Grows-trans, Grows-refl, IsIn-Grows, tree_of-Grows}
 use Rattle.vcg_top.specs.declared.check.Binding.{Binding}
 use Rattle.vcg_top.specs.declared.check.Check.{Check}
 use Rattle.vcg_top.specs.Conditions.{Bound, CheckTree, check}
-use Rattle.vcg_top.specs.Drafts.{bound_of, bound_in, check_of, checks_in, trees_in, AreBound, AreChecks, Adds}
-
-pub AllBelow-Grows : (old new : List Node) (ids : List TermId) → Grows old new → AllBelow (length old) ids → AllBelow (length new) ids
-AllBelow-Grows old new [] g h = tt
-AllBelow-Grows old new (id ∷ rest) g h = (IsIn-Grows old new id g h.0, AllBelow-Grows old new rest g h.1)
+use Rattle.vcg_top.specs.Drafts.{bound_of, bound_in, check_of, checks_in, trees_in, AreBound, AreChecks, Adds, AddsTerms}
 
 pub trees_in-Grows : (old new : List Node) (ids : List TermId) → Grows old new → AllBelow (length old) ids → trees_in new ids ≡ trees_in old ids
 trees_in-Grows old new [] g h = refl
@@ -76,3 +72,36 @@ Adds-one old new cs after c t g h k same e = record {
 -- terms were added before the checks
 pub Adds-after : (a b c : List Node) (x y : List Check) (p : List CheckTree) → Grows a b → AreChecks a x → Adds b c x y p → Adds a c x y p
 Adds-after a b c x y p g h s = Adds-trans a b c x x y [] p (Adds-none a b x g h) s
+
+-- ---- terms that are added
+
+pub AllBelow-append : (n : ℕ) (ids : List TermId) (id : TermId) → AllBelow n ids → id.place < n → AllBelow n (ids ++ id ∷ [])
+AllBelow-append n [] id h k = (k, tt)
+AllBelow-append n (x ∷ ids) id h k = (h.0, AllBelow-append n ids id h.1 k)
+
+pub trees_in-append : (pool : List Node) (ids : List TermId) (id : TermId) → trees_in pool (ids ++ id ∷ []) ≡ trees_in pool ids ++ tree_of pool id ∷ []
+trees_in-append pool [] id = refl
+trees_in-append pool (x ∷ ids) id = ap (λ r. tree_of pool x ∷ r) (trees_in-append pool ids id)
+
+pub AddsTerms-none : (pool : List Node) (ids : List TermId) → AllBelow (length pool) ids → AddsTerms pool pool ids ids []
+AddsTerms-none pool ids h = record {
+  grows = Grows-refl pool;
+  known = h;
+  is = (let whole : trees_in pool ids ≡ trees_in pool ids ++ [] = grind (arith, common_steps) in whole);
+}
+
+pub AddsTerms-trans : (a b c : List Node) (x y z : List TermId) (p q : List Tree) → AddsTerms a b x y p → AddsTerms b c y z q → AddsTerms a c x z (p ++ q)
+AddsTerms-trans a b c x y z p q s t = record {
+  grows = Grows-trans a b c s.grows t.grows;
+  known = t.known;
+  is = t.is ∙ ap (λ r. r ++ q) s.is ∙ append_assoc (trees_in a x) p q;
+}
+
+-- a term was added
+pub AddsTerms-one : (old new : List Node) (ids after : List TermId) (id : TermId) (t : Tree) → Grows old new → AllBelow (length old) ids → IsIn new id → tree_of new id ≡ t
+    → after ≡ ids ++ id ∷ [] → AddsTerms old new ids after (t ∷ [])
+AddsTerms-one old new ids after id t g h k same e = record {
+  grows = g;
+  known = rw e (AllBelow-append (length new) ids id (AllBelow-Grows old new ids g h) k);
+  is = ap (trees_in new) e ∙ trees_in-append new ids id ∙ (λ i. trees_in-Grows old new ids g h i ++ same i ∷ []);
+}

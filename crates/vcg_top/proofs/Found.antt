@@ -5,17 +5,13 @@ use Rattle.formula.specs.Tree.{Tree, symbol}
 use Rattle.formula.specs.Atoms.{same_bytes}
 use Rattle.formula.specs.Pool.{IsIn, tree_of}
 use Rattle.vcg_top.specs.declared.check.Binding.{Binding}
-use Rattle.vcg_top.specs.Conditions.{Bound, value_in, entry_in}
+use Rattle.vcg_top.specs.Conditions.{Bound, value_in}
 use Rattle.vcg_top.specs.Drafts.{bound_in, found, AreBound}
 
--- the value and the entry value of a binding, or the symbol itself
+-- the value of a binding, or the symbol itself
 abbrev value_of : List Node → List ℕ → Option Binding → Tree
 value_of pool name None = symbol name
 value_of pool name (Some b) = tree_of pool b.value
-
-abbrev entry_of : List Node → List ℕ → Option Binding → Tree
-entry_of pool name None = symbol name
-entry_of pool name (Some b) = tree_of pool b.entry
 
 branch : {A B : Type 0} (f : A → B) (b : Bool) (x y : A) → f (if b then x else y) ≡ (if b then f x else f y)
 branch f true x y = refl
@@ -27,23 +23,11 @@ value_in-found pool (b ∷ rest) name =
     ap (λ t. if same_bytes b.name name then tree_of pool b.value else t) (value_in-found pool rest name)
     ∙ sym (branch (value_of pool name) (same_bytes b.name name) (Some b) (found rest name))
 
-entry_in-found : (pool : List Node) (bs : List Binding) (name : List ℕ) → entry_in (bound_in pool bs) name ≡ entry_of pool name (found bs name)
-entry_in-found pool [] name = refl
-entry_in-found pool (b ∷ rest) name =
-    ap (λ t. if same_bytes b.name name then tree_of pool b.entry else t) (entry_in-found pool rest name)
-    ∙ sym (branch (entry_of pool name) (same_bytes b.name name) (Some b) (found rest name))
-
 pub value_in-Some : (pool : List Node) (bs : List Binding) (name : List ℕ) (b : Binding) → found bs name ≡ Some b → tree_of pool b.value ≡ value_in (bound_in pool bs) name
 value_in-Some pool bs name b e = sym (value_in-found pool bs name ∙ ap (value_of pool name) e)
 
 pub value_in-None : (pool : List Node) (bs : List Binding) (name : List ℕ) → found bs name ≡ None → symbol name ≡ value_in (bound_in pool bs) name
 value_in-None pool bs name e = sym (value_in-found pool bs name ∙ ap (value_of pool name) e)
-
-pub entry_in-Some : (pool : List Node) (bs : List Binding) (name : List ℕ) (b : Binding) → found bs name ≡ Some b → tree_of pool b.entry ≡ entry_in (bound_in pool bs) name
-entry_in-Some pool bs name b e = sym (entry_in-found pool bs name ∙ ap (entry_of pool name) e)
-
-pub entry_in-None : (pool : List Node) (bs : List Binding) (name : List ℕ) → found bs name ≡ None → symbol name ≡ entry_in (bound_in pool bs) name
-entry_in-None pool bs name e = sym (entry_in-found pool bs name ∙ ap (entry_of pool name) e)
 
 branch_Some : (t : Bool) (b c : Binding) (o : Option Binding) → (if t then Some b else o) ≡ Some c → (b ≡ c) ⊎ (o ≡ Some c)
 branch_Some true b c o e = inl (let same : b ≡ c = cc in same)

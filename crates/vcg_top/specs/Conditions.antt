@@ -1,10 +1,11 @@
 -- The conditions of a deck of the first form, term by term.
-use Rattle.std.specs.Prelude.{ℕ, ℤ, pos, negsuc, ◌+◌, if◌then◌else◌, Bool, true, false, List, [], ◌∷◌, ◌++◌, length, map, codes}
+use Rattle.std.specs.Prelude.{ℕ, ℤ, pos, negsuc, ◌+◌, if◌then◌else◌, Bool, true, false, nat_le, Option, Some, None, List, [], ◌∷◌, ◌++◌, length, map, codes}
 use Rattle.formula.specs.declared.function.Func.TheVariants.{BuiltIn, Defined}
 use Rattle.formula.specs.declared.function.BuiltIn.{BuiltIn as Builtin}
 use Rattle.formula.specs.declared.function.BuiltIn.TheVariants.{And, Plus, Difference, Times, Quotient, AtMost, Defined as IsDefined, IntegerCell}
 use Rattle.formula.specs.Tree.{Tree, num, truth, symbol, old, apply, Row, none, more}
 use Rattle.formula.specs.Atoms.{same_bytes}
+use Rattle.formula.specs.Substitution.{substituted}
 use Rattle.fort_syntax.specs.declared.dialect.BinOp.{BinOp}
 use Rattle.fort_syntax.specs.declared.dialect.BinOp.TheVariants.{Add, Sub, Mul, Div}
 use Rattle.fort_syntax.specs.declared.condition.Kind.{Kind}
@@ -12,7 +13,8 @@ use Rattle.fort_syntax.specs.declared.condition.Kind.TheVariants.{DefinedCheck, 
 use Rattle.vcg_top.specs.declared.expression.Expression.{Expression, fold-Expression}
 use Rattle.vcg_top.specs.declared.expression.Expression.TheOpen.{Expression-F}
 use Rattle.vcg_top.specs.declared.assignment.Assigned.{Assigned}
-use Rattle.vcg_top.specs.FirstForm.{Deck}
+use Rattle.event_text.specs.Conditions.{ConditionTree}
+use Rattle.vcg_top.specs.FirstForm.{Deck, spelled_deck, when}
 
 -- ---- terms
 
@@ -55,7 +57,7 @@ value_in (b ∷ rest) name = if same_bytes b.name name then b.value else value_i
 
 -- its value at entry
 abbrev pub entry_in : List Bound → List ℕ → Tree
-entry_in [] name = symbol name
+entry_in [] name = old name
 entry_in (b ∷ rest) name = if same_bytes b.name name then b.entry else entry_in rest name
 
 abbrev pub with_value : Bound → Tree → Bound
@@ -71,17 +73,8 @@ abbrev pub entered : List ℕ → Bound
 entered name = record { name = name; value = entry_of name; entry = entry_of name }
 
 -- a term of a note, each name standing for its value, and OLD for the value at entry
-abbrev mutual
-  pub stated : List Bound → Tree → Tree
-  stated bound (num z) = num z
-  stated bound (truth b) = truth b
-  stated bound (symbol s) = value_in bound s
-  stated bound (old s) = entry_in bound s
-  stated bound (apply f row) = apply f (stated_row bound row)
-
-  pub stated_row : List Bound → Row → Row
-  stated_row bound none = none
-  stated_row bound (more t rest) = more (stated bound t) (stated_row bound rest)
+abbrev pub stated : List Bound → Tree → Tree
+stated bound t = substituted (value_in bound) (entry_in bound) t
 
 -- ---- checks
 
@@ -135,9 +128,13 @@ walked bound card (a ∷ rest) =
 abbrev pub bounds : List Tree
 bounds = binary AtMost least (num (negsuc 32766)) ∷ binary AtMost (num (pos 32767)) greatest ∷ []
 
--- a dummy is undefined or an integer of the processor
+-- a value is undefined or an integer of the processor
+abbrev pub cell_of : Tree → Tree
+cell_of t = apply (BuiltIn IntegerCell) (more t (more least (more greatest none)))
+
+-- the sort of a dummy
 abbrev pub sort_of : Bound → Tree
-sort_of b = apply (BuiltIn IntegerCell) (more b.entry (more least (more greatest none)))
+sort_of b = cell_of b.entry
 
 abbrev pub entered_all : List (List ℕ) → List Bound
 entered_all dummies = map entered dummies
@@ -156,3 +153,22 @@ path_checks w card output = w.checks ++ map (output_check w.bound card) output
 
 abbrev pub checks_of : Deck → List CheckTree
 checks_of d = path_checks (walked (entered_all d.dummies) 4 d.body) (4 + length d.body) d.output
+
+-- the conditions of some checks, where those of these hypotheses were made: what was checked is a hypothesis from then on
+abbrev pub numbered : List ℕ → ℕ → List Tree → List CheckTree → List ConditionTree
+numbered unit k hyps [] = []
+numbered unit k hyps (c ∷ rest) =
+    record { unit = unit; path = 1; check = k; kind = c.kind; card = c.card; hyps = hyps; goal = c.goal }
+    ∷ numbered unit (k + 1) (hyps ++ c.goal ∷ []) rest
+
+-- the conditions of a deck
+abbrev pub conditions_of : Deck → List ConditionTree
+conditions_of d = numbered d.unit 1 (hypotheses_of (entered_all d.dummies) d.input) (checks_of d)
+
+-- a deck has at most 100,000 conditions, a limit that no deck of the first form comes near
+abbrev pub within_limit : Deck → Option Deck
+within_limit d = if nat_le (length (checks_of d)) 100000 then Some d else None
+
+-- the deck of an input of the first form
+abbrev pub first_deck : List ℕ → Option Deck
+first_deck bytes = when (spelled_deck bytes) within_limit

@@ -1,10 +1,9 @@
 -- The first form of a deck: one subroutine of integer scalars, with one or two assignments.
-use Rattle.std.specs.Prelude.{ℕ, ℤ, pos, zero, suc, ◌+◌, ◌-◌, ◌*◌, ◌==◌, ◌&&◌, ◌||◌, not, nat_le, if◌then◌else◌, Bool, true, false, Option, Some, None, List, [], ◌∷◌, ◌++◌, length, take, drop, filter, codes, nat_eq}
+use Rattle.std.specs.Prelude.{ℕ, zero, suc, ◌+◌, ◌-◌, ◌*◌, ◌==◌, ◌&&◌, ◌||◌, not, nat_le, if◌then◌else◌, Bool, true, false, Option, Some, None, List, [], ◌∷◌, ◌++◌, length, take, drop, filter, codes, nat_eq}
 use Rattle.std.specs.List.{list_any, list_all}
 use Rattle.std.specs.Cmp.Lexicographic.{pointwise}
 use Rattle.formula.specs.declared.function.Func.{Func}
-use Rattle.formula.specs.declared.function.Func.TheVariants.{BuiltIn, Defined}
-use Rattle.formula.specs.declared.function.BuiltIn.{BuiltIn as Builtin}
+use Rattle.formula.specs.declared.function.Func.TheVariants.{BuiltIn}
 use Rattle.formula.specs.declared.function.BuiltIn.TheVariants.{And, Or, Not, Equal, Plus, Difference, Times, Less, AtMost, Defined as IsDefined}
 use Rattle.formula.specs.Tree.{Tree, num, truth, symbol, old, apply, Row, none, more}
 use Rattle.formula.specs.Atoms.{same_bytes, is_digit, is_letter, is_name_byte, starts}
@@ -139,8 +138,8 @@ grouped dummies sum product [] words = if is_none_left words then Some (summed s
 grouped dummies sum product (sign ∷ signs) [] = None
 grouped dummies sum product (sign ∷ signs) (word ∷ words) =
     when (operand dummies word) (λ e.
-      if sign == 42 then grouped dummies sum (Operation Mul product e) signs words
-      else grouped dummies (Some (sign_of sign, summed sum product)) e signs words)
+    if sign == 42 then grouped dummies sum (Operation Mul product e) signs words
+    else grouped dummies (Some (sign_of sign, summed sum product)) e signs words)
 
 -- one to eight operands with signs between
 abbrev pub joined : List (List ℕ) → List ℕ → List (List ℕ) → Option Expression
@@ -160,10 +159,13 @@ assigned dummies _ = None
 abbrev pub assignment_of : List (List ℕ) → List ℕ → Option Assigned
 assignment_of dummies card = when (statement_text card) (λ text. assigned dummies (split (codes "=") text))
 
+-- these assignments, and those of the cards behind them
+abbrev pub assignments_from : List (List ℕ) → List Assigned → List (List ℕ) → Option (List Assigned)
+assignments_from dummies done [] = Some done
+assignments_from dummies done (card ∷ rest) = when (assignment_of dummies card) (λ a. assignments_from dummies (done ++ a ∷ []) rest)
+
 abbrev pub assignments : List (List ℕ) → List (List ℕ) → Option (List Assigned)
-assignments dummies [] = Some []
-assignments dummies (card ∷ rest) =
-    when (assignment_of dummies card) (λ a. when (assignments dummies rest) (λ more. Some (a ∷ more)))
+assignments dummies cards = assignments_from dummies [] cards
 
 -- ---- terms
 
@@ -197,32 +199,38 @@ abbrev mutual
   is_plain_row dummies entries none = true
   is_plain_row dummies entries (more t rest) = is_plain dummies entries t && is_plain_row dummies entries rest
 
+abbrev pub is_blank_byte : ℕ → Bool
+is_blank_byte b = b == 32
+
 abbrev pub is_blank : List ℕ → Bool
-is_blank text = list_all (λ b. b == 32) text
+is_blank text = list_all is_blank_byte text
 
--- the term that a text begins with; no definitions are there
-abbrev pub first_term : List ℕ → Reading
-first_term text = reads (head_named [] None) text
+-- the term that was read, with the number of bytes taken, where it is plain
+abbrev pub plain_read : List (List ℕ) → Bool → Reading → Option (Tree × ℕ)
+plain_read dummies entries (got t taken) = if is_plain dummies entries t then Some (t, taken) else None
+plain_read dummies entries (fault e) = None
 
-abbrev pub read_on : Reading → (Tree → ℕ → Option (List Tree)) → Option (List Tree)
-read_on (got t n) f = f t n
-read_on (fault e) f = None
+-- the plain term that a text begins with; no definitions are there
+abbrev pub plain_term : List (List ℕ) → Bool → List ℕ → Option (Tree × ℕ)
+plain_term dummies entries text = plain_read dummies entries (reads (head_named [] None) text)
 
--- the terms of a text, at most so many
-abbrev pub plain_terms : List (List ℕ) → Bool → ℕ → List ℕ → Option (List Tree)
-plain_terms dummies entries zero text = None
-plain_terms dummies entries (suc n) text =
-    if is_blank text then Some []
-    else read_on (first_term text) (λ t taken.
-      if is_plain dummies entries t then when (plain_terms dummies entries n (drop taken text)) (λ rest. Some (t ∷ rest)) else None)
+-- these terms, and those of the text behind them, up to its end; they are fewer than `fuel`
+abbrev pub terms_from : List (List ℕ) → Bool → List Tree → ℕ → List ℕ → Option (List Tree)
+terms_from dummies entries done zero text = None
+terms_from dummies entries done (suc fuel) text =
+    if is_blank text then Some done
+    else when (plain_term dummies entries text) (λ r. terms_from dummies entries (done ++ r.0 ∷ []) fuel (drop r.1 text))
 
-abbrev pub some_terms : Option (List Tree) → Option (List Tree)
-some_terms (Some (t ∷ rest)) = Some (t ∷ rest)
-some_terms _ = None
+-- the terms of a text, which has no more of them than bytes
+abbrev pub plain_terms : List (List ℕ) → Bool → List ℕ → Option (List Tree)
+plain_terms dummies entries text = terms_from dummies entries [] (length text + 1) text
 
--- a text has no more terms than bytes
+abbrev pub one_or_more : List Tree → Option (List Tree)
+one_or_more [] = None
+one_or_more (t ∷ rest) = Some (t ∷ rest)
+
 abbrev pub terms_of : List (List ℕ) → Bool → List ℕ → Option (List Tree)
-terms_of dummies entries text = some_terms (plain_terms dummies entries (length text + 1) text)
+terms_of dummies entries text = when (plain_terms dummies entries text) one_or_more
 
 abbrev pub is_separator : ℕ → Bool
 is_separator b = b == 32 || b == 40
@@ -230,7 +238,7 @@ is_separator b = b == 32 || b == 40
 -- a note of this first word with one or more terms
 abbrev pub note_of : List (List ℕ) → Bool → List ℕ → List ℕ → Option (List Tree)
 note_of dummies entries word card =
-    if same_bytes (take (length word) card) word && starts is_separator (drop (length word) card)
+    if same_bytes word (take (length word) card) && starts is_separator (drop (length word) card)
     then terms_of dummies entries (drop (length word) card) else None
 
 -- ---- the deck
@@ -242,26 +250,41 @@ pub record Deck : Type 0 where
   pub output : List Tree
   pub body : List Assigned
 
--- the assignments' cards, where RETURN and END stand behind one or two of them
+-- RETURN, END and the end of the input
+abbrev pub is_end : List (List ℕ) → Bool
+is_end (last ∷ end ∷ [] ∷ []) = same_bytes last (codes "      RETURN") && same_bytes end (codes "      END")
+is_end _ = false
+
+-- the assignments' cards, where the end stands behind one or two of them
 abbrev pub body_cards : List (List ℕ) → Option (List (List ℕ))
-body_cards (first ∷ last ∷ end ∷ [] ∷ []) =
-    if same_bytes last (codes "      RETURN") && same_bytes end (codes "      END") then Some (first ∷ []) else None
-body_cards (first ∷ second ∷ last ∷ end ∷ [] ∷ []) =
-    if same_bytes last (codes "      RETURN") && same_bytes end (codes "      END") then Some (first ∷ second ∷ []) else None
-body_cards _ = None
+body_cards cards = if is_end (drop 1 cards) then Some (take 1 cards) else if is_end (drop 2 cards) then Some (take 2 cards) else None
+
+-- the heading on a card
+abbrev pub card_heading : List ℕ → Option Heading
+card_heading card = when (statement_text card) heading_of
+
+-- the input and the output assertion; OLD stands only in the latter
+abbrev pub assertions_of : List (List ℕ) → List ℕ → List ℕ → Option (List Tree × List Tree)
+assertions_of dummies input output =
+    when (note_of dummies false (codes "C$ INPUT") input) (λ before.
+    when (note_of dummies true (codes "C$ OUTPUT") output) (λ after. Some (before, after)))
+
+-- the assignments of the cards behind the assertions
+abbrev pub body_of : List (List ℕ) → List (List ℕ) → Option (List Assigned)
+body_of dummies rest = when (body_cards rest) (assignments dummies)
+
+abbrev pub deck : Heading → List Tree × List Tree → List Assigned → Deck
+deck h terms body = record { unit = h.unit; dummies = h.dummies; input = terms.0; output = terms.1; body = body }
+
+abbrev pub headed_deck : Heading → List ℕ → List ℕ → List (List ℕ) → Option Deck
+headed_deck h input output rest =
+    when (assertions_of h.dummies input output) (λ terms. when (body_of h.dummies rest) (λ body. Some (deck h terms body)))
 
 abbrev pub deck_of : List (List ℕ) → Option Deck
-deck_of (head ∷ input ∷ output ∷ rest) =
-    when (statement_text head) (λ text.
-      when (heading_of text) (λ h.
-        when (note_of h.dummies false (codes "C$ INPUT") input) (λ before.
-          when (note_of h.dummies true (codes "C$ OUTPUT") output) (λ after.
-            when (body_cards rest) (λ cards.
-              when (assignments h.dummies cards) (λ body.
-                Some (record { unit = h.unit; dummies = h.dummies; input = before; output = after; body = body })))))))
+deck_of (head ∷ input ∷ output ∷ rest) = when (card_heading head) (λ h. headed_deck h input output rest)
 deck_of _ = None
 
 -- the deck of an input of the first form: cards that each end with a line feed
-abbrev pub first_deck : List ℕ → Option Deck
-first_deck bytes =
+abbrev pub spelled_deck : List ℕ → Option Deck
+spelled_deck bytes =
     if nat_le (length bytes) 1048576 && all_cards (split (codes "\n") bytes) then deck_of (split (codes "\n") bytes) else None

@@ -1,5 +1,5 @@
 -- A text cut at some bytes.
-use Rattle.std.specs.Prelude.{ℕ, nat_eq, if◌then◌else◌, Bool, not, List, [], ◌∷◌, ◌++◌, filter}
+use Rattle.std.specs.Prelude.{ℕ, nat_eq, if◌then◌else◌, Bool, List, [], ◌∷◌, ◌++◌}
 use Rattle.std.specs.List.{list_any}
 
 -- the byte is one of these

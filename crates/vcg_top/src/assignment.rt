@@ -1,12 +1,12 @@
 // Assignments of the first form.
 ghost use Rattle.std.specs.Prelude.{◌≡◌, IfOk, filter};
 ghost use Rattle.vcg_top.specs.Splitting.{is_among};
-ghost use Rattle.vcg_top.specs.FirstForm.{operators, constant_of, dummy_named, operand as operand_of, summed as summed_of, sign_of, grouped as grouped_of, joined as joined_of, expression_of, assigned as assigned_of, assignment_of, assignments as assignments_of};
+ghost use Rattle.vcg_top.specs.FirstForm.{operators, constant_of, dummy_named, operand as operand_of, summed as summed_of, sign_of, grouped as grouped_of, joined as joined_of, expression_of, assigned as assigned_of, assignment_of};
 
+use crate::expression::Expression;
 use crate::spelling::{is_dummy_name, statement};
 use crate::splitting::split_at;
 use edge_io::{Boxed, List, NoMemory};
-use crate::expression::Expression;
 use fort_syntax::{BinOp, Name};
 use std::alloc::Global;
 
@@ -44,7 +44,11 @@ fn dummy(dummies: &[Name], word: &[u8]) -> Option<Name>
         return None;
     }
     let name = Name::new(word)?;
-    if dummies.contains(&name) { Some(name) } else { None }
+    if dummies.contains(&name) {
+        Some(name)
+    } else {
+        None
+    }
 }
 
 fn operand(dummies: &[Name], word: &[u8]) -> Option<Expression>
@@ -57,7 +61,12 @@ fn operand(dummies: &[Name], word: &[u8]) -> Option<Expression>
     Some(Expression::Constant(number))
 }
 
-fn binary(alloc: Global, op: BinOp, left: Expression, right: Expression) -> Result<Expression, NoMemory>
+fn binary(
+    alloc: Global,
+    op: BinOp,
+    left: Expression,
+    right: Expression,
+) -> Result<Expression, NoMemory>
     ensures { IfOk result (λ e. e ≡ Expression.Operation op left right) }
 {
     let Ok(left) = Boxed::new(alloc, left) else {
@@ -69,7 +78,11 @@ fn binary(alloc: Global, op: BinOp, left: Expression, right: Expression) -> Resu
     Ok(Expression::Operation(op, left, right))
 }
 
-fn summed(alloc: Global, sum: Option<(BinOp, Expression)>, product: Expression) -> Result<Expression, NoMemory>
+fn summed(
+    alloc: Global,
+    sum: Option<(BinOp, Expression)>,
+    product: Expression,
+) -> Result<Expression, NoMemory>
     ensures { IfOk result (λ e. e ≡ summed_of sum product) }
 {
     match sum {
@@ -113,7 +126,14 @@ fn grouped(
         return grouped(alloc, dummies, sum, product, signs, words);
     }
     let left = summed(alloc, sum, product)?;
-    grouped(alloc, dummies, Some((sign(*first), left)), next, signs, words)
+    grouped(
+        alloc,
+        dummies,
+        Some((sign(*first), left)),
+        next,
+        signs,
+        words,
+    )
 }
 
 fn joined(
@@ -179,8 +199,8 @@ fn assigned_value(
     Ok(Some(Assigned { target, value }))
 }
 
-// The assignment of a card, if it has one.
-fn assignment(
+/// The assignment of a card, if it has one.
+pub(crate) fn assignment(
     alloc: Global,
     dummies: &[Name],
     card: &[u8],

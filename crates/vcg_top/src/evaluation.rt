@@ -1,7 +1,7 @@
 // Names and expressions along the path.
 ghost use Rattle.std.specs.Prelude.{◌≡◌, [], ◌∷◌, ◌++◌, length, IfOk, OnOk};
 ghost use Rattle.formula.specs.Pool.{Grows, IsIn, tree_of};
-ghost use Rattle.vcg_top.specs.Conditions.{value_in, entry_in, evaluated, function_of, binary, check, in_range};
+ghost use Rattle.vcg_top.specs.Conditions.{value_in, evaluated, function_of, binary, check, in_range};
 ghost use Rattle.fort_syntax.specs.declared.condition.Kind.TheVariants.{RangeCheck};
 ghost use Rattle.vcg_top.specs.declared.expression.Expression.{Expression};
 ghost use Rattle.vcg_top.specs.Drafts.{found, AreBound, AreChecks, Adds, bound_in};
@@ -41,24 +41,6 @@ pub(crate) fn value(
         return Ok(symbol);
     };
     Ok(binding.value)
-}
-
-/// The term of a name's value at entry.
-pub(crate) fn entry(
-    pool: &mut TermPool,
-    bindings: &[Binding],
-    name: Word,
-) -> Result<TermId, NoMemory>
-    requires { AreBound pool.old bindings.now }
-    ensures grows { Grows pool.old pool.new }
-    ensures id { IfOk result (λ id. IsIn pool.new id) }
-    ensures tree { IfOk result (λ id. tree_of pool.new id ≡ entry_in (bound_in pool.old bindings.now) name) }
-{
-    let Some(binding) = find(bindings, name.as_bytes()) else {
-        let symbol = pool.symbol(name)?;
-        return Ok(symbol);
-    };
-    Ok(binding.entry)
 }
 
 fn word(name: &Name) -> Word

@@ -23,7 +23,11 @@ fn next_name(names: &[Name], word: &[u8]) -> Option<Name>
         return None;
     }
     let name = Name::new(word)?;
-    if names.contains(&name) { None } else { Some(name) }
+    if names.contains(&name) {
+        None
+    } else {
+        Some(name)
+    }
 }
 
 // The names that these words are, where each is an integer's and none stands twice.

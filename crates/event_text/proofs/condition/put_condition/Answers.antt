@@ -1,5 +1,5 @@
 use Rattle.std.proofs.Common.{◌++◌, ◌∙◌, ap, codes, map, subst, sym}
-use Rattle.formula.specs.Pool.{trees, tree_of, row_in}
+use Rattle.formula.specs.Pool.{trees, row_in}
 use Rattle.event_text.specs.Conditions.{condition_tree}
 use Rattle.event_text.specs.EventText.{lemma_name, note_text}
 use Rattle.event_text.specs.Sending.{Goes}

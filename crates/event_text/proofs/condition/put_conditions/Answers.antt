@@ -1,4 +1,4 @@
-use Rattle.std.proofs.Common.{◌≡◌, ◌<◌, ℕ, ◌++◌, ◌∙◌, ap, arith, get_or, length, map, subst, sym, take}
+use Rattle.std.proofs.Common.{◌<◌, ℕ, ◌++◌, ◌∙◌, ap, arith, get_or, length, map, subst, sym, take}
 use Rattle.std.specs.List.{flat_map, zip}
 use Rattle.fort_syntax.specs.declared.condition.Condition.{Condition}
 use Rattle.event_text.specs.Conditions.{condition_tree}

@@ -1,6 +1,6 @@
-use Rattle.std.proofs.Common.{◌≡◌, ◌++◌, ◌∙◌, ap, sym, subst, length, map, codes, arith, rules}
+use Rattle.std.proofs.Common.{◌++◌, ◌∙◌, ap, sym, subst, length, map, codes, arith, rules}
 use Rattle.formula.specs.declared.node.Node.TheVariants.{Apply}
-use Rattle.formula.specs.Pool.{AllBelow, HasArgumentsBelow, trees, tree_of, tree_in, row_in}
+use Rattle.formula.specs.Pool.{AllBelow, HasArgumentsBelow, trees, tree_in, row_in}
 use Rattle.event_text.specs.Sending.{Goes}
 use Rattle.event_text.specs.TermText.{function_text, row_text, term_text}
 use Rattle.event_text.proofs.First.{first_rest}

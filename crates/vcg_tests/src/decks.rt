@@ -1,0 +1,31 @@
+// Decks, and what is written for them.
+
+/// A subroutine that adds 1 to its argument.
+pub const INC: &[u8] = b"      SUBROUTINE INC(I)
+C$ INPUT (DEFINED I) (ZLESSP I 100)
+C$ OUTPUT (EQUAL I (ZPLUS (OLD I) 1))
+      I = I + 1
+      RETURN
+      END
+";
+
+/// Its conditions.
+pub const INC_TEXT: &[u8] =
+    b"(PROVE-LEMMA INC-1-1 NIL (IMPLIES (AND (ZLEQ LEAST -32767) (ZLEQ 32767 GREATEST) (CELLI I-IN LEAST GREATEST) (DEFINED I-IN) (ZLESSP I-IN 100)) (DEFINED I-IN))) ; DEFINED CARD 4 -
+(PROVE-LEMMA INC-1-2 NIL (IMPLIES (AND (ZLEQ LEAST -32767) (ZLEQ 32767 GREATEST) (CELLI I-IN LEAST GREATEST) (DEFINED I-IN) (ZLESSP I-IN 100) (DEFINED I-IN)) (AND (ZLEQ LEAST (ZPLUS I-IN 1)) (ZLEQ (ZPLUS I-IN 1) GREATEST)))) ; RANGE CARD 4 -
+(PROVE-LEMMA INC-1-3 NIL (IMPLIES (AND (ZLEQ LEAST -32767) (ZLEQ 32767 GREATEST) (CELLI I-IN LEAST GREATEST) (DEFINED I-IN) (ZLESSP I-IN 100) (DEFINED I-IN) (AND (ZLEQ LEAST (ZPLUS I-IN 1)) (ZLEQ (ZPLUS I-IN 1) GREATEST))) (EQUAL (ZPLUS I-IN 1) (ZPLUS I-IN 1)))) ; OUTPUT CARD 5 -
+; 3 CONDITIONS
+";
+
+/// The same with another name, which is no dummy, on card 4.
+pub const OTHER: &[u8] = b"      SUBROUTINE INC(I)
+C$ INPUT (DEFINED I) (ZLESSP I 100)
+C$ OUTPUT (EQUAL I (ZPLUS (OLD I) 1))
+      J = 1
+      RETURN
+      END
+";
+
+/// Why it is refused.
+pub const OTHER_TEXT: &[u8] = b"REFUSED 0 NotBuilt CARD 1
+";

@@ -1,0 +1,13 @@
+-- The statuses with which the program ends.
+use Rattle.std.specs.Prelude.{ℕ}
+use Rattle.vcg_top.specs.declared.status.Status.{Status}
+use Rattle.vcg_top.specs.declared.status.Status.TheVariants.{Done, Refused, Usage, ReadFault, WriteFault, NoMemory}
+
+-- the number of a status
+abbrev pub status_number : Status → ℕ
+status_number Done = 0
+status_number Refused = 1
+status_number Usage = 2
+status_number ReadFault = 3
+status_number WriteFault = 4
+status_number NoMemory = 5
