@@ -14,14 +14,14 @@ use Rattle.fort_syntax.specs.declared.unit.Unit.{Unit as Routine}
 use Rattle.fort_model.specs.Trees.{only}
 use Rattle.fort_model.specs.Names.{Intrinsic, Absolute, Modulo, Greatest, Least, Applied, Element, BuiltIn, Reference, applied, function, unit_at}
 use Rattle.fort_model.specs.Sites.{calls_in}
-use Rattle.fort_model.specs.Cells.{num, holds, is_defined, same_int, count, lies_in, arithmetic, compares}
+use Rattle.fort_model.specs.Cells.{num, holds, is_defined, same_cell, count, lies_in, arithmetic, compares}
 use Rattle.fort_model.specs.Storage.{Extent, Environment, load}
 use Rattle.fort_model.specs.Places.{dim_values, place}
 use Rattle.fort_model.specs.Processor.{Processor}
 use Rattle.fort_model.specs.Outcome.{Act, ◌>>=◌, ◌>>◌, give, check, held}
 use Rattle.fort_model.specs.Passing.{Taken, Cells, Fresh, passed, Caller, call}
 
--- where evaluation goes on: the processor, the units of the deck, and the unit with its cells
+-- where evaluation goes on: the processor, the units of the deck, the unit, and the cells of its names
 pub record Scene : Type 0 where
   pub processor : Processor
   pub units : List Routine
@@ -56,15 +56,15 @@ constant p card c = do
   check RangeCheck card (int_le (pos c) p.greatest)
   give (Int (pos c))
 
-abbrev pub divisor : ℕ → ℤ → Act (Unit {0})
-divisor card z = check DivisorCheck card (not (same_int z (pos 0)))
+abbrev pub divisor : ℕ → Cell → Act (Unit {0})
+divisor card c = check DivisorCheck card (not (same_cell c (Int (pos 0))))
 
 -- + - * and /
-abbrev pub operate : Processor → ℕ → BinOp → ℤ → ℤ → Act Cell
+abbrev pub operate : Processor → ℕ → BinOp → Cell → Cell → Act Cell
 operate p card Div a b = do
   divisor card b
-  ranged p card (arithmetic Div a b)
-operate p card o a b = ranged p card (arithmetic o a b)
+  ranged p card (arithmetic Div (num a) (num b))
+operate p card o a b = ranged p card (arithmetic o (num a) (num b))
 
 -- a power is a product of the base with itself, from the left; each product must be in range
 abbrev pub power_on : Processor → ℕ → ℤ → ℕ → ℤ → Act Cell
@@ -76,7 +76,7 @@ power_on p card base (suc more) product = do
 abbrev pub power : Processor → ℕ → ℤ → ℕ → Act Cell
 power p card base exponent = power_on p card base (pred exponent) base
 
--- the greatest and the least of some numbers
+-- the greater and the smaller of two numbers, and such a function on several numbers from the left
 abbrev pub greater : ℤ → ℤ → ℤ
 greater a b = cond (int_lt a b) b a
 
@@ -91,7 +91,7 @@ folded f z (c ∷ cs) = folded f (f z (num c)) cs
 abbrev pub intrinsic_value : Processor → ℕ → Intrinsic → List Cell → Act Cell
 intrinsic_value p card Absolute (a ∷ []) = ranged p card (pos (unsigned_abs (num a)))
 intrinsic_value p card Modulo (a ∷ b ∷ []) = do
-  divisor card (num b)
+  divisor card b
   q ← ranged p card (int_div (num a) (num b))
   give (Int (num a -ℤ num q *ℤ num b))
 intrinsic_value p card Greatest (a ∷ cs) = give (Int (folded greater (num a) cs))
@@ -102,13 +102,14 @@ abbrev pub numbers : List Cell → List ℤ
 numbers [] = []
 numbers (c ∷ cs) = num c ∷ numbers cs
 
--- all subscripts must lie in their dimensions, the first before the second; then the element's cell is taken
+-- each subscript must lie from 1 to its dimension; they are judged in order
 abbrev pub subscripts_in : ℕ → List ℤ → List ℤ → Act (Unit {0})
 subscripts_in card (s ∷ ss) (d ∷ ds) = do
   check SubscriptCheck card (lies_in (pos 1) d s)
   subscripts_in card ss ds
 subscripts_in card _ _ = give tt
 
+-- an element by the values of its subscripts: the cell at its place in the array is taken
 abbrev pub element : Environment → ℕ → Extent → List Dim → List Cell → Act Taken
 element env card array dims subscripts = do
   st ← held
@@ -136,8 +137,9 @@ apply s run card k f (BuiltIn i) values actuals = do
   fresh (intrinsic_value s.processor card i cs)
 apply s run card k f Reference values actuals = fresh (call_at s run (suc k) actuals (function s.units f))
 
--- An expression is taken at a card, where k calls stand before it in the text of the unit. A row is
--- read from the left, or its parts are only taken.
+-- An expression of the scene's unit is taken, where units are run by `run`. Errors are told at `card`, and
+-- k calls stand before the expression in the text of the unit. The expressions of a row are read from
+-- the left, or they are only taken.
 abbrev mutual
   pub taken : Scene → Caller → ℕ → ℕ → Expr → Act Taken
   taken s run card k (Const c) = fresh (constant s.processor card c)
@@ -158,7 +160,7 @@ abbrev mutual
   taken s run card k (Bin' o _ (only a) _ (only b)) = do
     v ← valued card (taken s run card k a)
     w ← valued card (taken s run card (k + calls_in s.unit a) b)
-    fresh (operate s.processor card o (num v) (num w))
+    fresh (operate s.processor card o v w)
   taken s run card k (Rel' o _ (only a) _ (only b)) = do
     v ← valued card (taken s run card k a)
     w ← valued card (taken s run card (k + calls_in s.unit a) b)

@@ -123,7 +123,8 @@ result s card true = do
   st ← held
   check ResultCheck card (is_defined (load st (s.environment s.unit.name).first))
 
--- A statement is performed at a card and a point, where k calls stand before it in the text of the unit.
+-- A statement of the scene's unit, which stands at a card and a point, is performed; k calls stand before it in
+-- the text of the unit.
 abbrev pub perform : Scene → Caller → ℕ → ℕ → ℕ → Stmt → Act (List ℕ)
 perform s run card pc k (Assign left right) = do
   c ← evaluate s run card (k + calls_in s.unit left) right

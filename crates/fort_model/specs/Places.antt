@@ -33,8 +33,3 @@ place_on p q _ _ = p
 -- the place of an element, from 1, by its subscripts and the dimensions of its array
 abbrev pub place : List ℤ → List ℤ → ℤ
 place ss ds = place_on (pos 1) (pos 1) ss ds
-
--- each subscript lies from 1 to its dimension
-abbrev pub are_within : List ℤ → List ℤ → Bool
-are_within (s ∷ ss) (d ∷ ds) = lies_in (pos 1) d s && are_within ss ds
-are_within _ _ = true

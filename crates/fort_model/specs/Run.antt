@@ -30,7 +30,8 @@ enter u env = do
 abbrev pub own_value : Routine → Environment → Storage → Cell
 own_value u env st = cond (is_function u) (load st (env u.name).first) Undefined
 
--- Leaving reads the value of a FUNCTION and drops the new cells: so many remain as there were before.
+-- Leaving reads the value of a FUNCTION and drops the new cells: so many remain as there were before. A call
+-- then writes copies back and drops their cells.
 abbrev pub leave : Routine → Environment → ℕ → Act Cell
 leave u env before = do
   st ← held
