@@ -1,8 +1,8 @@
 -- Sizes of arrays, and the places of their elements. The first subscript varies fastest.
-use Rattle.std.specs.Prelude.{ℕ, Bool, true, ◌&&◌, ℤ, pos, ◌+ℤ◌, ◌-ℤ◌, ◌*ℤ◌, List, [], ◌∷◌, map}
+use Rattle.std.specs.Prelude.{ℕ, ℤ, pos, ◌+ℤ◌, ◌-ℤ◌, ◌*ℤ◌, List, [], ◌∷◌, map}
 use Rattle.fort_syntax.specs.declared.stmt.Dim.{Dim}
 use Rattle.fort_syntax.specs.declared.stmt.Dim.TheVariants.{Fixed, Named}
-use Rattle.fort_model.specs.Cells.{num, count, lies_in}
+use Rattle.fort_model.specs.Cells.{num, count}
 use Rattle.fort_model.specs.Storage.{Storage, Environment, load}
 
 -- a dimension is a constant, or what the cell of its name holds
