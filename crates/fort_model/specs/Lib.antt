@@ -1,0 +1,17 @@
+pub mod Processor
+pub mod Trees
+pub mod Names
+pub mod Sites
+pub mod Flow
+pub mod Cells
+pub mod Storage
+pub mod Places
+pub mod Outcome
+pub mod Passing
+pub mod Evaluate
+pub mod Perform
+pub mod Run
+pub mod Decks
+pub mod Rows
+pub mod FormRows
+pub mod FlowRows

@@ -1,0 +1,92 @@
+-- What names mean in a unit, and which unit a call is of.
+use Rattle.std.specs.Prelude.{ℕ, suc, Bool, true, false, cond, not, ◌&&◌, List, [], ◌∷◌, Option, Some, None, is_some, slice_get, nat_eq, codes}
+use Rattle.std.specs.Cmp.Lexicographic.{pointwise}
+use Rattle.fort_syntax.specs.declared.name.Name.{Name}
+use Rattle.fort_syntax.specs.declared.stmt.Dim.{Dim}
+use Rattle.fort_syntax.specs.declared.unit.DataName.{DataName}
+use Rattle.fort_syntax.specs.declared.unit.Role.{Role}
+use Rattle.fort_syntax.specs.declared.unit.Role.TheVariants.{Dummy, InCommon, OwnValue, Local}
+use Rattle.fort_syntax.specs.declared.unit.Unit.{Unit as Routine}
+
+abbrev pub same_name : Name → Name → Bool
+same_name = pointwise nat_eq
+
+-- the first data name in a list with this name
+abbrev pub data_name_in : List DataName → Name → Option DataName
+data_name_in [] x = None
+data_name_in (d ∷ ds) x = cond (same_name d.name x) (Some d) (data_name_in ds x)
+
+-- the data name of a unit with this name: its type, its dimensions and its role
+abbrev pub data_name : Routine → Name → Option DataName
+data_name u x = data_name_in u.names x
+
+abbrev pub dims_in : Option DataName → List Dim
+dims_in None = []
+dims_in (Some d) = d.dims
+
+-- the dimensions of a name in a unit: none where it is a scalar, or no data name at all
+abbrev pub dims_of : Routine → Name → List Dim
+dims_of u x = dims_in (data_name u x)
+
+-- locals, and the value of a FUNCTION, get new cells at each entry; the other data names have the cells of the caller
+abbrev pub is_own : Role → Bool
+is_own Dummy = false
+is_own InCommon = false
+is_own OwnValue = true
+is_own Local = true
+
+-- the data names that get new cells at each entry, in order
+abbrev pub own_in : List DataName → List DataName
+own_in [] = []
+own_in (d ∷ ds) =
+    let rest = own_in ds in
+    cond (is_own d.role) (d ∷ rest) rest
+
+abbrev pub own_names : Routine → List DataName
+own_names u = own_in u.names
+
+-- the intrinsic functions
+pub data Intrinsic : Type 0 where
+  Absolute Modulo Greatest Least : Intrinsic
+
+abbrev pub intrinsic : Name → Option Intrinsic
+intrinsic f =
+    cond (same_name f (codes "IABS")) (Some Absolute)
+    (cond (same_name f (codes "MOD")) (Some Modulo)
+    (cond (same_name f (codes "MAX0")) (Some Greatest)
+    (cond (same_name f (codes "MIN0")) (Some Least) None)))
+
+-- what a name before a bracket is in an expression
+pub data Applied : Type 0 where
+  Element : List Dim → Applied
+  BuiltIn : Intrinsic → Applied
+  Reference : Applied
+
+abbrev pub applied_by : List Dim → Option Intrinsic → Applied
+applied_by (d ∷ ds) i = Element (d ∷ ds)
+applied_by [] (Some i) = BuiltIn i
+applied_by [] None = Reference
+
+-- an array of the unit, whatever its name; else an intrinsic function; else a FUNCTION of the deck
+abbrev pub applied : Routine → Name → Applied
+applied u f = applied_by (dims_of u f) (intrinsic f)
+
+-- the number, from 0, of the first unit of a kind in a list whose first has the number i
+abbrev pub first_unit : (Routine → Bool) → List Routine → ℕ → Option ℕ
+first_unit is [] i = None
+first_unit is (u ∷ us) i = cond (is u) (Some i) (first_unit is us (suc i))
+
+abbrev pub is_function : Routine → Bool
+is_function u = is_some u.sort
+
+-- the unit that a CALL of a name is of: the first SUBROUTINE with that name
+abbrev pub subroutine : List Routine → Name → Option ℕ
+subroutine units f = first_unit (λ u. not (is_function u) && same_name u.name f) units 0
+
+-- the unit that a reference to a name is of: the first FUNCTION with that name
+abbrev pub function : List Routine → Name → Option ℕ
+function units f = first_unit (λ u. is_function u && same_name u.name f) units 0
+
+abbrev pub unit_at : List Routine → Option ℕ → Option Routine
+unit_at units None = None
+unit_at units (Some i) = slice_get units i

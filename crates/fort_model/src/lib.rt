@@ -1,0 +1,21 @@
+//! What a processor does with a deck.
+#![tactic(auto)]
+
+mod bounds;
+mod flow_rows;
+mod form_rows;
+mod rows;
+
+pub use bounds::{Bounds, processor};
+pub use flow_rows::{flow_of_blocks, flow_of_choices, flow_of_loops, flow_past_loops};
+pub use form_rows::{
+    arrays_are_passed_whole, blocks_nest, calls_are_numbered_by_the_text, intrinsic_functions,
+    loops_count_by_steps, passed_over_loops, powers_are_products, signs_choose,
+};
+pub use rows::{
+    choices_in_both_dialects, common_by_reference_and_by_copy, elements_are_written_back,
+    first_subscript_varies_fastest, functions_answer_their_value, inc_takes_three_steps,
+    lazy_leaves_out, locals_forget, loops_in_both_dialects, loops_that_share_their_end,
+    ninth_place_of_four_dimensions, one_branch_is_performed, quotients_are_cut,
+    rotated_in_any_manner, subscripts_keep_to_their_dimensions,
+};
