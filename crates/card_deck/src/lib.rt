@@ -1,0 +1,15 @@
+//! Cards: from the bytes of a deck to its statements and notes.
+#![tactic(auto)]
+
+mod advance;
+mod begin;
+mod columns;
+mod deck;
+mod held;
+mod label;
+mod reading;
+mod rules;
+mod text;
+
+
+pub use deck::cards;
