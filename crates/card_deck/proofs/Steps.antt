@@ -64,4 +64,4 @@ pub has_note : (before : Before) (card : Card) → kind_of card ≡ NoteCard →
     → no_note before ≡ false
 has_note before card kind plus clean =
     subst (λ b. (if b then no_note before else not (column 3 card == 32)) ≡ false) plus
-      (subst (λ k. (is_note k && (if is_plus card then no_note before else not (column 3 card == 32))) ≡ false) kind (clean_card before card clean).3)
+    (subst (λ k. (is_note k && (if is_plus card then no_note before else not (column 3 card == 32))) ≡ false) kind (clean_card before card clean).3)

@@ -9,7 +9,8 @@ mod held;
 mod label;
 mod reading;
 mod rules;
+#[cfg(test)]
+mod tests;
 mod text;
-
 
 pub use deck::cards;

@@ -11,7 +11,7 @@ pub returns-in_ok-put_dense-in-Statement-clause-entries :
     goal.returns-in_ok-put_dense-in-Statement-clause-entries
 returns-in_ok-put_dense-in-Statement-clause-entries c = λ rest.
     ap (λ t. Statement c.in-Statement.begun.card c.in-Statement.begun.label t ∷ [])
-      (continues c.in-Statement.begun.text.items c.put_dense.new.text.items c.args.card.now rest c.requires.kind
-        (c.in_ok-put_dense-in-Statement.ensures
-          ∙ ap (λ t. c.in-Statement.begun.text.items ++ map to_ascii_uppercase (without_blanks t)) (whole 6 c.args.card.now)))
+    (continues c.in-Statement.begun.text.items c.put_dense.new.text.items c.args.card.now rest c.requires.kind
+    (c.in_ok-put_dense-in-Statement.ensures
+    ∙ ap (λ t. c.in-Statement.begun.text.items ++ map to_ascii_uppercase (without_blanks t)) (whole 6 c.args.card.now)))
     ∙ ap (λ h. finished h (c.args.card.now ∷ rest)) (sym c.in-Statement.is)

@@ -7,4 +7,4 @@ use Rattle.card_deck.proofs.text.put_dense.Given as goal
 abbrev pub invariant-loop-byte : goal.invariant-loop-byte
 invariant-loop-byte l =
     l.text.items ++ map to_ascii_uppercase (without_blanks (drop l.byte-index l.bytes))
-      ≡ l.initial.text.items ++ map to_ascii_uppercase (without_blanks l.bytes)
+    ≡ l.initial.text.items ++ map to_ascii_uppercase (without_blanks l.bytes)
