@@ -78,6 +78,5 @@ pub(crate) fn read_last(alloc: Global, reading: &mut Reading, card: &[u8]) -> Re
     if card.is_empty() {
         return Ok(());
     }
-    read(alloc, reading, card)?;
-    Ok(())
+    read(alloc, reading, card)
 }
