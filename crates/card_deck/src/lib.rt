@@ -1,0 +1,16 @@
+//! Cards: from the bytes of a deck to its statements and notes.
+#![tactic(auto)]
+
+mod advance;
+mod begin;
+mod columns;
+mod deck;
+mod held;
+mod label;
+mod reading;
+mod rules;
+#[cfg(test)]
+mod tests;
+mod text;
+
+pub use deck::cards;
