@@ -81,7 +81,7 @@ fn statements_and_notes_have_cards_labels_and_texts(rt: HostRuntime) -> Result<(
     let entries = cards(alloc, INC).map_err(|_| "refused")?.into_vec();
     let wanted = vec![in alloc;
         statement(alloc, 1, 0, b"SUBROUTINEINC(I)")?,
-        note(alloc, 2, b" INPUT (DEFINED I)", b"(ZLESSP I 100)")?,
+        note(alloc, 2, b"INPUT (DEFINED I)", b"(ZLESSP I 100)")?,
         statement(alloc, 5, 10, b"I=I+1")?,
         statement(alloc, 7, 0, b"RETURN")?,
         statement(alloc, 8, 0, b"END")?,
