@@ -78,7 +78,7 @@ fn broken(rule: Rule, card: u32) -> Option<Refusal> {
 #[test]
 fn statements_and_notes_have_cards_labels_and_texts(rt: HostRuntime) -> Result<(), Fail> {
     let alloc = rt.alloc();
-    let entries = cards(alloc, INC).map_err(|_| "refused")?.into_vec();
+    let entries = cards(alloc, INC).ok().ok_or("refused")?.into_vec();
     let wanted = vec![in alloc;
         statement(alloc, 1, 0, b"SUBROUTINEINC(I)")?,
         note(alloc, 2, b"INPUT (DEFINED I)", b"(ZLESSP I 100)")?,
@@ -87,7 +87,7 @@ fn statements_and_notes_have_cards_labels_and_texts(rt: HostRuntime) -> Result<(
         statement(alloc, 8, 0, b"END")?,
     ]?;
     assert!(rt; entries == wanted);
-    let same = cards(alloc, &numbered(alloc, INC)?).map_err(|_| "refused")?;
+    let same = cards(alloc, &numbered(alloc, INC)?).ok().ok_or("refused")?;
     assert!(rt; same.into_vec() == wanted);
     Ok(())
 }
@@ -95,7 +95,7 @@ fn statements_and_notes_have_cards_labels_and_texts(rt: HostRuntime) -> Result<(
 #[test]
 fn nineteen_cards_continue_a_statement(rt: HostRuntime) -> Result<(), Fail> {
     let alloc = rt.alloc();
-    let entries = cards(alloc, &continued(alloc, 19)?).map_err(|_| "refused")?;
+    let entries = cards(alloc, &continued(alloc, 19)?).ok().ok_or("refused")?;
     assert_eq!(rt; entries.as_slice().len(), 6);
     let deck = continued(alloc, 20)?;
     assert_eq!(rt; cards(alloc, &deck).err(), broken(Rule::ManyCards, 24));
