@@ -1,5 +1,5 @@
 -- One card more.
-use Rattle.std.proofs.Common.{◌≡◌, ℕ, ◌+◌, ◌-◌, length, take, drop, length-drop, arith, List, [], ◌∷◌, ◌++◌, Bool, true, false, None, ap, ◌∙◌, sym, append_assoc, refl, subst, rules}
+use Rattle.std.proofs.Common.{◌≡◌, ℕ, ◌+◌, ◌-◌, length, take, drop, length-drop, arith, List, ◌∷◌, ◌++◌, Bool, true, false, None, ap, ◌∙◌, sym, append_assoc, refl, subst, rules}
 use Rattle.std.specs.Prelude.{Option, Some, if◌then◌else◌, not, ◌&&◌, ◌==◌}
 use Rattle.std.proofs.lemmas.List.{take_all}
 use Rattle.fort_syntax.specs.Cards.{Card, kind_of, statement_text, continuing, continued, begun_by, entries_from, is_label, label_field, is_plus, column}

@@ -1,5 +1,5 @@
 -- What a state of reading makes of the cards to come.
-use Rattle.std.specs.Prelude.{ℕ, List, ◌++◌, Option}
+use Rattle.std.specs.Prelude.{List, ◌++◌, Option}
 use Rattle.fort_syntax.specs.Cards.{Card, entries_from}
 use Rattle.fort_syntax.specs.CardRules.{fault_from}
 use Rattle.fort_syntax.specs.declared.cards.Entry.{Entry}

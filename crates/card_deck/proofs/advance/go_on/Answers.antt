@@ -1,6 +1,6 @@
 use Rattle.card_deck.proofs.Steps.{has_label}
 use Rattle.card_deck.specs.Held.{before_of}
-use Rattle.std.proofs.Common.{rules, sym, ◌∙◌}
+use Rattle.std.proofs.Common.{sym, ◌∙◌}
 use Rattle.card_deck.proofs.advance.go_on.Goals as goal
 
 pub statement-requires-clause-good : goal.statement-requires-clause-good

@@ -1,4 +1,4 @@
-use Rattle.std.proofs.Common.{◌++◌, List, [], ◌∷◌, ap, ◌∙◌, sym}
+use Rattle.std.proofs.Common.{◌++◌, [], ◌∷◌, ap, ◌∙◌, sym}
 use Rattle.std.specs.Prelude.{map}
 use Rattle.std.specs.Char.{to_ascii_uppercase}
 use Rattle.fort_syntax.specs.Cards.{without_blanks}

@@ -1,4 +1,4 @@
-use Rattle.std.proofs.Common.{rules, ap, sym, ◌∙◌, drop, suc, drop-cons, arith}
+use Rattle.std.proofs.Common.{rules, ap, sym, ◌∙◌, drop, suc, drop-cons}
 use Rattle.fort_syntax.specs.Cards.{cards_from}
 use Rattle.card_deck.specs.Reading.{fault_with}
 use Rattle.card_deck.proofs.deck.cards.Goals as goal
