@@ -1,4 +1,6 @@
+pub mod Adding
 pub mod Atoms
+pub mod Bounded
 pub mod Functions
 pub mod Grammar
 pub mod Named
@@ -9,4 +11,6 @@ pub mod Reading
 pub mod Substitution
 pub mod Tokens
 pub mod Tree
+pub mod Values
 pub mod Word
+pub mod Worth

@@ -5,6 +5,7 @@ mod atom_terms;
 mod atoms;
 mod closing;
 mod definition;
+mod definition_fault;
 mod definitions;
 mod fault;
 mod function;
@@ -29,6 +30,7 @@ pub use atoms::{
     number, spelled,
 };
 pub use definition::{Body, Definition, Heading};
+pub use definition_fault::DefFault;
 pub use definitions::Definitions;
 pub use fault::ReadFault;
 pub use function::{Arity, BuiltIn, Func};
