@@ -1,3 +1,4 @@
 pub mod Filled
 pub mod Last
+pub mod LeastFault
 pub mod Steps

@@ -7,6 +7,7 @@ mod columns;
 mod deck;
 mod held;
 mod label;
+mod least_fault;
 mod reading;
 mod rules;
 #[cfg(test)]
@@ -14,3 +15,4 @@ mod tests;
 mod text;
 
 pub use deck::cards;
+pub use least_fault::first_card_fault_is_least;

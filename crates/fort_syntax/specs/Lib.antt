@@ -1,3 +1,4 @@
+pub mod CardFaults
 pub mod CardRules
 pub mod Cards
 pub mod Conditions

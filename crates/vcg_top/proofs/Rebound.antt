@@ -6,11 +6,8 @@ use Rattle.formula.specs.declared.node.TermId.{TermId}
 use Rattle.formula.specs.Atoms.{same_bytes}
 use Rattle.formula.specs.Pool.{IsIn, tree_of}
 use Rattle.vcg_top.specs.declared.check.Binding.{Binding}
-use Rattle.vcg_top.specs.declared.check.Check.{Check}
-use Rattle.vcg_top.specs.declared.assignment.Assigned.{Assigned}
-use Rattle.vcg_top.specs.Conditions.{Bound, assigned_in, evaluated, walked, with_value}
-use Rattle.vcg_top.specs.Drafts.{bound_of, bound_in, rebound, AreBound, Adds}
-use Rattle.vcg_top.proofs.Drafted.{Adds-trans}
+use Rattle.vcg_top.specs.Conditions.{Bound, assigned_in, with_value}
+use Rattle.vcg_top.specs.Drafts.{bound_of, bound_in, rebound, AreBound}
 
 abbrev with_id : Binding → TermId → Binding
 with_id b id = record { name = b.name; value = id; entry = b.entry }
@@ -40,15 +37,7 @@ bound_in-rebound pool (b ∷ rest) name id =
     bound_in-if (same_bytes b.name name) pool (with_id b id ∷ rest) (b ∷ rebound rest name id)
     ∙ ap (λ (r : List Bound). if same_bytes b.name name then with_value (bound_of pool b) (tree_of pool id) ∷ bound_in pool rest else bound_of pool b ∷ r) (bound_in-rebound pool rest name id)
 
--- an assignment and then the rest
-pub walked_adds : (p0 p1 p2 : List Node) (c0 c1 c2 : List Check) (env env1 : List Bound) (card : ℕ) (a : Assigned) (rest : List Assigned)
-    → env1 ≡ assigned_in env a.target (evaluated env card a.value).term
-    → Adds p0 p1 c0 c1 (evaluated env card a.value).checks → Adds p1 p2 c1 c2 (walked env1 (card + 1) rest).checks
-    → Adds p0 p2 c0 c2 (walked env card (a ∷ rest)).checks
-walked_adds p0 p1 p2 c0 c1 c2 env env1 card a rest e first later =
-    Adds-trans p0 p1 p2 c0 c1 c2 _ _ first (subst (λ (v : List Bound). Adds p1 p2 c1 c2 (walked v (card + 1) rest).checks) e later)
-
--- the same, for the binding that was read there
+-- the same as `rebound_at`, for the binding that was read there
 pub rebound_item : (bs : List Binding) (i : ℕ) (name : List ℕ) (id : TermId) (d : Binding) → i < length bs → d ≡ get_or bs i d → same_bytes d.name name ≡ true
     → slice_set bs i (record { name = d.name; value = id; entry = d.entry }) ≡ take i bs ++ rebound (drop i bs) name id
 rebound_item bs i name id d h is e =
