@@ -1,0 +1,6 @@
+//! Laws of runs: what holds of every run, whatever the deck.
+#![tactic(auto)]
+
+mod steps;
+
+pub use steps::{fewer_steps_are_not_enough, fuel_does_not_matter, more_steps_change_nothing};
