@@ -1,6 +1,8 @@
 //! Laws of runs: what holds of every run, whatever the deck.
 #![tactic(auto)]
 
+mod places;
 mod steps;
 
+pub use places::elements_lie_in_arrays;
 pub use steps::{fewer_steps_are_not_enough, fuel_does_not_matter, more_steps_change_nothing};
