@@ -5,6 +5,7 @@ mod bounds;
 mod flow_rows;
 mod form_rows;
 mod rows;
+mod walk_rows;
 
 pub use bounds::{Bounds, processor};
 pub use flow_rows::{flow_of_blocks, flow_of_choices, flow_of_loops, flow_past_loops};
@@ -19,3 +20,4 @@ pub use rows::{
     ninth_place_of_four_dimensions, one_branch_is_performed, quotients_are_cut,
     rotated_in_any_manner, subscripts_keep_to_their_dimensions,
 };
+pub use walk_rows::conditions_of_inc;
