@@ -20,4 +20,4 @@ pub use rows::{
     ninth_place_of_four_dimensions, one_branch_is_performed, quotients_are_cut,
     rotated_in_any_manner, subscripts_keep_to_their_dimensions,
 };
-pub use walk_rows::conditions_of_inc;
+pub use walk_rows::{checks_of_loop, checks_of_nest, checks_of_pick, checks_of_quotients, checks_of_sign, checks_of_subscripts, checks_of_twice, checks_of_up_to, conditions_of_inc};
