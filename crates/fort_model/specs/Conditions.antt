@@ -8,7 +8,8 @@ use Rattle.fort_syntax.specs.declared.name.Name.{Name}
 use Rattle.fort_syntax.specs.declared.condition.Kind.{Kind}
 use Rattle.fort_syntax.specs.declared.unit.Unit.{Unit as Routine}
 use Rattle.fort_model.specs.Program.{Program, notes_of}
-use Rattle.fort_model.specs.Senses.{Sense, of_words, of_terms, of_nothing}
+use Rattle.fort_model.specs.Senses.{Sense, of_values, by_words, of_terms, of_nothing}
+use Rattle.fort_model.specs.Symbols.{Symbol}
 use Rattle.fort_model.specs.Events.{Event, Check, Take, verdict, reaches, fails_at, labels}
 use Rattle.fort_model.specs.Paths.{Path, ArePathsInOrder}
 use Rattle.fort_model.specs.WalkCalls.{Sight}
@@ -28,9 +29,13 @@ pub record Condition : Type 0 where
 abbrev pub sight : {V : Type 0} → Sense V → Program → ℕ → Routine → Sight V
 sight s p i u = record { sense = s; program = p; number = i; unit = u }
 
+-- the walk along a path of a unit, by the values of symbols
+abbrev pub walked_by : Program → ℕ → Routine → (Symbol → Value) → Path → List (Event Value)
+walked_by p i u values path = walk (sight (of_values p.functions values) p i u) path
+
 -- the walk along a path of a unit, by the values of words
 abbrev pub walked : Program → ℕ → Routine → Valuation → Path → List (Event Value)
-walked p i u words path = walk (sight (of_words p.functions words) p i u) path
+walked p i u words path = walked_by p i u (by_words words) path
 
 -- the kinds and cards of the checks of a path
 abbrev pub checks_of : Program → ℕ → Routine → Path → List (Kind × ℕ)

@@ -28,3 +28,4 @@ pub mod Rows
 pub mod FormRows
 pub mod FlowRows
 pub mod WalkRows
+pub mod VerdictRows

@@ -34,9 +34,9 @@ of_values fs values = record {
   named = values;
 }
 
--- values, by the values of words
-abbrev pub of_words : List Function → Valuation → Sense Value
-of_words fs words = of_values fs (λ s. words (word_of s))
+-- the values of symbols, by the values of words
+abbrev pub by_words : Valuation → Symbol → Value
+by_words words s = words (word_of s)
 
 -- terms
 abbrev pub of_terms : Sense Tree
