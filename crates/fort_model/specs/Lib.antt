@@ -1,4 +1,5 @@
 pub mod Processor
+pub mod Lists
 pub mod Trees
 pub mod Names
 pub mod Sites
@@ -11,6 +12,7 @@ pub mod Passing
 pub mod Evaluate
 pub mod Perform
 pub mod Run
+pub mod Calls
 pub mod Symbols
 pub mod Program
 pub mod Senses
@@ -23,6 +25,9 @@ pub mod WalkStmt
 pub mod Paths
 pub mod Walk
 pub mod Conditions
+pub mod Smashes
+pub mod Fits
+pub mod Correct
 pub mod Decks
 pub mod Rows
 pub mod FormRows

@@ -8,6 +8,7 @@ use Rattle.std.specs.declared.cmp.Ordering.TheVariants.{Less}
 use Rattle.fort_syntax.specs.declared.dialect.Dialect.{Dialect}
 use Rattle.fort_syntax.specs.declared.unit.Line.{Line}
 use Rattle.fort_syntax.specs.declared.unit.Unit.{Unit as Routine}
+use Rattle.fort_model.specs.Lists.{IsAmong}
 use Rattle.fort_model.specs.Flow.{leads}
 use Rattle.fort_model.specs.Program.{Assertion, Notes, assertion_at}
 
@@ -90,9 +91,6 @@ ascend_from a (b ∷ rest) = comes_before a b × ascend_from b rest
 abbrev pub Ascend : List Path → Type 0
 Ascend [] = Unit {0}
 Ascend (a ∷ rest) = ascend_from a rest
-
-abbrev pub IsAmong : {A : Type 0} → A → List A → Type 0
-IsAmong {A} a xs = (k : ℕ) × (slice_get xs k ≡ Some a)
 
 -- a list is the paths of a unit in order: it ascends, and holds just the paths
 pub record ArePathsInOrder (dialect : Dialect) (u : Routine) (notes : Notes) (paths : List Path) : Type 0 where
