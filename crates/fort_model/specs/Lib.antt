@@ -28,6 +28,9 @@ pub mod Conditions
 pub mod Smashes
 pub mod Fits
 pub mod Correct
+pub mod Ranges
+pub mod Arguments
+pub mod CallRules
 pub mod Decks
 pub mod Rows
 pub mod FormRows
