@@ -5,6 +5,8 @@ mod bounds;
 mod flow_rows;
 mod form_rows;
 mod rows;
+mod verdict_rows;
+mod walk_rows;
 
 pub use bounds::{Bounds, processor};
 pub use flow_rows::{flow_of_blocks, flow_of_choices, flow_of_loops, flow_past_loops};
@@ -19,3 +21,5 @@ pub use rows::{
     ninth_place_of_four_dimensions, one_branch_is_performed, quotients_are_cut,
     rotated_in_any_manner, subscripts_keep_to_their_dimensions,
 };
+pub use verdict_rows::{calls_keep_what_is_not_smashed, calls_take_output, clocks_fall_by_their_first_part, functions_in_one_another, walks_keep_the_bound, walks_of_inc, walks_past_loops};
+pub use walk_rows::{checks_of_loop, checks_of_nest, checks_of_pick, checks_of_quotients, checks_of_sign, checks_of_subscripts, checks_of_twice, checks_of_up_to, conditions_of_inc};
