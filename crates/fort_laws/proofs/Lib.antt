@@ -1,3 +1,5 @@
+pub mod BothParts
+pub mod BothSenses
 pub mod PlaceBounds
 pub mod Tied
 pub mod TiedParts
