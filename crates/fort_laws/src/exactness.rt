@@ -1,0 +1,14 @@
+// What conditions say of walks.
+ghost use Rattle.fort_laws.specs.Exactness.{ChecksDoNotDependOnValues, ConditionsAreExact};
+
+/// Along all paths of a program, its conditions are exact. There is one for each check of each
+/// walk, in order; whatever the values of symbols, its hypotheses are all true just where the walk
+/// reaches that check, and it is false just where the walk fails there. It does nothing.
+pub fn conditions_are_exact()
+    ensures { ConditionsAreExact }
+{}
+
+/// The kinds and cards of the checks of a walk are the same for all values. It does nothing.
+pub fn checks_do_not_depend_on_values()
+    ensures { ChecksDoNotDependOnValues }
+{}
