@@ -31,9 +31,12 @@ pub mod Correct
 pub mod Ranges
 pub mod Arguments
 pub mod CallRules
+pub mod Rules
+pub mod Fitting
 pub mod Decks
 pub mod Rows
 pub mod FormRows
 pub mod FlowRows
 pub mod WalkRows
 pub mod VerdictRows
+pub mod RuleRows

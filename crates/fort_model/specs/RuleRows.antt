@@ -1,0 +1,193 @@
+-- Small decks and the rules that they break.
+use Rattle.std.specs.Prelude.{◌≡◌, ℕ, Bool, List, [], ◌∷◌, Some, None, codes}
+use Rattle.fort_syntax.specs.declared.dialect.BinOp.TheVariants.{Add}
+use Rattle.fort_syntax.specs.declared.dialect.RelOp.TheVariants.{Lt, Eq}
+use Rattle.fort_syntax.specs.declared.dialect.Dialect.{Dialect}
+use Rattle.fort_syntax.specs.declared.dialect.Dialect.TheVariants.{Common, SeventySeven}
+use Rattle.fort_syntax.specs.declared.expr.Expr.{Expr}
+use Rattle.fort_syntax.specs.declared.expr.Expr.TheVariants.{Const, Var}
+use Rattle.fort_syntax.specs.declared.name.Name.{Name}
+use Rattle.fort_syntax.specs.declared.rule.Rule.{Rule}
+use Rattle.fort_syntax.specs.declared.rule.Rule.TheVariants.{BadLastOfDo, CrossedDo, JumpIntoDo, DoSmashed, FallsOffEnd, UncutCycle, Recursion, BadArguments, SmashedNotName, SmashedTwice, SmashedCommon, BlockMissing}
+use Rattle.fort_syntax.specs.declared.stmt.BlockName.TheVariants.{Named as Block}
+use Rattle.fort_syntax.specs.declared.stmt.Dim.{Dim}
+use Rattle.fort_syntax.specs.declared.stmt.Dim.TheVariants.{Fixed, Named}
+use Rattle.fort_syntax.specs.declared.stmt.Group.{Group}
+use Rattle.fort_syntax.specs.declared.stmt.Param.TheVariants as parameter
+use Rattle.fort_syntax.specs.declared.stmt.Stmt.TheVariants.{Assign, GoTo, Computed, Do, Continue, Call, Return, BlockIf, Else, EndIf}
+use Rattle.fort_syntax.specs.declared.unit.DataName.{DataName}
+use Rattle.fort_syntax.specs.declared.unit.Line.{Line}
+use Rattle.fort_syntax.specs.declared.unit.Role.TheVariants.{Dummy, InCommon, Local}
+use Rattle.fort_syntax.specs.declared.unit.Unit.{Unit as Routine}
+use Rattle.fort_model.specs.Decks.{bin, rel, bracket, applied_to, if, line, labelled, scalar, array, routine}
+use Rattle.fort_model.specs.Rows.{A, F, I, J, K, M, N, twice}
+use Rattle.fort_model.specs.Program.{Program}
+use Rattle.fort_model.specs.Rules.{cards_breaking, IsBroken}
+use Rattle.fort_model.specs.VerdictRows.{two_units}
+use Rattle.fort_model.specs.WalkRows.{plain_notes, alone, twice_notes, twice_program}
+
+-- ---- a smashed dummy and another actual
+
+-- J is set at card 4
+abbrev pub sets_first : List DataName → Routine
+sets_first more = routine (codes "S") (J ∷ K ∷ []) (scalar Dummy J ∷ more)
+    (line 4 (Assign (Var J) (Const 1))
+    ∷ line 5 Return
+    ∷ [])
+
+abbrev pub passes : Expr → Expr → Routine
+passes a b = routine (codes "P") (I ∷ A ∷ []) (scalar Dummy I ∷ array Dummy A (Fixed 3 ∷ []) ∷ [])
+    (line 10 (Call (codes "S") (a ∷ b ∷ []))
+    ∷ line 11 Return
+    ∷ [])
+
+-- the names smashed by S, and by P
+abbrev pub passing_program : Expr → Expr → List Name → List Name → Program
+passing_program a b its names =
+    two_units (sets_first (scalar Dummy K ∷ [])) (plain_notes []) (passes a b) (plain_notes []) its names
+
+abbrev pub cards_of_passing : Rule → Expr → Expr → List Name → List ℕ
+cards_of_passing rule a b its = cards_breaking (passing_program a b its (I ∷ [])) rule 1 (passes a b)
+
+-- CALL S(I, I), CALL S(I, A(I)), CALL S(I, (I)), CALL S(I, 2); and where S smashes nothing
+abbrev pub SmashedActualsStandOnce : Type 0
+SmashedActualsStandOnce =
+    (cards_of_passing SmashedTwice (Var I) (Var I) (J ∷ []) ≡ 10 ∷ [])
+    × (cards_of_passing SmashedTwice (Var I) (applied_to A (Var I ∷ [])) (J ∷ []) ≡ 10 ∷ [])
+    × (cards_of_passing SmashedTwice (Var I) (bracket (Var I)) (J ∷ []) ≡ 10 ∷ [])
+    × (cards_of_passing SmashedTwice (Var I) (Const 2) (J ∷ []) ≡ [])
+    × (cards_of_passing SmashedTwice (Var I) (Var I) [] ≡ [])
+
+-- CALL S(A(1), 2) and CALL S(I, 2)
+abbrev pub SmashedActualsAreNames : Type 0
+SmashedActualsAreNames =
+    (cards_of_passing SmashedNotName (applied_to A (Const 1 ∷ [])) (Const 2) (J ∷ []) ≡ 10 ∷ [])
+    × (cards_of_passing SmashedNotName (Var I) (Const 2) (J ∷ []) ≡ [])
+    × (cards_of_passing SmashedNotName (applied_to A (Const 1 ∷ [])) (Const 2) [] ≡ [])
+
+-- CALL S(I, 2), CALL S(A, 2) and CALL S(I, I .LT. 2)
+abbrev pub ActualsMatchDummies : Type 0
+ActualsMatchDummies =
+    (cards_of_passing BadArguments (Var I) (Const 2) [] ≡ [])
+    × (cards_of_passing BadArguments (Var A) (Const 2) [] ≡ 10 ∷ [])
+    × (cards_of_passing BadArguments (Var I) (rel Lt (Var I) (Const 2)) [] ≡ 10 ∷ [])
+
+-- ---- COMMON entities
+
+abbrev pub box : Name → Group
+box x = record { block = Block (codes "BOX"); items = record { name = x; dims = [] } ∷ [] }
+
+-- a SUBROUTINE whose COMMON entity is K
+abbrev pub with_box : Name → List Name → List DataName → List Line → Routine
+with_box name dummies names lines =
+    record { name = name; sort = None; head = 1; dummies = dummies; names = names; functions = []; blocks = box K ∷ []; lines = lines; «end» = 0 }
+
+-- it sets K at card 5, or its dummy J
+abbrev pub sets : Name → Routine
+sets x = with_box (codes "S") (J ∷ []) (scalar Dummy J ∷ scalar InCommon K ∷ [])
+    (line 5 (Assign (Var x) (Const 2))
+    ∷ line 6 Return
+    ∷ [])
+
+abbrev pub passes_common : Expr → Routine
+passes_common e = with_box (codes "P") [] (scalar InCommon K ∷ scalar Local I ∷ [])
+    (line 12 (Call (codes "S") (e ∷ []))
+    ∷ line 13 Return
+    ∷ [])
+
+abbrev pub cards_of_common : Rule → Name → Routine → List ℕ
+cards_of_common rule x u = cards_breaking (two_units (sets x) (plain_notes []) u (plain_notes []) (x ∷ []) (x ∷ [])) rule 1 u
+
+-- CALL S(K) and CALL S(K + 1), where S sets K in COMMON; CALL S(K) where S sets its dummy; and CALL S(I)
+abbrev pub CommonIsNotPassedToBeSmashed : Type 0
+CommonIsNotPassedToBeSmashed =
+    (cards_of_common SmashedCommon K (passes_common (Var K)) ≡ 12 ∷ [])
+    × (cards_of_common SmashedCommon K (passes_common (bin Add (Var K) (Const 1))) ≡ 12 ∷ [])
+    × (cards_of_common SmashedCommon J (passes_common (Var K)) ≡ 12 ∷ [])
+    × (cards_of_common SmashedCommon K (passes_common (Var I)) ≡ [])
+    × (cards_of_common SmashedCommon J (passes_common (Var I)) ≡ [])
+
+-- the caller without the block
+abbrev pub lacks_box : Routine
+lacks_box = routine (codes "P") (I ∷ []) (scalar Dummy I ∷ [])
+    (line 11 (Call (codes "S") (Var I ∷ []))
+    ∷ line 12 Return
+    ∷ [])
+
+abbrev pub CallersDeclareBlocks : Type 0
+CallersDeclareBlocks =
+    (cards_of_common BlockMissing K lacks_box ≡ 11 ∷ [])
+    × (cards_of_common BlockMissing K (passes_common (Var K)) ≡ [])
+
+-- ---- a round without an ASSERT
+
+-- under 77 the inner DO at card 5 may be passed over and met again
+abbrev pub PassedOverInARound : Type 0
+PassedOverInARound = IsBroken (twice_program SeventySeven) UncutCycle 0 5
+
+-- ---- a unit that calls itself
+
+abbrev pub endless : Routine
+endless = routine (codes "S") (I ∷ []) (scalar Dummy I ∷ [])
+    (line 4 (Call (codes "S") (Var I ∷ []))
+    ∷ line 5 Return
+    ∷ [])
+
+abbrev pub CallsOfItself : Type 0
+CallsOfItself = IsBroken (alone Common endless (plain_notes []) []) Recursion 0 1
+
+-- ---- DOs and blocks
+
+abbrev pub cards_alone : Rule → Dialect → List DataName → List Line → List ℕ
+cards_alone rule dialect names lines =
+    let u = routine (codes "P") [] names lines in
+    cards_breaking (alone dialect u (plain_notes []) (I ∷ J ∷ M ∷ [])) rule 0 u
+
+abbrev pub locals : List DataName
+locals = scalar Local I ∷ scalar Local J ∷ scalar Local M ∷ []
+
+abbrev pub counts : ℕ → ℕ → Name → Line
+counts card label x = line card (Do label x (parameter.Fixed 1) (parameter.Named M) None)
+
+abbrev pub LastStatementsOfLoops : Type 0
+LastStatementsOfLoops =
+    (cards_alone BadLastOfDo Common locals (counts 4 10 I ∷ labelled 5 10 (GoTo 10) ∷ []) ≡ 4 ∷ [])
+    × (cards_alone BadLastOfDo Common locals (labelled 4 10 Continue ∷ counts 5 10 I ∷ line 6 Return ∷ []) ≡ 5 ∷ [])
+    × (cards_alone BadLastOfDo Common locals (counts 4 10 I ∷ labelled 5 10 (if (rel Eq (Var M) (Const 1)) Return) ∷ []) ≡ 4 ∷ [])
+    × (cards_alone BadLastOfDo Common locals (counts 4 10 I ∷ labelled 5 10 Continue ∷ line 6 Return ∷ []) ≡ [])
+
+-- an inner DO ends behind the outer one, or with it; a block IF ends behind a DO, or a DO behind a block
+abbrev pub RangesNest : Type 0
+RangesNest =
+    (cards_alone CrossedDo Common locals (counts 4 10 I ∷ counts 5 20 J ∷ labelled 6 10 Continue ∷ labelled 7 20 Continue ∷ line 8 Return ∷ []) ≡ 5 ∷ [])
+    × (cards_alone CrossedDo Common locals (counts 4 10 I ∷ counts 5 10 J ∷ labelled 6 10 Continue ∷ line 8 Return ∷ []) ≡ [])
+    × (cards_alone CrossedDo SeventySeven locals
+        (counts 4 10 I ∷ line 5 (BlockIf (rel Lt (Var I) (Const 2))) ∷ labelled 6 10 Continue ∷ line 7 EndIf ∷ line 8 Return ∷ []) ≡ 5 ∷ [])
+    × (cards_alone CrossedDo SeventySeven locals
+        (line 4 (BlockIf (rel Lt (Var M) (Const 2))) ∷ counts 5 10 I ∷ line 6 Else ∷ labelled 7 10 Continue ∷ line 8 EndIf ∷ line 9 Return ∷ []) ≡ 5 ∷ [])
+
+-- into a DO from outside, out of it, and inside; to an ELSE, and into a block from the other branch
+abbrev pub JumpsStayOutside : Type 0
+JumpsStayOutside =
+    (cards_alone JumpIntoDo Common locals (line 4 (GoTo 20) ∷ counts 5 10 I ∷ labelled 6 20 Continue ∷ labelled 7 10 Continue ∷ line 8 Return ∷ []) ≡ 4 ∷ [])
+    × (cards_alone JumpIntoDo Common locals (counts 5 10 I ∷ line 6 (GoTo 10) ∷ line 7 (GoTo 20) ∷ labelled 8 10 Continue ∷ labelled 9 20 Return ∷ []) ≡ [])
+    × (cards_alone JumpIntoDo SeventySeven locals
+        (line 4 (BlockIf (rel Lt (Var M) (Const 2))) ∷ labelled 5 10 Continue ∷ labelled 6 20 Else ∷ line 7 (GoTo 10) ∷ line 8 (GoTo 20) ∷ labelled 9 30 EndIf ∷ line 10 (GoTo 30) ∷ [])
+      ≡ 7 ∷ 8 ∷ [])
+
+-- the variable or the last value of a DO is set in its range; a DO counts up to its own variable
+abbrev pub LoopsKeepTheirNames : Type 0
+LoopsKeepTheirNames =
+    (cards_alone DoSmashed Common locals
+        (counts 4 10 I ∷ line 5 (Assign (Var I) (Const 1)) ∷ line 6 (Assign (Var J) (Const 1)) ∷ labelled 7 10 (Assign (Var M) (Const 1)) ∷ line 8 (Assign (Var I) (Const 1)) ∷ line 9 Return ∷ [])
+    ≡ 5 ∷ 7 ∷ [])
+    × (cards_alone DoSmashed Common locals (counts 4 10 M ∷ labelled 5 10 Continue ∷ line 6 Return ∷ []) ≡ 4 ∷ [])
+    × (cards_alone DoSmashed Common locals (counts 4 10 I ∷ counts 5 10 I ∷ labelled 6 10 Continue ∷ line 7 Return ∷ []) ≡ 5 ∷ [])
+
+-- a computed GO TO may end a unit only without 77
+abbrev pub UnitsEnd : Type 0
+UnitsEnd =
+    (cards_alone FallsOffEnd Common locals (labelled 4 10 Continue ∷ line 5 (Computed (10 ∷ []) M) ∷ []) ≡ [])
+    × (cards_alone FallsOffEnd SeventySeven locals (labelled 4 10 Continue ∷ line 5 (Computed (10 ∷ []) M) ∷ []) ≡ 5 ∷ [])
+    × (cards_alone FallsOffEnd Common locals (line 4 Continue ∷ []) ≡ 4 ∷ [])
+    × (cards_alone FallsOffEnd Common locals [] ≡ 0 ∷ [])
