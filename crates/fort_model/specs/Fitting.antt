@@ -40,7 +40,7 @@ any_role role = true
 
 -- the entry value of a dummy or a COMMON entity
 abbrev pub has_entry : Routine → List ℕ → Bool
-has_entry u x = has_role is_visible_role (data_name u x)
+has_entry u x = not (is_bound x) && has_role is_visible_role (data_name u x)
 
 abbrev pub no_entry : List ℕ → Bool
 no_entry x = false

@@ -40,3 +40,5 @@ pub mod FlowRows
 pub mod WalkRows
 pub mod VerdictRows
 pub mod RuleRows
+pub mod ConditionRows
+pub mod PathRows

@@ -2,19 +2,23 @@
 #![tactic(auto)]
 
 mod bounds;
+mod condition_rows;
 mod flow_rows;
 mod form_rows;
+mod path_rows;
 mod rows;
 mod rule_rows;
 mod verdict_rows;
 mod walk_rows;
 
 pub use bounds::{Bounds, processor};
+pub use condition_rows::{conditions_of_adjustable, conditions_of_rotate, conditions_of_round, goals_of_subscripts, goals_past_loops};
 pub use flow_rows::{flow_of_blocks, flow_of_choices, flow_of_loops, flow_past_loops};
 pub use form_rows::{
     arrays_are_passed_whole, blocks_nest, calls_are_numbered_by_the_text, intrinsic_functions,
     loops_count_by_steps, passed_over_loops, powers_are_products, signs_choose,
 };
+pub use path_rows::{paths_ascend, paths_of_loop, paths_of_twice};
 pub use rows::{
     choices_in_both_dialects, common_by_reference_and_by_copy, elements_are_written_back,
     first_subscript_varies_fastest, functions_answer_their_value, inc_takes_three_steps,
