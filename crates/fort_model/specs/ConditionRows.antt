@@ -1,13 +1,12 @@
 -- Conditions of small decks.
-use Rattle.std.specs.Prelude.{◌≡◌, ℕ, Bool, List, [], ◌∷◌, ◌++◌, codes, pos, neg_ℤ, map, drop}
+use Rattle.std.specs.Prelude.{◌≡◌, ℕ, List, [], ◌∷◌, ◌++◌, pos, neg_ℤ, map, drop}
 use Rattle.formula.specs.declared.function.BuiltIn.TheVariants as f
-use Rattle.formula.specs.Tree.{Tree, num, truth, symbol, old}
+use Rattle.formula.specs.Tree.{Tree, num, symbol, old}
 use Rattle.fort_syntax.specs.declared.dialect.Dialect.TheVariants.{Common}
 use Rattle.fort_syntax.specs.declared.name.Name.{Name}
-use Rattle.fort_model.specs.Rows.{A, I, J, K, M, N, beyond, adjustable, twice, swap, rotate}
+use Rattle.fort_model.specs.Rows.{A, I, J, K, M, N, beyond, adjustable}
 use Rattle.fort_model.specs.Program.{Program}
 use Rattle.fort_model.specs.Symbols.{Symbol, AtEntry, AtStart, AfterCall, word_of}
-use Rattle.fort_model.specs.Paths.{Path}
 use Rattle.fort_model.specs.Conditions.{Condition, conditions_of}
 use Rattle.fort_model.specs.WalkRows.{term, number, at_most, less, difference, true_term, LEAST, GREATEST, alone, plain_notes, the_path, from_assert, loop_program, twice_program}
 use Rattle.fort_model.specs.VerdictRows.{rotate_program}
@@ -86,8 +85,8 @@ ConditionsOfAdjustable =
     (goals adjustable_conditions
     ≡ adjustable_goals
     ++ is_equal
-        (term f.Element (term f.Put (entry A ∷ plus (number 1) (times (entry M) (difference (entry N) (number 1))) ∷ number 7 ∷ []) ∷ number 4 ∷ []))
-        (term f.Size (entry A ∷ []))
+    (term f.Element (term f.Put (entry A ∷ plus (number 1) (times (entry M) (difference (entry N) (number 1))) ∷ number 7 ∷ []) ∷ number 4 ∷ []))
+    (term f.Size (entry A ∷ []))
     ∷ [])
     × (hyps_behind 3 adjustable_conditions ≡ (adjustable_start ++ adjustable_goals) ∷ [])
 

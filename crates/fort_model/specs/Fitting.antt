@@ -1,11 +1,9 @@
 -- Notes that fit their units.
-use Rattle.std.specs.Prelude.{◌≡◌, ◌<◌, ℕ, Bool, true, false, not, ◌&&◌, ◌||◌, List, [], ◌∷◌, length, Option, Some, None, slice_get, codes, IsTrue}
+use Rattle.std.specs.Prelude.{◌≡◌, ◌<◌, ℕ, Bool, true, false, not, ◌&&◌, ◌||◌, List, length, Some, slice_get, codes, IsTrue}
 use Rattle.std.specs.List.{list_all}
 use Rattle.formula.specs.Atoms.{same_bytes}
 use Rattle.formula.specs.Tree.{Tree, num, truth, symbol, old, apply, Row, none, more}
-use Rattle.fort_syntax.specs.declared.name.Name.{Name}
 use Rattle.fort_syntax.specs.declared.unit.Role.{Role}
-use Rattle.fort_syntax.specs.declared.unit.Role.TheVariants.{Dummy, InCommon, OwnValue, Local}
 use Rattle.fort_syntax.specs.declared.unit.Unit.{Unit as Routine}
 use Rattle.fort_model.specs.Lists.{IsAmong}
 use Rattle.fort_model.specs.Names.{data_name, is_own}

@@ -5,7 +5,7 @@ use Rattle.formula.specs.declared.function.BuiltIn.TheVariants as f
 use Rattle.formula.specs.declared.function.Func.TheVariants.{BuiltIn}
 use Rattle.formula.specs.Tree.{Tree, num, truth, symbol, old, apply, row_of}
 use Rattle.fort_syntax.specs.declared.condition.Kind.{Kind}
-use Rattle.fort_syntax.specs.declared.condition.Kind.TheVariants.{DefinedCheck, RangeCheck, DivisorCheck, SubscriptCheck, ChoiceCheck, LoopCheck, ResultCheck, InputCheck, AssertCheck, ClockCheck, FallCheck, OutputCheck}
+use Rattle.fort_syntax.specs.declared.condition.Kind.TheVariants.{DefinedCheck, RangeCheck, DivisorCheck, SubscriptCheck, ChoiceCheck, LoopCheck, AssertCheck, ClockCheck, FallCheck, OutputCheck}
 use Rattle.fort_syntax.specs.declared.dialect.Dialect.{Dialect}
 use Rattle.fort_syntax.specs.declared.dialect.Dialect.TheVariants.{Common, SeventySeven}
 use Rattle.fort_syntax.specs.declared.dialect.BinOp.TheVariants.{Add, Sub}
@@ -269,7 +269,7 @@ abbrev pub up_to_program : Program
 up_to_program =
     alone SeventySeven up_to
     (plain_notes
-      (record { point = 1; card = 5; terms = defined I ∷ true_term ∷ true_term ∷ []; clock = difference (symbol N) (symbol I) ∷ [] } ∷ []))
+    (record { point = 1; card = 5; terms = defined I ∷ true_term ∷ true_term ∷ []; clock = difference (symbol N) (symbol I) ∷ [] } ∷ []))
     (M ∷ I ∷ [])
 
 -- N is read; then the step and the two numbers that tell how often the range is performed

@@ -12,7 +12,10 @@ mod verdict_rows;
 mod walk_rows;
 
 pub use bounds::{Bounds, processor};
-pub use condition_rows::{conditions_of_adjustable, conditions_of_rotate, conditions_of_round, goals_of_subscripts, goals_past_loops};
+pub use condition_rows::{
+    conditions_of_adjustable, conditions_of_rotate, conditions_of_round, goals_of_subscripts,
+    goals_past_loops,
+};
 pub use flow_rows::{flow_of_blocks, flow_of_choices, flow_of_loops, flow_past_loops};
 pub use form_rows::{
     arrays_are_passed_whole, blocks_nest, calls_are_numbered_by_the_text, intrinsic_functions,
@@ -26,6 +29,17 @@ pub use rows::{
     ninth_place_of_four_dimensions, one_branch_is_performed, quotients_are_cut,
     rotated_in_any_manner, subscripts_keep_to_their_dimensions,
 };
-pub use rule_rows::{actuals_match_dummies, callers_declare_blocks, calls_of_itself, common_is_not_passed_to_be_smashed, jumps_stay_outside, last_statements_of_loops, loops_keep_their_names, passed_over_in_a_round, ranges_nest, smashed_actuals_are_names, smashed_actuals_stand_once, units_end};
-pub use verdict_rows::{calls_keep_what_is_not_smashed, calls_take_output, clocks_fall_by_their_first_part, functions_in_one_another, walks_keep_the_bound, walks_of_inc, walks_past_loops};
-pub use walk_rows::{checks_of_loop, checks_of_nest, checks_of_pick, checks_of_quotients, checks_of_sign, checks_of_subscripts, checks_of_twice, checks_of_up_to, conditions_of_inc};
+pub use rule_rows::{
+    actuals_match_dummies, callers_declare_blocks, calls_of_itself,
+    common_is_not_passed_to_be_smashed, jumps_stay_outside, last_statements_of_loops,
+    loops_keep_their_names, passed_over_in_a_round, ranges_nest, smashed_actuals_are_names,
+    smashed_actuals_stand_once, units_end,
+};
+pub use verdict_rows::{
+    calls_keep_what_is_not_smashed, calls_take_output, clocks_fall_by_their_first_part,
+    functions_in_one_another, walks_keep_the_bound, walks_of_inc, walks_past_loops,
+};
+pub use walk_rows::{
+    checks_of_loop, checks_of_nest, checks_of_pick, checks_of_quotients, checks_of_sign,
+    checks_of_subscripts, checks_of_twice, checks_of_up_to, conditions_of_inc,
+};
