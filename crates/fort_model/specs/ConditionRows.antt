@@ -8,7 +8,8 @@ use Rattle.fort_model.specs.Rows.{A, I, J, K, M, N, beyond, adjustable}
 use Rattle.fort_model.specs.Program.{Program}
 use Rattle.fort_model.specs.Symbols.{Symbol, AtEntry, AtStart, AfterCall, word_of}
 use Rattle.fort_model.specs.Conditions.{Condition, conditions_of}
-use Rattle.fort_model.specs.WalkRows.{term, number, at_most, less, difference, true_term, LEAST, GREATEST, alone, plain_notes, the_path, from_assert, loop_program, twice_program}
+use Rattle.fort_model.specs.WalkRows.{term, number, at_most, true_term, LEAST, GREATEST, alone, plain_notes, the_path}
+use Rattle.fort_model.specs.CheckRows.{less, difference, from_assert, loop_program, twice_program}
 use Rattle.fort_model.specs.VerdictRows.{rotate_program}
 
 abbrev pub goals : List Condition → List Tree

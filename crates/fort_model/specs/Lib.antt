@@ -38,7 +38,11 @@ pub mod Rows
 pub mod FormRows
 pub mod FlowRows
 pub mod WalkRows
+pub mod CheckRows
 pub mod VerdictRows
 pub mod RuleRows
+pub mod FlowRuleRows
+pub mod UnitRuleRows
 pub mod ConditionRows
 pub mod PathRows
+pub mod FormCheckRows

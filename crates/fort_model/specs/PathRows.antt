@@ -4,7 +4,8 @@ use Rattle.fort_syntax.specs.declared.dialect.Dialect.TheVariants.{Common}
 use Rattle.fort_model.specs.Paths.{IsPath, Ascend}
 use Rattle.fort_model.specs.Program.{Notes, notes_of}
 use Rattle.fort_model.specs.Rows.{twice}
-use Rattle.fort_model.specs.WalkRows.{loop, loop_program, twice_notes, the_path, from_assert}
+use Rattle.fort_model.specs.WalkRows.{the_path}
+use Rattle.fort_model.specs.CheckRows.{loop, loop_program, twice_notes, from_assert}
 
 abbrev pub loop_notes : Notes
 loop_notes = notes_of loop_program 0

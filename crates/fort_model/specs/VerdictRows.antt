@@ -19,7 +19,8 @@ use Rattle.fort_model.specs.Names.{same_name}
 use Rattle.fort_model.specs.Events.{Verdict, Good, Fails, Off, verdict}
 use Rattle.fort_model.specs.Walk.{falls}
 use Rattle.fort_model.specs.Conditions.{sight, walked_by}
-use Rattle.fort_model.specs.WalkRows.{term, defined, inc_program, twice_program, the_path, from_assert}
+use Rattle.fort_model.specs.WalkRows.{term, defined, inc_program, the_path}
+use Rattle.fort_model.specs.CheckRows.{twice_program, from_assert}
 
 -- ---- values of symbols
 

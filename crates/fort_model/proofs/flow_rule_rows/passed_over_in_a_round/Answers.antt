@@ -4,9 +4,9 @@ use Rattle.fort_syntax.specs.declared.stmt.Stmt.TheVariants.{Do}
 use Rattle.fort_model.specs.Decks.{line}
 use Rattle.fort_model.specs.Paths.{one}
 use Rattle.fort_model.specs.Rows.{J, twice}
-use Rattle.fort_model.proofs.rule_rows.passed_over_in_a_round.Goals as goal
+use Rattle.fort_model.proofs.flow_rule_rows.passed_over_in_a_round.Goals as goal
 
--- src/rule_rows.rt:30:1
+-- src/flow_rule_rows.rt:30:1
 pub returns : goal.returns
 returns c = record {
   unit = twice;
