@@ -1,9 +1,7 @@
 -- Kinds and cards of the checks along the paths of small decks.
-use Rattle.std.specs.Prelude.{◌≡◌, ℕ, zero, suc, Bool, List, [], ◌∷◌, ◌++◌, replicate, codes, pos, neg_ℤ}
-use Rattle.formula.specs.declared.function.BuiltIn.{BuiltIn as Builtin}
+use Rattle.std.specs.Prelude.{◌≡◌, ℕ, zero, suc, List, [], ◌∷◌, ◌++◌, replicate, codes}
 use Rattle.formula.specs.declared.function.BuiltIn.TheVariants as f
-use Rattle.formula.specs.declared.function.Func.TheVariants.{BuiltIn}
-use Rattle.formula.specs.Tree.{Tree, num, truth, symbol, old, apply, row_of}
+use Rattle.formula.specs.Tree.{Tree, symbol}
 use Rattle.fort_syntax.specs.declared.condition.Kind.{Kind}
 use Rattle.fort_syntax.specs.declared.condition.Kind.TheVariants.{DefinedCheck, RangeCheck, DivisorCheck, SubscriptCheck, ChoiceCheck, LoopCheck, AssertCheck, ClockCheck, FallCheck, OutputCheck}
 use Rattle.fort_syntax.specs.declared.dialect.Dialect.{Dialect}
@@ -15,11 +13,11 @@ use Rattle.fort_syntax.specs.declared.name.Name.{Name}
 use Rattle.fort_syntax.specs.declared.stmt.Stmt.TheVariants.{Assign, GoTo, Return}
 use Rattle.fort_syntax.specs.declared.unit.Role.TheVariants.{Dummy, Local}
 use Rattle.fort_syntax.specs.declared.unit.Unit.{Unit as Routine}
-use Rattle.fort_model.specs.Program.{Program, Notes, Assertion}
+use Rattle.fort_model.specs.Program.{Program, Notes}
 use Rattle.fort_model.specs.Paths.{Path}
-use Rattle.fort_model.specs.Conditions.{Condition, checks_of, conditions_of}
+use Rattle.fort_model.specs.Conditions.{checks_of}
 use Rattle.fort_model.specs.Decks.{bin, rel, if, line, labelled, scalar, routine}
-use Rattle.fort_model.specs.Rows.{A, I, J, K, M, N, inc, quotients, beyond, quad, twice, up_to, pick, sign}
+use Rattle.fort_model.specs.Rows.{A, I, J, K, M, N, quotients, beyond, quad, twice, up_to, pick, sign}
 use Rattle.fort_model.specs.WalkRows.{term, defined, number, at_most, true_term, alone, plain_notes, the_path}
 
 abbrev pub checks_along : Program → Routine → Path → List (Kind × ℕ)

@@ -1,28 +1,20 @@
 -- Small decks that break the rules on the flow in a unit.
 use Rattle.std.specs.Prelude.{◌≡◌, ℕ, List, [], ◌∷◌, None, codes}
-use Rattle.fort_syntax.specs.declared.dialect.BinOp.TheVariants.{Add}
 use Rattle.fort_syntax.specs.declared.dialect.RelOp.TheVariants.{Lt, Eq}
 use Rattle.fort_syntax.specs.declared.dialect.Dialect.{Dialect}
 use Rattle.fort_syntax.specs.declared.dialect.Dialect.TheVariants.{Common, SeventySeven}
-use Rattle.fort_syntax.specs.declared.expr.Expr.{Expr}
 use Rattle.fort_syntax.specs.declared.expr.Expr.TheVariants.{Const, Var}
 use Rattle.fort_syntax.specs.declared.name.Name.{Name}
 use Rattle.fort_syntax.specs.declared.rule.Rule.{Rule}
-use Rattle.fort_syntax.specs.declared.rule.Rule.TheVariants.{BadLastOfDo, CrossedDo, JumpIntoDo, DoSmashed, FallsOffEnd, UncutCycle, Recursion, BadArguments, SmashedNotName, SmashedTwice, SmashedCommon, BlockMissing}
-use Rattle.fort_syntax.specs.declared.stmt.BlockName.TheVariants.{Named as Block}
-use Rattle.fort_syntax.specs.declared.stmt.Dim.TheVariants.{Fixed}
-use Rattle.fort_syntax.specs.declared.stmt.Group.{Group}
+use Rattle.fort_syntax.specs.declared.rule.Rule.TheVariants.{BadLastOfDo, CrossedDo, JumpIntoDo, DoSmashed, FallsOffEnd, UncutCycle}
 use Rattle.fort_syntax.specs.declared.stmt.Param.TheVariants as parameter
-use Rattle.fort_syntax.specs.declared.stmt.Stmt.TheVariants.{Assign, GoTo, Computed, Do, Continue, Call, Return, BlockIf, Else, EndIf}
+use Rattle.fort_syntax.specs.declared.stmt.Stmt.TheVariants.{Assign, GoTo, Computed, Do, Continue, Return, BlockIf, Else, EndIf}
 use Rattle.fort_syntax.specs.declared.unit.DataName.{DataName}
 use Rattle.fort_syntax.specs.declared.unit.Line.{Line}
-use Rattle.fort_syntax.specs.declared.unit.Role.TheVariants.{Dummy, InCommon, Local}
-use Rattle.fort_syntax.specs.declared.unit.Unit.{Unit as Routine}
-use Rattle.fort_model.specs.Decks.{bin, rel, bracket, applied_to, if, line, labelled, scalar, array, routine}
-use Rattle.fort_model.specs.Rows.{A, I, J, K, M}
-use Rattle.fort_model.specs.Program.{Program}
+use Rattle.fort_syntax.specs.declared.unit.Role.TheVariants.{Local}
+use Rattle.fort_model.specs.Decks.{rel, if, line, labelled, scalar, routine}
+use Rattle.fort_model.specs.Rows.{I, J, M}
 use Rattle.fort_model.specs.Rules.{cards_breaking, IsBroken}
-use Rattle.fort_model.specs.VerdictRows.{two_units}
 use Rattle.fort_model.specs.WalkRows.{plain_notes, alone}
 use Rattle.fort_model.specs.CheckRows.{twice_program}
 

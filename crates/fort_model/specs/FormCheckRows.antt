@@ -1,7 +1,6 @@
 -- Checks of single forms: constants, the values of FUNCTIONs, arithmetic IFs, actuals.
-use Rattle.std.specs.Prelude.{◌≡◌, ℕ, zero, Bool, List, [], ◌∷◌, ◌++◌, codes, drop}
+use Rattle.std.specs.Prelude.{◌≡◌, ℕ, List, [], ◌∷◌, ◌++◌, codes, drop}
 use Rattle.formula.specs.declared.function.BuiltIn.TheVariants as f
-use Rattle.formula.specs.Tree.{Tree, symbol, truth}
 use Rattle.fort_syntax.specs.declared.condition.Kind.{Kind}
 use Rattle.fort_syntax.specs.declared.condition.Kind.TheVariants.{DefinedCheck, RangeCheck, SubscriptCheck, ResultCheck, InputCheck, OutputCheck}
 use Rattle.fort_syntax.specs.declared.dialect.BinOp.TheVariants.{Add}
@@ -9,7 +8,7 @@ use Rattle.fort_syntax.specs.declared.dialect.Dialect.TheVariants.{Common}
 use Rattle.fort_syntax.specs.declared.expr.Expr.{Expr}
 use Rattle.fort_syntax.specs.declared.expr.Expr.TheVariants.{Const, Var}
 use Rattle.fort_syntax.specs.declared.stmt.Dim.TheVariants.{Fixed}
-use Rattle.fort_syntax.specs.declared.stmt.Stmt.TheVariants.{Assign, Call, Return}
+use Rattle.fort_syntax.specs.declared.stmt.Stmt.TheVariants.{Call, Return}
 use Rattle.fort_syntax.specs.declared.unit.Role.TheVariants.{Dummy}
 use Rattle.fort_syntax.specs.declared.unit.Unit.{Unit as Routine}
 use Rattle.fort_model.specs.Decks.{bin, bracket, power, applied_to, line, scalar, array, routine}
@@ -17,7 +16,7 @@ use Rattle.fort_model.specs.Rows.{A, F, I, J, successor}
 use Rattle.fort_model.specs.FormRows.{assigns, compare}
 use Rattle.fort_model.specs.Program.{Program}
 use Rattle.fort_model.specs.Conditions.{checks_of, conditions_of}
-use Rattle.fort_model.specs.ConditionRows.{goals, hyps_behind, entry, is_defined, is_equal, is_integer, after, bounds}
+use Rattle.fort_model.specs.ConditionRows.{goals, hyps_behind, entry, is_defined, is_equal, is_integer, bounds}
 use Rattle.fort_model.specs.VerdictRows.{idle, two_units}
 use Rattle.fort_model.specs.WalkRows.{term, number, defined, true_term, alone, plain_notes, the_path}
 

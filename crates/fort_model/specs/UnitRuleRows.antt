@@ -1,7 +1,6 @@
 -- Small decks that break the rules on units: their names, their calls and dimensions, and what they smash.
-use Rattle.std.specs.Prelude.{◌≡◌, ℕ, List, [], ◌∷◌, None, Some, codes}
+use Rattle.std.specs.Prelude.{◌≡◌, ℕ, List, [], ◌∷◌, None, codes}
 use Rattle.formula.specs.Tree.{Tree}
-use Rattle.fort_syntax.specs.declared.dialect.BinOp.TheVariants.{Add}
 use Rattle.fort_syntax.specs.declared.dialect.Dialect.TheVariants.{Common}
 use Rattle.fort_syntax.specs.declared.expr.Expr.{Expr}
 use Rattle.fort_syntax.specs.declared.expr.Expr.TheVariants.{Const, Var}
@@ -14,13 +13,13 @@ use Rattle.fort_syntax.specs.declared.stmt.Param.TheVariants as parameter
 use Rattle.fort_syntax.specs.declared.stmt.Stmt.TheVariants.{Assign, Do, Continue, Call, Return}
 use Rattle.fort_syntax.specs.declared.unit.Role.TheVariants.{Dummy, Local}
 use Rattle.fort_syntax.specs.declared.unit.Unit.{Unit as Routine}
-use Rattle.fort_model.specs.Decks.{bin, bracket, applied_to, line, labelled, scalar, array, routine, function_of}
+use Rattle.fort_model.specs.Decks.{bracket, applied_to, line, labelled, scalar, array, routine, function_of}
 use Rattle.fort_model.specs.Rows.{A, F, I, J, K, M, N, inc}
-use Rattle.fort_model.specs.Program.{Program, Assertion}
+use Rattle.fort_model.specs.Program.{Assertion}
 use Rattle.fort_model.specs.Rules.{cards_breaking}
 use Rattle.fort_model.specs.VerdictRows.{two_units}
 use Rattle.fort_model.specs.WalkRows.{number, plain_notes, alone}
-use Rattle.fort_model.specs.RuleRows.{sets, with_box}
+use Rattle.fort_model.specs.RuleRows.{sets}
 
 -- the cards at which the second of two units breaks a rule, where the first smashes some names
 abbrev pub cards_of_second : Rule → Routine → List Name → Routine → List ℕ

@@ -1,25 +1,19 @@
 -- Notes of small decks, and the conditions of one.
-use Rattle.std.specs.Prelude.{◌≡◌, ℕ, zero, suc, Bool, List, [], ◌∷◌, ◌++◌, replicate, codes, pos, neg_ℤ}
+use Rattle.std.specs.Prelude.{◌≡◌, ℕ, Bool, List, [], ◌∷◌, codes, pos, neg_ℤ}
 use Rattle.formula.specs.declared.function.BuiltIn.{BuiltIn as Builtin}
 use Rattle.formula.specs.declared.function.BuiltIn.TheVariants as f
 use Rattle.formula.specs.declared.function.Func.TheVariants.{BuiltIn}
 use Rattle.formula.specs.Tree.{Tree, num, truth, symbol, old, apply, row_of}
 use Rattle.fort_syntax.specs.declared.condition.Kind.{Kind}
-use Rattle.fort_syntax.specs.declared.condition.Kind.TheVariants.{DefinedCheck, RangeCheck, DivisorCheck, SubscriptCheck, ChoiceCheck, LoopCheck, AssertCheck, ClockCheck, FallCheck, OutputCheck}
+use Rattle.fort_syntax.specs.declared.condition.Kind.TheVariants.{DefinedCheck, RangeCheck, OutputCheck}
 use Rattle.fort_syntax.specs.declared.dialect.Dialect.{Dialect}
-use Rattle.fort_syntax.specs.declared.dialect.Dialect.TheVariants.{Common, SeventySeven}
-use Rattle.fort_syntax.specs.declared.dialect.BinOp.TheVariants.{Add, Sub}
-use Rattle.fort_syntax.specs.declared.dialect.RelOp.TheVariants.{Lt, Eq}
-use Rattle.fort_syntax.specs.declared.expr.Expr.TheVariants.{Const, Var}
+use Rattle.fort_syntax.specs.declared.dialect.Dialect.TheVariants.{Common}
 use Rattle.fort_syntax.specs.declared.name.Name.{Name}
-use Rattle.fort_syntax.specs.declared.stmt.Stmt.TheVariants.{Assign, GoTo, Return}
-use Rattle.fort_syntax.specs.declared.unit.Role.TheVariants.{Dummy, Local}
 use Rattle.fort_syntax.specs.declared.unit.Unit.{Unit as Routine}
 use Rattle.fort_model.specs.Program.{Program, Notes, Assertion}
 use Rattle.fort_model.specs.Paths.{Path}
-use Rattle.fort_model.specs.Conditions.{Condition, checks_of, conditions_of}
-use Rattle.fort_model.specs.Decks.{bin, rel, if, line, labelled, scalar, routine}
-use Rattle.fort_model.specs.Rows.{A, I, J, K, M, N, inc, quotients, beyond, quad, twice, up_to, pick, sign}
+use Rattle.fort_model.specs.Conditions.{Condition, conditions_of}
+use Rattle.fort_model.specs.Rows.{I, inc}
 
 -- ---- notes
 
