@@ -2,6 +2,7 @@ pub mod BothParts
 pub mod BothSenses
 pub mod BothWalks
 pub mod Exact
+pub mod Falling
 pub mod Near
 pub mod PlaceBounds
 pub mod Tied

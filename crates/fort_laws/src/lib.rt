@@ -1,11 +1,13 @@
 //! Laws of runs and walks: what holds of every deck.
 #![tactic(auto)]
 
+mod clocks;
 mod exactness;
 mod places;
 mod steps;
 mod ways;
 
+pub use clocks::clocks_fall_only_so_often;
 pub use exactness::{checks_do_not_depend_on_values, conditions_are_exact};
 pub use places::elements_lie_in_arrays;
 pub use steps::{fewer_steps_are_not_enough, fuel_does_not_matter, more_steps_change_nothing};
