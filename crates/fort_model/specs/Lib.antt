@@ -46,3 +46,5 @@ pub mod UnitRuleRows
 pub mod ConditionRows
 pub mod PathRows
 pub mod FormCheckRows
+pub mod ExactRows
+pub mod SmashRows

@@ -150,3 +150,7 @@ pub record IsBroken (p : Program) (rule : Rule) (i card : ℕ) : Type 0 where
   pub unit : Routine
   pub is_unit : slice_get p.units i ≡ Some unit
   pub breaks : Breaks p rule i unit card
+
+-- a program keeps these rules
+abbrev pub KeepsRules : Program → Type 0
+KeepsRules p = (rule : Rule) (i card : ℕ) → IsBroken p rule i card → ⊥

@@ -4,6 +4,7 @@
 mod bounds;
 mod check_rows;
 mod condition_rows;
+mod exact_rows;
 mod flow_rows;
 mod flow_rule_rows;
 mod form_check_rows;
@@ -11,6 +12,7 @@ mod form_rows;
 mod path_rows;
 mod rows;
 mod rule_rows;
+mod smash_rows;
 mod unit_rule_rows;
 mod verdict_rows;
 mod walk_rows;
@@ -24,6 +26,7 @@ pub use condition_rows::{
     conditions_of_adjustable, conditions_of_rotate, conditions_of_round, goals_of_subscripts,
     goals_past_loops,
 };
+pub use exact_rows::{exact_for_adjustable, exact_for_inc, exact_for_loop};
 pub use flow_rows::{flow_of_blocks, flow_of_choices, flow_of_loops, flow_past_loops};
 pub use flow_rule_rows::{
     jumps_stay_outside, last_statements_of_loops, loops_keep_their_names, passed_over_in_a_round,
@@ -48,6 +51,7 @@ pub use rule_rows::{
     actuals_match_dummies, callers_declare_blocks, calls_of_itself,
     common_is_not_passed_to_be_smashed, smashed_actuals_are_names, smashed_actuals_stand_once,
 };
+pub use smash_rows::{smashed_by_calls, smashed_in_common};
 pub use unit_rule_rows::{
     adjustable_dimensions_agree, calls_have_units, calls_in_ranges, clocks_have_one_length,
     dimensions_stay, functions_smash_nothing, names_of_units,
