@@ -8,3 +8,4 @@ pub mod PlaceBounds
 pub mod Tied
 pub mod TiedParts
 pub mod TiedRuns
+pub mod Unfolding

@@ -31,15 +31,15 @@ with_left (Running st) k = Running st
 
 -- ---- runs
 
-tied_go_to : (bound : ℕ) (q : Option ℕ) (f g : ℕ → Act (Unit {0})) → ((pc : ℕ) → Tied bound (f pc) (g pc)) → Tied bound (go_to q f) (go_to q g)
+pub tied_go_to : (bound : ℕ) (q : Option ℕ) (f g : ℕ → Act (Unit {0})) → ((pc : ℕ) → Tied bound (f pc) (g pc)) → Tied bound (go_to q f) (go_to q g)
 tied_go_to bound None f g h = tied_stuck bound
 tied_go_to bound (Some q) f g h = h q
 
-tied_at_line : (bound : ℕ) (o : Option Line) (f g : Line → Act (Unit {0})) → ((line : Line) → Tied bound (f line) (g line)) → Tied bound (at_line o f) (at_line o g)
+pub tied_at_line : (bound : ℕ) (o : Option Line) (f g : Line → Act (Unit {0})) → ((line : Line) → Tied bound (f line) (g line)) → Tied bound (at_line o f) (at_line o g)
 tied_at_line bound None f g h = tied_give bound tt
 tied_at_line bound (Some line) f g h = h line
 
-tied_leave : (bound : ℕ) (u : Routine) (env : Environment) (before : ℕ) → Tied bound (leave u env before) (leave u env before)
+pub tied_leave : (bound : ℕ) (u : Routine) (env : Environment) (before : ℕ) → Tied bound (leave u env before) (leave u env before)
 tied_leave bound u env before = tied_then bound held held _ _ (tied_held bound) (λ st. tied_before bound _ _ _ _ (tied_put bound _) (tied_give bound _))
 
 -- nothing is below 0

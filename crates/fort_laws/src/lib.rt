@@ -10,5 +10,7 @@ mod ways;
 pub use clocks::clocks_fall_only_so_often;
 pub use exactness::{checks_do_not_depend_on_values, conditions_are_exact};
 pub use places::elements_lie_in_arrays;
-pub use steps::{fewer_steps_are_not_enough, fuel_does_not_matter, more_steps_change_nothing};
+pub use steps::{
+    fewer_steps_are_not_enough, fuel_does_not_matter, more_steps_change_nothing, runs_unfold,
+};
 pub use ways::{statements_lead_on, ways_can_be_completed};

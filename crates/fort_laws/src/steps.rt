@@ -1,4 +1,5 @@
 // Steps and fuel of runs.
+ghost use Rattle.fort_laws.specs.Unfolded.{RunsUnfold};
 ghost use Rattle.fort_laws.specs.Steps.{FuelDoesNotMatter, MoreStepsChangeNothing, FewerStepsAreNotEnough};
 
 /// A run comes to the same for every depth of recursion above its stock of steps. So the depth is
@@ -17,4 +18,11 @@ pub fn more_steps_change_nothing()
 /// more. It does nothing.
 pub fn fewer_steps_are_not_enough()
     ensures { FewerStepsAreNotEnough }
+{}
+
+/// A run is what it is without any bound on its depth: a unit is entered, run from its first
+/// statement on, and left; and from a point on it takes a step, does what the statement there
+/// does, running units for its calls, and goes on where that leads. It does nothing.
+pub fn runs_unfold()
+    ensures { RunsUnfold }
 {}
