@@ -1,0 +1,96 @@
+-- Parts of walks, in the sense of values, and parts of strict runs: where they go on alike, and where the first event
+-- that is false is a check and the run errs with it.
+use Rattle.std.proofs.Common.{◌≡◌, ℕ, zero, suc, ◌+◌, ◌⊎◌, inl, inr, Bool, true, false, cond, List, [], ◌∷◌, ◌++◌, refl, sym, ap, ◌∙◌, subst, arith}
+use Rattle.formula.specs.declared.value.Value.{Value}
+use Rattle.formula.specs.Values.{holds}
+use Rattle.fort_syntax.specs.declared.condition.Kind.{Kind}
+use Rattle.fort_syntax.specs.declared.condition.Kind.TheVariants.{InputCheck}
+use Rattle.fort_model.specs.Events.{Event, Check, Take}
+use Rattle.fort_model.specs.Outcome.{Outcome, Ended, Erred, Running, and_then, Act, give, check, step}
+use Rattle.fort_model.specs.Seen.{Answers, Seen, See, ◌>>=◌, ◌>>◌, see, meet}
+use Rattle.fort_model.specs.Storage.{Storage}
+
+-- a part of a run, and what follows
+abbrev pub followed : {B C : Type 0} → Act B → (B → Act C) → Act C
+followed act next st n = and_then (act st n) next
+
+-- all events are true
+abbrev pub AllTrue : List (Event Value) → Type 0
+AllTrue [] = Unit {0}
+AllTrue (Check kind card v ∷ es) = (holds v ≡ true) × AllTrue es
+AllTrue (Take v ∷ es) = (holds v ≡ true) × AllTrue es
+
+-- the first event that is false is a check of this kind and card
+abbrev pub FirstFails : Kind → ℕ → List (Event Value) → Type 0
+FirstFails kind card [] = ⊥
+FirstFails kind card (Check k c v ∷ es) = ((holds v ≡ true) × FirstFails kind card es) ⊎ ((holds v ≡ false) × (k ≡ kind) × (c ≡ card))
+FirstFails kind card (Take v ∷ es) = (holds v ≡ true) × FirstFails kind card es
+
+pub all_true_append : (es fs : List (Event Value)) → AllTrue es → AllTrue fs → AllTrue (es ++ fs)
+all_true_append [] fs h k = k
+all_true_append (Check kind card v ∷ es) fs h k = (h.0, all_true_append es fs h.1 k)
+all_true_append (Take v ∷ es) fs h k = (h.0, all_true_append es fs h.1 k)
+
+pub fails_later : (kind : Kind) (card : ℕ) (es fs : List (Event Value)) → AllTrue es → FirstFails kind card fs → FirstFails kind card (es ++ fs)
+fails_later kind card [] fs h k = k
+fails_later kind card (Check k c v ∷ es) fs h l = inl (h.0, fails_later kind card es fs h.1 l)
+fails_later kind card (Take v ∷ es) fs h l = (h.0, fails_later kind card es fs h.1 l)
+
+pub fails_before : (kind : Kind) (card : ℕ) (es fs : List (Event Value)) → FirstFails kind card es → FirstFails kind card (es ++ fs)
+fails_before kind card [] fs h = absurd h
+fails_before kind card (Check k c v ∷ es) fs (inl h) = inl (h.0, fails_before kind card es fs h.1)
+fails_before kind card (Check k c v ∷ es) fs (inr h) = inr h
+fails_before kind card (Take v ∷ es) fs h = (h.0, fails_before kind card es fs h.1)
+
+-- a part of a run errs at some cost, with every stock that is enough; nothing is claimed where a callee's INPUT fails
+pub data Errs {B : Type 0} (kind : Kind) (card : ℕ) (act : Act B) (st : Storage) : Type 0 where
+  of_callee : kind ≡ InputCheck → Errs kind card act st
+  errs : (after : Storage) (cost : ℕ) → ((n : ℕ) → act st (cost + n) ≡ Erred kind card after) → Errs kind card act st
+
+pub errs_then : {B C : Type 0} (kind : Kind) (card : ℕ) (act : Act B) (next : B → Act C) (st : Storage) → Errs kind card act st → Errs kind card (followed act next) st
+errs_then kind card act next st (of_callee e) = of_callee e
+errs_then kind card act next st (errs after cost h) = errs after cost (λ n. ap (λ o. and_then o next) (h n))
+
+-- Parts of a walk and of a run from some storage. Either all events are true, whatever the answers of later calls, and
+-- both come to things that belong together; or the first false event is a check, and the run errs with it. The part may
+-- need some answers of calls, which are put in front.
+pub data Matches {A B : Type 0} (Q : A → B → Storage → Type 0) (part : See Value A) (act : Act B) (st : Storage) : Type 0 where
+  moves : (pre : Answers Value → Answers Value) (a : A) (b : B) (after : Storage) (cost : ℕ)
+      → ((answers : Answers Value) → AllTrue (part (pre answers)).events) → ((answers : Answers Value) → (part (pre answers)).value ≡ a)
+      → ((answers : Answers Value) → (part (pre answers)).rest ≡ answers) → ((n : ℕ) → act st (cost + n) ≡ Ended b after n) → Q a b after
+      → Matches Q part act st
+  fails : (pre : Answers Value → Answers Value) (kind : Kind) (card : ℕ) → ((answers : Answers Value) → FirstFails kind card (part (pre answers)).events) → Errs kind card act st
+      → Matches Q part act st
+
+module _ {A B C D : Type 0} (Q : A → B → Storage → Type 0) (P : C → D → Storage → Type 0) (part : See Value A) (act : Act B) (f : A → See Value C) (g : B → Act D) (st : Storage) where
+  -- what follows, where the first part moved
+  module _ (pre : Answers Value → Answers Value) (a : A) (b : B) (after : Storage) (cost : ℕ)
+      (true1 : (answers : Answers Value) → AllTrue (part (pre answers)).events) (value1 : (answers : Answers Value) → (part (pre answers)).value ≡ a)
+      (rest1 : (answers : Answers Value) → (part (pre answers)).rest ≡ answers) (run1 : (n : ℕ) → act st (cost + n) ≡ Ended b after n) where
+    -- the second part of the walk begins as if it stood alone
+    second : (answers : Answers Value) → f (part (pre answers)).value (part (pre answers)).rest ≡ f a answers
+    second answers = ap (λ (x : A). f x (part (pre answers)).rest) (value1 answers) ∙ ap (f a) (rest1 answers)
+
+    run_second : (more n : ℕ) (o : Outcome D) → g b after (more + n) ≡ o → followed act g st (cost + more + n) ≡ o
+    run_second more n o e =
+        ap (λ (k : ℕ). and_then (act st k) g) (let same : cost + more + n ≡ cost + (more + n) = omega arith in same) ∙ ap (λ (x : Outcome B). and_then x g) (run1 (more + n)) ∙ e
+
+    moved_then : Matches P (f a) (g b) after → Matches P (part >>= f) (followed act g) st
+    moved_then (moves pre2 c d last more true2 value2 rest2 run2 p) =
+        moves (λ answers. pre (pre2 answers)) c d last (cost + more)
+        (λ answers. all_true_append _ _ (true1 (pre2 answers)) (subst (λ (s : Seen Value C). AllTrue s.events) (sym (second (pre2 answers))) (true2 answers)))
+        (λ answers. ap (λ (s : Seen Value C). s.value) (second (pre2 answers)) ∙ value2 answers)
+        (λ answers. ap (λ (s : Seen Value C). s.rest) (second (pre2 answers)) ∙ rest2 answers)
+        (λ n. run_second more n _ (run2 n)) p
+    moved_then (fails pre2 kind card fails2 errs2) =
+        fails (λ answers. pre (pre2 answers)) kind card
+        (λ answers. fails_later kind card _ _ (true1 (pre2 answers)) (subst (λ (s : Seen Value C). FirstFails kind card s.events) (sym (second (pre2 answers))) (fails2 answers)))
+        (errs_second errs2)
+      where
+        errs_second : Errs kind card (g b) after → Errs kind card (followed act g) st
+        errs_second (of_callee e) = of_callee e
+        errs_second (errs last more h) = errs last (cost + more) (λ n. run_second more n _ (h n))
+
+  pub matches_then : Matches Q part act st → ((a : A) (b : B) (after : Storage) → Q a b after → Matches P (f a) (g b) after) → Matches P (part >>= f) (followed act g) st
+  matches_then (moves pre a b after cost true1 value1 rest1 run1 q) next = moved_then pre a b after cost true1 value1 rest1 run1 (next a b after q)
+  matches_then (fails pre kind card fails1 errs1) next = fails pre kind card (λ answers. fails_before kind card _ _ (fails1 answers)) (errs_then kind card act g st errs1)
