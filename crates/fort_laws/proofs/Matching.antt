@@ -94,3 +94,48 @@ module _ {A B C D : Type 0} (Q : A → B → Storage → Type 0) (P : C → D �
   pub matches_then : Matches Q part act st → ((a : A) (b : B) (after : Storage) → Q a b after → Matches P (f a) (g b) after) → Matches P (part >>= f) (followed act g) st
   matches_then (moves pre a b after cost true1 value1 rest1 run1 q) next = moved_then pre a b after cost true1 value1 rest1 run1 (next a b after q)
   matches_then (fails pre kind card fails1 errs1) next = fails pre kind card (λ answers. fails_before kind card _ _ (fails1 answers)) (errs_then kind card act g st errs1)
+
+-- ---- single parts
+
+-- a stock with nothing used
+none_used : {B : Type 0} (act : Act B) (st : Storage) (o : ℕ → Outcome B) → ((n : ℕ) → act st n ≡ o n) → (n : ℕ) → act st (0 + n) ≡ o n
+none_used act st o h n = ap (act st) (let same : 0 + n ≡ n = omega arith in same) ∙ h n
+
+pub matches_see : {A B : Type 0} (Q : A → B → Storage → Type 0) (a : A) (b : B) (st : Storage) → Q a b st → Matches Q (see a) (give b) st
+matches_see Q a b st q =
+    moves (λ answers. answers) a b st 0 (λ answers. tt) (λ answers. refl) (λ answers. refl) (none_used (give b) st (λ n. Ended b st n) (λ n. refl)) q
+
+-- nothing is answered, and the storage stays
+abbrev pub Stays : {A B : Type 0} → Storage → A → B → Storage → Type 0
+Stays st a b after = after ≡ st
+
+pub matches_check : (kind : Kind) (card : ℕ) (v : Value) (b : Bool) (st : Storage) → holds v ≡ b → Matches (Stays st) (meet (Check kind card v ∷ [])) (check kind card b) st
+matches_check kind card v true st h =
+    moves (λ answers. answers) tt tt st 0 (λ answers. (h, tt)) (λ answers. refl) (λ answers. refl) (none_used (check kind card true) st (λ n. Ended tt st n) (λ n. refl)) refl
+matches_check kind card v false st h =
+    fails (λ answers. answers) kind card (λ answers. inr (h, refl, refl)) (errs st 0 (none_used (check kind card false) st (λ n. Erred kind card st) (λ n. refl)))
+
+pub matches_fact : {B : Type 0} (v : Value) (b : B) (st : Storage) → holds v ≡ true → Matches (Stays st) (meet (Take v ∷ [])) (give b) st
+matches_fact v b st h =
+    moves (λ answers. answers) tt b st 0 (λ answers. (h, tt)) (λ answers. refl) (λ answers. refl) (none_used (give b) st (λ n. Ended b st n) (λ n. refl)) refl
+
+-- a step is taken before a part of a run
+pub matches_step : {A B : Type 0} (Q : A → B → Storage → Type 0) (part : See Value A) (act : Act B) (st : Storage) → Matches Q part act st → Matches Q part (followed step (λ _. act)) st
+matches_step Q part act st (moves pre a b after cost t v r run q) =
+    moves pre a b after (suc cost) t v r (λ n. ap (followed step (λ _. act) st) (let same : suc cost + n ≡ suc (cost + n) = omega arith in same) ∙ run n) q
+matches_step Q part act st (fails pre kind card f e) = fails pre kind card f (stepped e)
+  where
+    stepped : Errs kind card act st → Errs kind card (followed step (λ _. act)) st
+    stepped (of_callee e) = of_callee e
+    stepped (errs after cost h) = errs after (suc cost) (λ n. ap (followed step (λ _. act) st) (let same : suc cost + n ≡ suc (cost + n) = omega arith in same) ∙ h n)
+
+pub matches_cond : {A B : Type 0} (Q : A → B → Storage → Type 0) (t : Bool) (p p' : See Value A) (a a' : Act B) (st : Storage) → Matches Q p a st → Matches Q p' a' st
+    → Matches Q (cond t p p') (cond t a a') st
+matches_cond Q true p p' a a' st h k = h
+matches_cond Q false p p' a a' st h k = k
+
+-- what things that belong together imply
+pub matches_as : {A B : Type 0} (Q P : A → B → Storage → Type 0) (part : See Value A) (act : Act B) (st : Storage) → ((a : A) (b : B) (after : Storage) → Q a b after → P a b after)
+    → Matches Q part act st → Matches P part act st
+matches_as Q P part act st imply (moves pre a b after cost t v r run q) = moves pre a b after cost t v r run (imply a b after q)
+matches_as Q P part act st imply (fails pre kind card f e) = fails pre kind card f e
