@@ -3,6 +3,7 @@
 
 mod atom_terms;
 mod atoms;
+mod cells;
 mod closing;
 mod definition;
 mod definition_fault;
@@ -12,6 +13,7 @@ mod function;
 mod grammar;
 mod head;
 mod node;
+mod numbers;
 mod open_calls;
 mod opening;
 mod pool;
