@@ -1,3 +1,4 @@
+pub mod Assigned
 pub mod Digits
 pub mod Grown
 pub mod Growth
