@@ -12,6 +12,7 @@ pub mod Padded
 pub mod Putting
 pub mod ReadSpelled
 pub mod Remainders
+pub mod Replacing
 pub mod Same
 pub mod SpelledRead
 pub mod TokenSteps

@@ -23,6 +23,7 @@ mod reading_tests;
 mod sheet;
 mod sheet_fault;
 mod substitution;
+mod substitution_law;
 #[cfg(test)]
 mod tests;
 mod tokens;
@@ -46,6 +47,7 @@ pub use reader::read_term;
 pub use sheet::Sheet;
 pub use sheet_fault::SheetFault;
 pub use substitution::{Binding, substitute};
+pub use substitution_law::substitution_is_assignment;
 pub use tokens::{Placed, Token, next_token};
 pub use value::{Cell, Value};
 pub use word::Word;
