@@ -28,6 +28,8 @@ mod substitution_law;
 mod tests;
 mod tokens;
 mod value;
+#[cfg(test)]
+mod value_tests;
 mod word;
 
 pub use atoms::{
