@@ -1,3 +1,4 @@
+pub mod Assigned
 pub mod Digits
 pub mod Grown
 pub mod Growth
@@ -6,9 +7,12 @@ pub mod Lookup
 pub mod Marks
 pub mod Names
 pub mod OneIdEach
+pub mod OtherLengths
 pub mod Padded
 pub mod Putting
 pub mod ReadSpelled
+pub mod Remainders
+pub mod Replacing
 pub mod Same
 pub mod SpelledRead
 pub mod TokenSteps

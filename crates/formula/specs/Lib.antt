@@ -7,8 +7,11 @@ pub mod Named
 pub mod NextToken
 pub mod OpenCalls
 pub mod Pool
+pub mod Ranges
 pub mod Reading
+pub mod Sheets
 pub mod Substitution
+pub mod SubstitutionLaws
 pub mod Tokens
 pub mod Tree
 pub mod Values

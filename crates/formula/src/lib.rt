@@ -3,6 +3,7 @@
 
 mod atom_terms;
 mod atoms;
+mod cells;
 mod closing;
 mod definition;
 mod definition_fault;
@@ -12,17 +13,23 @@ mod function;
 mod grammar;
 mod head;
 mod node;
+mod numbers;
 mod open_calls;
 mod opening;
 mod pool;
 mod reader;
 #[cfg(test)]
 mod reading_tests;
+mod sheet;
+mod sheet_fault;
 mod substitution;
+mod substitution_law;
 #[cfg(test)]
 mod tests;
 mod tokens;
 mod value;
+#[cfg(test)]
+mod value_tests;
 mod word;
 
 pub use atoms::{
@@ -39,7 +46,10 @@ pub use head::{Head, head_of};
 pub use node::{Node, TermId};
 pub use pool::TermPool;
 pub use reader::read_term;
+pub use sheet::Sheet;
+pub use sheet_fault::SheetFault;
 pub use substitution::{Binding, substitute};
+pub use substitution_law::substitution_is_assignment;
 pub use tokens::{Placed, Token, next_token};
 pub use value::{Cell, Value};
 pub use word::Word;
