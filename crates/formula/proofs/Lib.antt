@@ -1,3 +1,4 @@
+pub mod Added
 pub mod Digits
 pub mod Grown
 pub mod Growth
@@ -7,6 +8,7 @@ pub mod Marks
 pub mod Names
 pub mod OneIdEach
 pub mod Padded
+pub mod Passes
 pub mod Putting
 pub mod ReadSpelled
 pub mod Same

@@ -1,6 +1,7 @@
 //! Terms: the language of assertions and verification conditions.
 #![tactic(auto)]
 
+mod adding;
 mod atom_terms;
 mod atoms;
 mod closing;
@@ -11,9 +12,11 @@ mod fault;
 mod function;
 mod grammar;
 mod head;
+mod laws;
 mod node;
 mod open_calls;
 mod opening;
+mod passing;
 mod pool;
 mod reader;
 #[cfg(test)]
@@ -36,6 +39,7 @@ pub use fault::ReadFault;
 pub use function::{Arity, BuiltIn, Func};
 pub use grammar::reading_is_the_grammar;
 pub use head::{Head, head_of};
+pub use laws::added_definitions_stay;
 pub use node::{Node, TermId};
 pub use pool::TermPool;
 pub use reader::read_term;
