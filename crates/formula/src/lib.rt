@@ -2,6 +2,8 @@
 #![tactic(auto)]
 
 mod adding;
+#[cfg(test)]
+mod adding_tests;
 mod atom_terms;
 mod atoms;
 mod closing;
