@@ -73,63 +73,105 @@ fn added(
     Ok(definitions.add(pool, name, params, body))
 }
 
+// Whether a definition is refused with that fault for each of the texts, which stand between semicolons.
+fn all_refused(
+    alloc: Global,
+    pool: &mut TermPool,
+    definitions: &mut Definitions,
+    fault: DefFault,
+    letters: &[u8],
+    texts: &[u8],
+) -> Result<bool, Fail> {
+    for text in texts.split(|b| *b == b';') {
+        let answer = added(alloc, pool, definitions, b"G", letters, text)?;
+        if answer != Err(fault) {
+            return Ok(false);
+        }
+    }
+    Ok(true)
+}
+
 #[test]
 fn definitions_are_added_or_refused(rt: HostRuntime) -> Result<(), Fail> {
-    let known = Err(DefFault::KnownName);
-    let recursion = Err(DefFault::BadRecursion);
-    let free = Err(DefFault::FreeName);
-    let same = Err(DefFault::SameParameter);
-    let cases = [
+    let first = [
         (
             b"CNT".as_slice(),
             b"KAX".as_slice(),
             b"0 (ZPLUS (CNT (ZDIFF K 1) A X) (IF (EQUAL (ELT A K) X) 1 0))".as_slice(),
-            Ok(()),
         ),
         (
             b"ALLD",
             b"KA",
             b"T (AND (ALLD (ZDIFF K 1) A) (DEFINED (ELT A K)))",
-            Ok(()),
         ),
-        (b"TWICE", b"K", b"(ZPLUS K K)", Ok(())),
-        (b"CNT", b"K", b"K", known),
-        (b"OLD", b"K", b"K", known),
-        (b"ZPLUS", b"K", b"K", known),
-        (b"CNT", b"KK", b"Z", known),
-        (b"G", b"K", b"(G K)", recursion),
-        (b"G", b"K", b"(ZPLUS 1 (G (ZDIFF K 1)))", recursion),
-        (b"G", b"K", b"(G (ZDIFF K 1)) 0", recursion),
-        (b"G", b"K", b"0 (G K)", recursion),
-        (b"G", b"K", b"0 (G (ZDIFF K 2))", recursion),
-        (b"G", b"K", b"0 (G (ZDIFF K -1))", recursion),
-        (b"G", b"K", b"0 (G (ZDIFF 1 K))", recursion),
-        (b"G", b"K", b"0 (G (ZPLUS K 1))", recursion),
-        (b"G", b"K", b"0 (G (ZDIFF (OLD K) 1))", recursion),
-        (b"G", b"K", b"0 (G (ZDIFF Z 1))", recursion),
-        (b"G", b"KA", b"0 (G (ZDIFF A 1) K)", recursion),
-        (b"G", b"KA", b"0 (G (ZDIFF K 1) (G K A))", recursion),
-        (b"G", b"", b"0 1", recursion),
-        (b"G", b"", b"0 (G)", recursion),
-        (b"G", b"K", b"(ZPLUS K Z)", free),
-        (b"G", b"K", b"Z 0", free),
-        (b"G", b"K", b"0 Z", free),
-        (b"G", b"K", b"(OLD K)", free),
-        (b"G", b"K", b"LEAST", free),
-        (b"G", b"", b"K", free),
-        (b"G", b"KK", b"Z", free),
-        (b"G", b"KK", b"K", same),
-        (b"G", b"KAK", b"0 (G (ZDIFF K 1) A K)", same),
-        (b"G", b"KA", b"(TWICE (CNT K A K))", Ok(())),
-        (b"H", b"KA", b"A (H (ZDIFF K 1) (H (ZDIFF K 1) A))", Ok(())),
-        (b"ONE", b"", b"1", Ok(())),
-        (b"T", b"K", b"(ALLD K (ONE))", Ok(())),
+        (b"TWICE", b"K", b"(ZPLUS K K)"),
+    ];
+    let refused = [
+        (
+            DefFault::BadRecursion,
+            b"K".as_slice(),
+            b"(G K);(ZPLUS 1 (G (ZDIFF K 1)));(G (ZDIFF K 1)) 0;0 (G K)".as_slice(),
+        ),
+        (
+            DefFault::BadRecursion,
+            b"K",
+            b"0 (G (ZDIFF K 2));0 (G (ZDIFF K -1));0 (G (ZDIFF 1 K));0 (G (ZPLUS K 1))",
+        ),
+        (
+            DefFault::BadRecursion,
+            b"K",
+            b"0 (G (ZDIFF (OLD K) 1));0 (G (ZDIFF Z 1))",
+        ),
+        (
+            DefFault::BadRecursion,
+            b"KA",
+            b"0 (G (ZDIFF A 1) K);0 (G (ZDIFF K 1) (G K A))",
+        ),
+        (DefFault::BadRecursion, b"", b"0 1;0 (G)"),
+        (
+            DefFault::FreeName,
+            b"K",
+            b"(ZPLUS K Z);Z 0;0 Z;(OLD K);LEAST",
+        ),
+        (DefFault::FreeName, b"", b"K"),
+        (DefFault::FreeName, b"KK", b"Z"),
+        (DefFault::SameParameter, b"KK", b"K"),
+        (DefFault::SameParameter, b"KAK", b"0 (G (ZDIFF K 1) A K)"),
+    ];
+    let last = [
+        (
+            b"G".as_slice(),
+            b"KA".as_slice(),
+            b"(TWICE (CNT K A K))".as_slice(),
+        ),
+        (b"H", b"KA", b"A (H (ZDIFF K 1) (H (ZDIFF K 1) A))"),
+        (b"ONE", b"", b"1"),
+        (b"T", b"K", b"(ALLD K (ONE))"),
     ];
     let mut pool = TermPool::new(rt.alloc());
     let mut definitions = Definitions::new(rt.alloc());
-    for (name, letters, text, answer) in cases.iter() {
-        let got = added(rt.alloc(), &mut pool, &mut definitions, name, letters, text)?;
-        assert!(rt; got == *answer);
+    for (name, letters, text) in first.iter() {
+        assert!(rt; added(rt.alloc(), &mut pool, &mut definitions, name, letters, text)? == Ok(()));
+    }
+    for name in b"CNT;OLD;ZPLUS;ALLD".split(|b| *b == b';') {
+        let answer = added(rt.alloc(), &mut pool, &mut definitions, name, b"KK", b"Z")?;
+        assert!(rt; answer == Err(DefFault::KnownName));
+    }
+    for (fault, letters, texts) in refused.iter() {
+        assert!(rt;
+            all_refused(
+                rt.alloc(),
+                &mut pool,
+                &mut definitions,
+                *fault,
+                letters,
+                texts
+            )?
+        );
+    }
+    assert_eq!(rt; definitions.count(), 3);
+    for (name, letters, text) in last.iter() {
+        assert!(rt; added(rt.alloc(), &mut pool, &mut definitions, name, letters, text)? == Ok(()));
     }
     assert_eq!(rt; definitions.count(), 7);
     Ok(())
