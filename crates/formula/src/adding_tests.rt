@@ -1,5 +1,5 @@
 // Definitions that are added, and those that are refused.
-ghost use Rattle.std.specs.Prelude.{IfOk};
+ghost use Rattle.std.specs.Prelude.{IfOk, IfSome};
 ghost use Rattle.formula.specs.Adding.{IsBodyIn};
 ghost use Rattle.formula.specs.Pool.{Grows, IsIn};
 
@@ -23,14 +23,16 @@ fn word(bytes: &[u8]) -> Result<Word, Fail> {
 }
 
 // The heading of a name with parameters of one letter each.
-fn heading(alloc: Global, name: &[u8], letters: &[u8]) -> Result<Heading, Fail> {
-    let name = word(name)?;
+fn heading(alloc: Global, name: &[u8], letters: &[u8]) -> Option<Heading> {
+    let name = Word::new(name)?;
     let mut params = Vec::new(alloc);
     for letter in letters {
-        let param = word(&[*letter])?;
-        params.push(param).map_err(|_| "no memory")?;
+        let param = Word::new(&[*letter])?;
+        if params.push(param).is_err() {
+            return None;
+        }
     }
-    Ok(Heading {
+    Some(Heading {
         name,
         params: List::from_vec(params),
     })
@@ -43,19 +45,19 @@ fn body(
     definitions: &Definitions,
     heading: &Heading,
     text: &[u8],
-) -> Result<Body, Fail>
-    ensures { IfOk result (λ b. IsBodyIn pool.new b) }
+) -> Option<Body>
+    ensures { IfSome result (λ b. IsBodyIn pool.new b) }
 {
     let Ok((first, end)) = read_term(alloc, pool, definitions, Some(heading), text) else {
-        return Err("no term".into());
+        return None;
     };
     if end == text.len() {
-        return Ok(Body::Plain(first));
+        return Some(Body::Plain(first));
     }
     let Ok((second, _)) = read_term(alloc, pool, definitions, Some(heading), &text[end..]) else {
-        return Err("no second term".into());
+        return None;
     };
-    Ok(Body::Counting(first, second))
+    Some(Body::Counting(first, second))
 }
 
 // What is answered where a definition is added whose terms were read with its own heading.
@@ -66,11 +68,24 @@ fn added(
     name: &[u8],
     letters: &[u8],
     text: &[u8],
-) -> Result<Result<(), DefFault>, Fail> {
+) -> Option<Result<(), DefFault>> {
     let heading = heading(alloc, name, letters)?;
     let body = body(alloc, pool, definitions, &heading, text)?;
     let Heading { name, params } = heading;
-    Ok(definitions.add(pool, name, params, body))
+    Some(definitions.add(pool, name, params, body))
+}
+
+// Whether that is answered.
+fn answers(
+    alloc: Global,
+    pool: &mut TermPool,
+    definitions: &mut Definitions,
+    name: &[u8],
+    letters: &[u8],
+    text: &[u8],
+    wanted: Result<(), DefFault>,
+) -> bool {
+    added(alloc, pool, definitions, name, letters, text) == Some(wanted)
 }
 
 // Whether a definition is refused with that fault for each of the texts, which stand between semicolons.
@@ -81,14 +96,36 @@ fn all_refused(
     fault: DefFault,
     letters: &[u8],
     texts: &[u8],
-) -> Result<bool, Fail> {
+) -> bool {
     for text in texts.split(|b| *b == b';') {
-        let answer = added(alloc, pool, definitions, b"G", letters, text)?;
-        if answer != Err(fault) {
-            return Ok(false);
+        if !answers(alloc, pool, definitions, b"G", letters, text, Err(fault)) {
+            return false;
         }
     }
-    Ok(true)
+    true
+}
+
+// Whether each of these names, which stand between semicolons, is known.
+fn all_known(
+    alloc: Global,
+    pool: &mut TermPool,
+    definitions: &mut Definitions,
+    names: &[u8],
+) -> bool {
+    for name in names.split(|b| *b == b';') {
+        if !answers(
+            alloc,
+            pool,
+            definitions,
+            name,
+            b"KK",
+            b"Z",
+            Err(DefFault::KnownName),
+        ) {
+            return false;
+        }
+    }
+    true
 }
 
 #[test]
@@ -151,12 +188,26 @@ fn definitions_are_added_or_refused(rt: HostRuntime) -> Result<(), Fail> {
     let mut pool = TermPool::new(rt.alloc());
     let mut definitions = Definitions::new(rt.alloc());
     for (name, letters, text) in first.iter() {
-        assert!(rt; added(rt.alloc(), &mut pool, &mut definitions, name, letters, text)? == Ok(()));
+        assert!(rt;
+            answers(
+                rt.alloc(),
+                &mut pool,
+                &mut definitions,
+                name,
+                letters,
+                text,
+                Ok(())
+            )
+        );
     }
-    for name in b"CNT;OLD;ZPLUS;ALLD".split(|b| *b == b';') {
-        let answer = added(rt.alloc(), &mut pool, &mut definitions, name, b"KK", b"Z")?;
-        assert!(rt; answer == Err(DefFault::KnownName));
-    }
+    assert!(rt;
+        all_known(
+            rt.alloc(),
+            &mut pool,
+            &mut definitions,
+            b"CNT;OLD;ZPLUS;ALLD"
+        )
+    );
     for (fault, letters, texts) in refused.iter() {
         assert!(rt;
             all_refused(
@@ -166,12 +217,22 @@ fn definitions_are_added_or_refused(rt: HostRuntime) -> Result<(), Fail> {
                 *fault,
                 letters,
                 texts
-            )?
+            )
         );
     }
     assert_eq!(rt; definitions.count(), 3);
     for (name, letters, text) in last.iter() {
-        assert!(rt; added(rt.alloc(), &mut pool, &mut definitions, name, letters, text)? == Ok(()));
+        assert!(rt;
+            answers(
+                rt.alloc(),
+                &mut pool,
+                &mut definitions,
+                name,
+                letters,
+                text,
+                Ok(())
+            )
+        );
     }
     assert_eq!(rt; definitions.count(), 7);
     Ok(())
@@ -187,7 +248,9 @@ fn put(
 ) -> Result<Result<(), DefFault>, Fail>
     requires { IsBodyIn pool.now body }
 {
-    let Heading { name, params } = heading(alloc, b"G", letters)?;
+    let Some(Heading { name, params }) = heading(alloc, b"G", letters) else {
+        return Err("no heading".into());
+    };
     Ok(definitions.add(pool, name, params, body))
 }
 
