@@ -1,3 +1,4 @@
+pub mod Added
 pub mod Assigned
 pub mod Digits
 pub mod Grown
@@ -9,6 +10,7 @@ pub mod Names
 pub mod OneIdEach
 pub mod OtherLengths
 pub mod Padded
+pub mod Passes
 pub mod Putting
 pub mod ReadSpelled
 pub mod Remainders

@@ -6,6 +6,7 @@ pub mod Grammar
 pub mod Named
 pub mod NextToken
 pub mod OpenCalls
+pub mod Passing
 pub mod Pool
 pub mod Ranges
 pub mod Reading

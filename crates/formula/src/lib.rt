@@ -1,6 +1,9 @@
 //! Terms: the language of assertions and verification conditions.
 #![tactic(auto)]
 
+mod adding;
+#[cfg(test)]
+mod adding_tests;
 mod atom_terms;
 mod atoms;
 mod cells;
@@ -12,10 +15,12 @@ mod fault;
 mod function;
 mod grammar;
 mod head;
+mod laws;
 mod node;
 mod numbers;
 mod open_calls;
 mod opening;
+mod passing;
 mod pool;
 mod reader;
 #[cfg(test)]
@@ -43,6 +48,7 @@ pub use fault::ReadFault;
 pub use function::{Arity, BuiltIn, Func};
 pub use grammar::reading_is_the_grammar;
 pub use head::{Head, head_of};
+pub use laws::added_definitions_stay;
 pub use node::{Node, TermId};
 pub use pool::TermPool;
 pub use reader::read_term;
