@@ -1,3 +1,4 @@
+pub mod Depth
 pub mod Digits
 pub mod Grown
 pub mod Growth

@@ -11,9 +11,11 @@ mod fault;
 mod function;
 mod grammar;
 mod head;
+mod machine;
 mod node;
 mod open_calls;
 mod opening;
+mod pile;
 mod pool;
 mod reader;
 #[cfg(test)]
