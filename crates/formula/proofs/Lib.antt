@@ -13,4 +13,5 @@ pub mod ReadSpelled
 pub mod Same
 pub mod SpelledRead
 pub mod TokenSteps
+pub mod Steps
 pub mod Turns
