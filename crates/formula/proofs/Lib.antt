@@ -2,6 +2,7 @@ pub mod Depth
 pub mod Digits
 pub mod Grown
 pub mod Growth
+pub mod Held
 pub mod Images
 pub mod Lookup
 pub mod Marks
