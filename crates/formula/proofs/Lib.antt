@@ -1,5 +1,6 @@
 pub mod Depth
 pub mod Digits
+pub mod Doing
 pub mod Grown
 pub mod Growth
 pub mod Held
