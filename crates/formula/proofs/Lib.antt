@@ -1,3 +1,4 @@
+pub mod Bodies
 pub mod Depth
 pub mod Digits
 pub mod Doing

@@ -1,8 +1,10 @@
 -- The work still to do in an evaluation, and what it comes to.
-use Rattle.std.specs.Prelude.{ℕ, zero, suc, ◌≡◌, ◌+◌, ◌*◌, ◌-◌, ◌<◌, ◌++◌, max, Bool, true, false, if◌then◌else◌, List, [], ◌∷◌, length, map, take, drop, Option, Some, None, slice_index_or}
+use Rattle.std.specs.Prelude.{ℕ, zero, suc, ◌≡◌, ◌+◌, ◌*◌, ◌-◌, ◌<◌, ◌++◌, max, Bool, true, false, if◌then◌else◌, List, [], ◌∷◌, length, map, take, drop, Option, Some, None, slice_index_or, ℤ, pos, int_le}
 use Rattle.formula.specs.declared.function.Func.{Func}
 use Rattle.formula.specs.declared.function.Func.TheVariants.{BuiltIn}
 use Rattle.formula.specs.declared.function.BuiltIn.TheVariants.{If}
+use Rattle.formula.specs.declared.definition.Body.{Body}
+use Rattle.formula.specs.declared.definition.Body.TheVariants.{Plain, Counting}
 use Rattle.formula.specs.declared.definition.Definition.{Definition}
 use Rattle.formula.specs.declared.machine.Held.{Held}
 use Rattle.formula.specs.declared.machine.Held.TheVariants as held
@@ -18,6 +20,7 @@ use Rattle.formula.specs.declared.value.Value.{Value}
 use Rattle.formula.specs.declared.value.Value.TheVariants.{Int, Logical, Undefined, Cells}
 use Rattle.formula.specs.declared.word.Word.{Word}
 use Rattle.formula.specs.Adding.{definition_at}
+use Rattle.formula.specs.Atoms.{same_bytes}
 use Rattle.formula.specs.Bounded.{Outcome, got, beyond, spent, and_then, Calls, function_bounded, bounded_by, calls_within}
 use Rattle.formula.specs.Pool.{IsIn, tree_of}
 use Rattle.formula.specs.Tree.{Tree, num, truth, symbol, old, apply, Row, none, more}
@@ -128,6 +131,32 @@ job_of pool ds sheet made (Leave s) = leave (symbols_of ds sheet made s)
 
 abbrev pub jobs_of : List Node → List Definition → List (Word × Value) → List (List Cell) → List Task → List Job
 jobs_of pool ds sheet made tasks = map (job_of pool ds sheet made) tasks
+
+-- the first of some held values
+abbrev pub first_held : List Held → Held
+first_held [] = held.Undefined
+first_held (h ∷ hs) = h
+
+-- the number of a held value; 0 where it is none
+abbrev pub held_num : Held → ℤ
+held_num (held.Int z) = z
+held_num h = pos 0
+
+-- the value of a parameter among arguments
+abbrev pub argument_of : List (List ℕ) → List Held → List ℕ → Held
+argument_of [] hs s = held.Undefined
+argument_of (p ∷ ps) [] s = held.Undefined
+argument_of (p ∷ ps) (h ∷ hs) s = if same_bytes p s then h else argument_of ps hs s
+
+-- the term that a use of a definition comes to, by its first argument's number
+abbrev pub chosen_id : Body → ℤ → TermId
+chosen_id (Plain t) z = t
+chosen_id (Counting base step) z = if int_le z (pos 0) then base else step
+
+-- the tasks of a function and its arguments: of IF the condition and then a branch, else all arguments
+abbrev pub taken_apart : Func → List TermId → List Task → List Task
+taken_apart (BuiltIn If) (c ∷ a ∷ b ∷ []) rest = Eval c ∷ Branch a b ∷ rest
+taken_apart f args rest = map Eval args ++ Combine f (length args) ∷ rest
 
 -- ---- what is named is there
 

@@ -12,6 +12,7 @@ mod function;
 mod grammar;
 mod head;
 mod machine;
+mod no_worth;
 mod node;
 mod open_calls;
 mod opening;
@@ -21,9 +22,11 @@ mod reader;
 #[cfg(test)]
 mod reading_tests;
 mod substitution;
+mod taking;
 #[cfg(test)]
 mod tests;
 mod tokens;
+mod uses;
 mod value;
 mod word;
 
@@ -38,6 +41,7 @@ pub use fault::ReadFault;
 pub use function::{Arity, BuiltIn, Func};
 pub use grammar::reading_is_the_grammar;
 pub use head::{Head, head_of};
+pub use no_worth::Worth;
 pub use node::{Node, TermId};
 pub use pool::TermPool;
 pub use reader::read_term;
