@@ -10,9 +10,11 @@ pub mod Lookup
 pub mod Marks
 pub mod Names
 pub mod OneIdEach
+pub mod OtherLengths
 pub mod Padded
 pub mod Putting
 pub mod ReadSpelled
+pub mod Remainders
 pub mod Same
 pub mod SpelledRead
 pub mod TokenSteps

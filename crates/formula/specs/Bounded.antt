@@ -1,11 +1,10 @@
 -- The evaluation of a term with a stock of turns and numbers up to 2^120.
-use Rattle.std.specs.Prelude.{ℕ, zero, suc, ◌-◌, ◌^◌, nat_le, Bool, if◌then◌else◌, ℤ, pos, unsigned_abs, int_le, List, [], ◌∷◌, Option, Some, None, slice_get}
-use Rattle.formula.specs.declared.function.BuiltIn.{BuiltIn as Builtin}
+use Rattle.std.specs.Prelude.{ℕ, zero, suc, ◌^◌, nat_le, Bool, if◌then◌else◌, pos, unsigned_abs, int_le, List, [], ◌∷◌, Option, Some, None, slice_get}
 use Rattle.formula.specs.declared.function.BuiltIn.TheVariants.{If}
 use Rattle.formula.specs.declared.function.Func.{Func}
 use Rattle.formula.specs.declared.function.Func.TheVariants.{BuiltIn, Defined}
 use Rattle.formula.specs.declared.value.Value.{Value}
-use Rattle.formula.specs.declared.value.Value.TheVariants.{Int, Logical, Undefined, Cells}
+use Rattle.formula.specs.declared.value.Value.TheVariants.{Int, Logical, Undefined}
 use Rattle.formula.specs.Tree.{Tree, num as number, truth, symbol, old, apply, Row, none, more}
 use Rattle.formula.specs.Values.{num, holds, applied}
 use Rattle.formula.specs.Worth.{Valuation, Function, FunctionBody, plain, counting, bound_to, first_of, nothing_known}

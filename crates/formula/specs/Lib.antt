@@ -8,6 +8,7 @@ pub mod Named
 pub mod NextToken
 pub mod OpenCalls
 pub mod Pool
+pub mod Ranges
 pub mod Reading
 pub mod Substitution
 pub mod Tokens

@@ -3,6 +3,7 @@
 
 mod atom_terms;
 mod atoms;
+mod cells;
 mod closing;
 mod definition;
 mod definition_fault;
@@ -14,6 +15,7 @@ mod head;
 mod machine;
 mod no_worth;
 mod node;
+mod numbers;
 mod open_calls;
 mod opening;
 mod pile;
