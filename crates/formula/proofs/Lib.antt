@@ -1,3 +1,4 @@
+pub mod Assigned
 pub mod Bodies
 pub mod Depth
 pub mod Digits
@@ -17,6 +18,6 @@ pub mod ReadSpelled
 pub mod Remainders
 pub mod Same
 pub mod SpelledRead
-pub mod TokenSteps
 pub mod Steps
+pub mod TokenSteps
 pub mod Turns

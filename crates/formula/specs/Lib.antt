@@ -10,6 +10,7 @@ pub mod OpenCalls
 pub mod Pool
 pub mod Ranges
 pub mod Reading
+pub mod Sheets
 pub mod Substitution
 pub mod Tokens
 pub mod Tree

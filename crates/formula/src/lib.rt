@@ -23,6 +23,8 @@ mod pool;
 mod reader;
 #[cfg(test)]
 mod reading_tests;
+mod sheet;
+mod sheet_fault;
 mod substitution;
 mod taking;
 #[cfg(test)]
@@ -47,6 +49,8 @@ pub use no_worth::Worth;
 pub use node::{Node, TermId};
 pub use pool::TermPool;
 pub use reader::read_term;
+pub use sheet::Sheet;
+pub use sheet_fault::SheetFault;
 pub use substitution::{Binding, substitute};
 pub use tokens::{Placed, Token, next_token};
 pub use value::{Cell, Value};
