@@ -59,12 +59,12 @@ body_in pool (x ∷ ds) (suc (suc k)) d e h = body_in pool ds (suc k) d e h.1
 
 -- ---- the term that a use comes to
 
-num-value_of : (sheet : List (Word × Value)) (made : List (List Cell)) (h : Held) → num (value_of sheet made h) ≡ held_num h
-num-value_of sheet made (held.Int z) = refl
-num-value_of sheet made (held.Logical b) = refl
-num-value_of sheet made held.Undefined = refl
-num-value_of sheet made (held.Given i) = refl
-num-value_of sheet made (held.Made i) = refl
+pub num_held : (sheet : List (Word × Value)) (made : List (List Cell)) (h : Held) → num (value_of sheet made h) ≡ held_num h
+num_held sheet made (held.Int z) = refl
+num_held sheet made (held.Logical b) = refl
+num_held sheet made held.Undefined = refl
+num_held sheet made (held.Given i) = refl
+num_held sheet made (held.Made i) = refl
 
 pub first-values_of : (sheet : List (Word × Value)) (made : List (List Cell)) (hs : List Held) → first_of (values_of sheet made hs) ≡ value_of sheet made (first_held hs)
 first-values_of sheet made [] = refl
@@ -115,7 +115,7 @@ module _ (pool : List Node) (ds : List Definition) (sheet : List (Word × Value)
   used_some d e h same =
       let args = newest c m.values in
       let z = held_num (first_held args) in
-      let number : num (first_of (values_of sheet m.made args)) ≡ z = ap num (first-values_of sheet m.made args) ∙ num-value_of sheet m.made (first_held args) in
+      let number : num (first_of (values_of sheet m.made args)) ≡ z = ap num (first-values_of sheet m.made args) ∙ num_held sheet m.made (first_held args) in
       let s = chosen_small pool d.body z in
       let b = body_small pool ds k d e in
       does-Use pool ds sheet m m' k c (m.turns - 1) (chosen_id d.body z) (function_of pool d) (one_less m.turns left) (function_at-some pool ds k d e) (ap params_of e)

@@ -1,5 +1,7 @@
+pub mod Applied
 pub mod Assigned
 pub mod Bodies
+pub mod Combined
 pub mod Depth
 pub mod Digits
 pub mod Doing
@@ -17,6 +19,7 @@ pub mod Putting
 pub mod ReadSpelled
 pub mod Remainders
 pub mod Same
+pub mod SymbolValues
 pub mod SpelledRead
 pub mod Steps
 pub mod TokenSteps

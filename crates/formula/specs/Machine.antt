@@ -1,8 +1,9 @@
 -- The work still to do in an evaluation, and what it comes to.
-use Rattle.std.specs.Prelude.{ℕ, zero, suc, ◌≡◌, ◌+◌, ◌*◌, ◌-◌, ◌<◌, ◌++◌, max, Bool, true, false, if◌then◌else◌, List, [], ◌∷◌, length, map, take, drop, Option, Some, None, slice_index_or, ℤ, pos, int_le}
+use Rattle.std.specs.Prelude.{ℕ, zero, suc, ◌≡◌, ◌+◌, ◌*◌, ◌-◌, ◌<◌, ◌++◌, max, Bool, true, false, if◌then◌else◌, List, [], ◌∷◌, length, map, take, drop, Option, Some, None, slice_get, slice_index_or, ℤ, pos, int_le, ◌+ℤ◌, ◌-ℤ◌, ◌*ℤ◌}
 use Rattle.formula.specs.declared.function.Func.{Func}
 use Rattle.formula.specs.declared.function.Func.TheVariants.{BuiltIn}
-use Rattle.formula.specs.declared.function.BuiltIn.TheVariants.{If}
+use Rattle.formula.specs.declared.function.BuiltIn.{BuiltIn as Builtin}
+use Rattle.formula.specs.declared.function.BuiltIn.TheVariants.{If, Plus, Difference, Times, Quotient, Remainder, Maximum, Minimum}
 use Rattle.formula.specs.declared.definition.Body.{Body}
 use Rattle.formula.specs.declared.definition.Body.TheVariants.{Plain, Counting}
 use Rattle.formula.specs.declared.definition.Definition.{Definition}
@@ -13,6 +14,9 @@ use Rattle.formula.specs.declared.machine.Scope.TheVariants.{Sheet, Arguments}
 use Rattle.formula.specs.declared.machine.Task.{Task}
 use Rattle.formula.specs.declared.machine.Task.TheVariants.{Eval, Branch, Combine, Leave}
 use Rattle.formula.specs.declared.machine.Machine.{Machine}
+use Rattle.formula.specs.declared.held_values.Answer.{Answer}
+use Rattle.formula.specs.declared.held_values.Answer.TheVariants as answer
+use Rattle.formula.specs.declared.value.Cell.TheVariants as cell
 use Rattle.formula.specs.declared.node.Node.{Node}
 use Rattle.formula.specs.declared.node.TermId.{TermId}
 use Rattle.formula.specs.declared.value.Cell.{Cell}
@@ -21,10 +25,11 @@ use Rattle.formula.specs.declared.value.Value.TheVariants.{Int, Logical, Undefin
 use Rattle.formula.specs.declared.word.Word.{Word}
 use Rattle.formula.specs.Adding.{definition_at}
 use Rattle.formula.specs.Atoms.{same_bytes}
-use Rattle.formula.specs.Bounded.{Outcome, got, beyond, spent, and_then, Calls, function_bounded, bounded_by, calls_within}
+use Rattle.formula.specs.Bounded.{Outcome, got, beyond, spent, and_then, Calls, function_bounded, bounded_by, calls_within, is_in_range}
 use Rattle.formula.specs.Pool.{IsIn, tree_of}
 use Rattle.formula.specs.Tree.{Tree, num, truth, symbol, old, apply, Row, none, more}
-use Rattle.formula.specs.Values.{holds}
+use Rattle.formula.specs.Ranges.{in_range}
+use Rattle.formula.specs.Values.{holds, quotient, remainder, greater, smaller}
 use Rattle.formula.specs.Worth.{Valuation, Function, FunctionBody, plain, counting, functions_of, assigned, bound_to, first_of, nothing_known}
 
 -- ---- work, by trees and values
@@ -99,11 +104,13 @@ abbrev pub cells_of : Value → List Cell
 cells_of (Cells cs) = cs
 cells_of v = []
 
+abbrev pub value_of_entry : Option (Word × Value) → Value
+value_of_entry None = Undefined
+value_of_entry (Some e) = e.1
+
 -- the value of an entry of a sheet
 abbrev pub entry_at : List (Word × Value) → ℕ → Value
-entry_at [] i = Undefined
-entry_at (e ∷ rest) zero = e.1
-entry_at (e ∷ rest) (suc i) = entry_at rest i
+entry_at sheet i = value_of_entry (slice_get sheet i)
 
 abbrev pub value_of : List (Word × Value) → List (List Cell) → Held → Value
 value_of sheet made (held.Int z) = Int z
@@ -142,6 +149,79 @@ abbrev pub held_num : Held → ℤ
 held_num (held.Int z) = z
 held_num h = pos 0
 
+-- what counts as true: all but F
+abbrev pub held_holds : Held → Bool
+held_holds (held.Logical b) = b
+held_holds h = true
+
+abbrev pub held_is_list : Held → Bool
+held_is_list (held.Given i) = true
+held_is_list (held.Made i) = true
+held_is_list h = false
+
+-- the cell of a held value; that of a list is undefined
+abbrev pub held_cell : Held → Cell
+held_cell (held.Int z) = cell.Int z
+held_cell (held.Logical b) = cell.Logical b
+held_cell h = cell.Undefined
+
+abbrev pub cell_held : Cell → Held
+cell_held (cell.Int z) = held.Int z
+cell_held (cell.Logical b) = held.Logical b
+cell_held cell.Undefined = held.Undefined
+
+-- a list of cells that was made is among the first n
+abbrev pub IsHeld : ℕ → Held → Type 0
+IsHeld n (held.Made i) = i < n
+IsHeld n h = Unit {0}
+
+abbrev pub held_is_defined : Held → Bool
+held_is_defined (held.Int z) = true
+held_is_defined (held.Logical b) = true
+held_is_defined h = false
+
+-- a number, a held value or a cell as an answer, where it is in range
+abbrev pub number_answer : Option ℤ → Answer
+number_answer (Some z) = answer.Held (held.Int z)
+number_answer None = answer.Beyond
+
+abbrev pub held_answer : Held → Answer
+held_answer (held.Int z) = number_answer (in_range z)
+held_answer h = answer.Held h
+
+abbrev pub cell_answer : Option Cell → Answer
+cell_answer (Some c) = held_answer (cell_held c)
+cell_answer None = answer.Held held.Undefined
+
+-- a number that a built-in function makes of two numbers; undefined where it makes none
+abbrev pub numbers_answer : Builtin → ℤ → ℤ → Answer
+numbers_answer Plus a b = number_answer (in_range (a +ℤ b))
+numbers_answer Difference a b = number_answer (in_range (a -ℤ b))
+numbers_answer Times a b = number_answer (in_range (a *ℤ b))
+numbers_answer Quotient a b = number_answer (in_range (quotient a b))
+numbers_answer Remainder a b = number_answer (in_range (remainder a b))
+numbers_answer Maximum a b = number_answer (in_range (greater a b))
+numbers_answer Minimum a b = number_answer (in_range (smaller a b))
+numbers_answer f a b = answer.Held held.Undefined
+
+-- an answer is that value, with the check of its range
+abbrev pub Answers : List (Word × Value) → List (List Cell) → Value → Answer → Type 0
+Answers sheet made v (answer.Held h) = (value_of sheet made h ≡ v) × ((is_in_range v ≡ true) × IsHeld (length made) h)
+Answers sheet made v (answer.Made cs) = v ≡ Cells cs
+Answers sheet made v answer.Beyond = is_in_range v ≡ false
+
+-- a number is in range; other values have no size
+abbrev pub held_small : Held → Bool
+held_small (held.Int z) = is_in_range (Int z)
+held_small h = true
+
+-- how a value of an entry is held
+abbrev pub held_at : Value → ℕ → Held
+held_at (Int z) i = held.Int z
+held_at (Logical b) i = held.Logical b
+held_at Undefined i = held.Undefined
+held_at (Cells cs) i = held.Given i
+
 -- the value of a parameter among arguments
 abbrev pub argument_of : List (List ℕ) → List Held → List ℕ → Held
 argument_of [] hs s = held.Undefined
@@ -159,11 +239,6 @@ taken_apart (BuiltIn If) (c ∷ a ∷ b ∷ []) rest = Eval c ∷ Branch a b ∷
 taken_apart f args rest = map Eval args ++ Combine f (length args) ∷ rest
 
 -- ---- what is named is there
-
--- a list of cells that was made is among the first n
-abbrev pub IsHeld : ℕ → Held → Type 0
-IsHeld n (held.Made i) = i < n
-IsHeld n h = Unit {0}
 
 abbrev pub AreHeld : ℕ → List Held → Type 0
 AreHeld n [] = Unit {0}

@@ -1,17 +1,21 @@
 //! Terms: the language of assertions and verification conditions.
 #![tactic(auto)]
 
+mod applying;
 mod atom_terms;
 mod atoms;
 mod cells;
 mod closing;
+mod combining;
 mod definition;
 mod definition_fault;
 mod definitions;
+mod evaluation;
 mod fault;
 mod function;
 mod grammar;
 mod head;
+mod held_values;
 mod machine;
 mod no_worth;
 mod node;
@@ -23,6 +27,7 @@ mod pool;
 mod reader;
 #[cfg(test)]
 mod reading_tests;
+mod scopes;
 mod sheet;
 mod sheet_fault;
 mod substitution;
@@ -41,6 +46,7 @@ pub use atoms::{
 pub use definition::{Body, Definition, Heading};
 pub use definition_fault::DefFault;
 pub use definitions::Definitions;
+pub use evaluation::worth;
 pub use fault::ReadFault;
 pub use function::{Arity, BuiltIn, Func};
 pub use grammar::reading_is_the_grammar;
