@@ -18,6 +18,7 @@ pub mod Padded
 pub mod Putting
 pub mod ReadSpelled
 pub mod Remainders
+pub mod Replacing
 pub mod Same
 pub mod SymbolValues
 pub mod SpelledRead

@@ -12,6 +12,7 @@ pub mod Ranges
 pub mod Reading
 pub mod Sheets
 pub mod Substitution
+pub mod SubstitutionLaws
 pub mod Tokens
 pub mod Tree
 pub mod Values

@@ -31,12 +31,15 @@ mod scopes;
 mod sheet;
 mod sheet_fault;
 mod substitution;
+mod substitution_law;
 mod taking;
 #[cfg(test)]
 mod tests;
 mod tokens;
 mod uses;
 mod value;
+#[cfg(test)]
+mod value_tests;
 mod word;
 
 pub use atoms::{
@@ -58,6 +61,7 @@ pub use reader::read_term;
 pub use sheet::Sheet;
 pub use sheet_fault::SheetFault;
 pub use substitution::{Binding, substitute};
+pub use substitution_law::substitution_is_assignment;
 pub use tokens::{Placed, Token, next_token};
 pub use value::{Cell, Value};
 pub use word::Word;
