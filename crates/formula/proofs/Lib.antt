@@ -1,3 +1,4 @@
+pub mod Added
 pub mod Applied
 pub mod Assigned
 pub mod Bodies
@@ -15,13 +16,14 @@ pub mod Names
 pub mod OneIdEach
 pub mod OtherLengths
 pub mod Padded
+pub mod Passes
 pub mod Putting
 pub mod ReadSpelled
 pub mod Remainders
 pub mod Replacing
 pub mod Same
-pub mod SymbolValues
 pub mod SpelledRead
 pub mod Steps
+pub mod SymbolValues
 pub mod TokenSteps
 pub mod Turns

@@ -12,7 +12,7 @@ use Rattle.formula.specs.declared.definition_fault.DefFault.{DefFault}
 use Rattle.formula.specs.declared.definition_fault.DefFault.TheVariants.{KnownName, UnknownFunction, BadCount, BadRecursion, FreeName, SameParameter}
 use Rattle.formula.specs.declared.node.Node.{Node}
 use Rattle.formula.specs.Atoms.{same_bytes}
-use Rattle.formula.specs.Pool.{IsIn}
+use Rattle.formula.specs.Pool.{Grows, IsIn}
 use Rattle.formula.specs.Reading.{head_named}
 use Rattle.formula.specs.Tree.{Tree, num, truth, symbol, old, apply, Row, none, more, row_count}
 use Rattle.formula.specs.Worth.{FunctionBody, plain, counting, body_of}
@@ -145,3 +145,7 @@ AreAddedTo pool earlier (d ∷ rest) =
 -- definitions were added, one after another, with this pool
 abbrev pub AreAdded : List Node → List Definition → Type 0
 AreAdded pool ds = AreAddedTo pool [] ds
+
+-- definitions that were added with a pool stay so when nodes are added to it
+abbrev pub AddedStay : Type 0
+AddedStay = (old new : List Node) (ds : List Definition) → Grows old new → AreAdded old ds → AreAdded new ds

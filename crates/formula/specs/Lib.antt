@@ -7,6 +7,7 @@ pub mod Machine
 pub mod Named
 pub mod NextToken
 pub mod OpenCalls
+pub mod Passing
 pub mod Pool
 pub mod Ranges
 pub mod Reading

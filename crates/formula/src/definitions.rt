@@ -1,8 +1,12 @@
 // The definitions of a run.
-ghost use Rattle.std.specs.Prelude.{◌≡◌, ◌-◌, ◌^◌, ◌<◌, ◌≤◌, [], length, slice_get, Some};
+ghost use Rattle.std.specs.Prelude.{◌≡◌, ◌≢◌, ◌-◌, ◌^◌, ◌<◌, ◌≤◌, [], ◌∷◌, ◌++◌, length, slice_get, Some, None, IfErr, OnOk, OnErr};
+ghost use Rattle.formula.specs.Adding.{AreAdded, IsBodyIn, adding_fault};
 ghost use Rattle.formula.specs.Reading.{defined_among};
+ghost use Rattle.formula.specs.Worth.{body_of};
 
-use crate::{Arity, Definition, Func, Head, Word};
+use crate::adding::fault_of;
+use crate::{Arity, Body, DefFault, Definition, Func, Head, TermPool, Word};
+use edge_io::{List, NoMemory};
 use indexmap::IndexMap;
 use std::alloc::Global;
 use std::marker::Model;
@@ -11,6 +15,7 @@ use std::marker::Model;
 #[derive(Drop)]
 pub struct Definitions {
     by_name: IndexMap<Word, Definition>,
+    alloc: Global,
 }
 
 impl Model for Definitions {
@@ -33,6 +38,7 @@ impl Definitions {
     {
         Definitions {
             by_name: IndexMap::new(alloc),
+            alloc,
         }
     }
 
@@ -54,6 +60,46 @@ impl Definitions {
             Some((_, definition)) => definition,
             None => unreachable!(),
         }
+    }
+
+    /// Adds a definition behind the others; its terms are of the pool. Where it is at fault, the
+    /// first fault of the list in `DefFault` is answered. Want of memory may be answered in place of
+    /// any other answer. After a refusal the definitions are what they were. It takes time and
+    /// memory in the number of ids up to those of the terms, however often a term stands in another.
+    pub fn add(
+        &mut self,
+        pool: &TermPool,
+        name: Word,
+        params: List<Word>,
+        body: Body,
+    ) -> Result<(), DefFault>
+        requires { IsBodyIn pool.now body }
+        ensures ok { OnOk result (self.new ≡ self.old ++ (record { name = name; params = params; body = body }) ∷ []) }
+        ensures fits { OnOk result (adding_fault self.old name params (body_of pool.now body) ≡ None) }
+        ensures fault { IfErr result (λ f. f ≢ DefFault.NoMemory → adding_fault self.old name params (body_of pool.now body) ≡ Some f) }
+        ensures unchanged { OnErr result (self.new ≡ self.old) }
+        ensures added { OnOk result (AreAdded pool.now self.old → AreAdded pool.now self.new) }
+    {
+        match fault_of(self.alloc, pool, self, name, params.as_slice(), body) {
+            Ok(None) => self.put(name, params, body),
+            Ok(Some(fault)) => Err(fault),
+            Err(NoMemory) => Err(DefFault::NoMemory),
+        }
+    }
+
+    /// Puts a definition of a name that no other has behind the others.
+    fn put(&mut self, name: Word, params: List<Word>, body: Body) -> Result<(), DefFault>
+        requires { defined_among 1 self.old name ≡ None }
+        ensures ok { OnOk result (self.new ≡ self.old ++ (record { name = name; params = params; body = body }) ∷ []) }
+        ensures unchanged { OnErr result (self.new ≡ self.old) }
+        ensures memory { IfErr result (λ f. f ≡ DefFault.NoMemory) }
+    {
+        prove!(name.len() <= 24);
+        let definition = Definition { name, params, body };
+        let Ok(_) = self.by_name.insert(name, definition) else {
+            return Err(DefFault::NoMemory);
+        };
+        Ok(())
     }
 
     /// The head of the definition with that name.

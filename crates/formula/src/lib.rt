@@ -1,6 +1,9 @@
 //! Terms: the language of assertions and verification conditions.
 #![tactic(auto)]
 
+mod adding;
+#[cfg(test)]
+mod adding_tests;
 mod applying;
 mod atom_terms;
 mod atoms;
@@ -16,12 +19,14 @@ mod function;
 mod grammar;
 mod head;
 mod held_values;
+mod laws;
 mod machine;
 mod no_worth;
 mod node;
 mod numbers;
 mod open_calls;
 mod opening;
+mod passing;
 mod pile;
 mod pool;
 mod reader;
@@ -54,6 +59,7 @@ pub use fault::ReadFault;
 pub use function::{Arity, BuiltIn, Func};
 pub use grammar::reading_is_the_grammar;
 pub use head::{Head, head_of};
+pub use laws::added_definitions_stay;
 pub use no_worth::Worth;
 pub use node::{Node, TermId};
 pub use pool::TermPool;

@@ -46,6 +46,15 @@ impl Word {
         })
     }
 
+    /// The number of bytes.
+    pub(crate) fn len(&self) -> usize
+        ensures count { result ≡ length self.now }
+        ensures low { 1 ≤ result }
+        ensures high { result ≤ 24 }
+    {
+        self.len as usize
+    }
+
     pub fn as_bytes(&self) -> &[u8]
         ensures { result.now ≡ self.now }
     {
