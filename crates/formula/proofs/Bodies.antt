@@ -19,9 +19,10 @@ use Rattle.formula.specs.declared.word.Word.{Word}
 use Rattle.formula.specs.Adding.{definition_at, IsBodyIn, AreBodiesIn}
 use Rattle.formula.specs.Bounded.{spent, chosen, function_at}
 use Rattle.formula.specs.Machine.{newest, all_but, size, body_size, greatest, value_of, values_of, params_of, first_held, held_num, chosen_id, IsWhole, Does, meaning_with}
-use Rattle.formula.specs.Pool.{IsIn, tree_of}
+use Rattle.formula.specs.Pool.{Grows, IsIn, tree_of}
 use Rattle.formula.specs.Values.{num}
 use Rattle.formula.specs.Worth.{Function, FunctionBody, plain, counting, functions_of, body_of, first_of}
+use Rattle.formula.proofs.Added.{IsBodyIn-Grows}
 use Rattle.formula.proofs.Doing.{does-Unknown, does-Use, spent-Use}
 
 -- ---- the function of a number
@@ -120,3 +121,13 @@ module _ (pool : List Node) (ds : List Definition) (sheet : List (Word × Value)
       let b = body_small pool ds k d e in
       does-Use pool ds sheet m m' k c (m.turns - 1) (chosen_id d.body z) (function_of pool d) (one_less m.turns left) (function_at-some pool ds k d e) (ap params_of e)
       (chosen_tree pool d.body (values_of sheet m.made args) z number) (omega arith) (chosen_in pool d.body z (body_in pool ds k d e h)) w same
+
+-- ---- a pool that grows
+
+pub AreBodiesIn-Grows : (old new : List Node) (ds : List Definition) → Grows old new → AreBodiesIn old ds → AreBodiesIn new ds
+AreBodiesIn-Grows old new [] g h = tt
+AreBodiesIn-Grows old new (d ∷ ds) g h = (IsBodyIn-Grows old new d.body g h.0, AreBodiesIn-Grows old new ds g h.1)
+
+pub AreBodiesIn-append : (pool : List Node) (ds : List Definition) (d : Definition) → AreBodiesIn pool ds → IsBodyIn pool d.body → AreBodiesIn pool (ds ++ d ∷ [])
+AreBodiesIn-append pool [] d h b = (b, tt)
+AreBodiesIn-append pool (x ∷ ds) d h b = (h.0, AreBodiesIn-append pool ds d h.1 b)
