@@ -1,8 +1,14 @@
 pub mod Added
+pub mod Applied
 pub mod Assigned
+pub mod Bodies
+pub mod Combined
+pub mod Depth
 pub mod Digits
+pub mod Doing
 pub mod Grown
 pub mod Growth
+pub mod Held
 pub mod Images
 pub mod Lookup
 pub mod Marks
@@ -17,5 +23,7 @@ pub mod Remainders
 pub mod Replacing
 pub mod Same
 pub mod SpelledRead
+pub mod Steps
+pub mod SymbolValues
 pub mod TokenSteps
 pub mod Turns

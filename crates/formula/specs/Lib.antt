@@ -3,6 +3,7 @@ pub mod Atoms
 pub mod Bounded
 pub mod Functions
 pub mod Grammar
+pub mod Machine
 pub mod Named
 pub mod NextToken
 pub mod OpenCalls

@@ -4,34 +4,44 @@
 mod adding;
 #[cfg(test)]
 mod adding_tests;
+mod applying;
 mod atom_terms;
 mod atoms;
 mod cells;
 mod closing;
+mod combining;
 mod definition;
 mod definition_fault;
 mod definitions;
+mod evaluation;
 mod fault;
 mod function;
 mod grammar;
 mod head;
+mod held_values;
 mod laws;
+mod machine;
+mod no_worth;
 mod node;
 mod numbers;
 mod open_calls;
 mod opening;
 mod passing;
+mod pile;
 mod pool;
 mod reader;
 #[cfg(test)]
 mod reading_tests;
+mod scopes;
 mod sheet;
 mod sheet_fault;
 mod substitution;
 mod substitution_law;
+mod taking;
 #[cfg(test)]
 mod tests;
 mod tokens;
+mod uses;
 mod value;
 #[cfg(test)]
 mod value_tests;
@@ -44,11 +54,13 @@ pub use atoms::{
 pub use definition::{Body, Definition, Heading};
 pub use definition_fault::DefFault;
 pub use definitions::Definitions;
+pub use evaluation::worth;
 pub use fault::ReadFault;
 pub use function::{Arity, BuiltIn, Func};
 pub use grammar::reading_is_the_grammar;
 pub use head::{Head, head_of};
 pub use laws::added_definitions_stay;
+pub use no_worth::Worth;
 pub use node::{Node, TermId};
 pub use pool::TermPool;
 pub use reader::read_term;

@@ -1,0 +1,22 @@
+use Rattle.std.proofs.Common.{◌≡◌, [], ◌∷◌, ap, ◌∙◌, sym}
+use Rattle.formula.specs.declared.machine.Task.TheVariants.{Eval}
+use Rattle.formula.specs.Machine.{value_of, first_held, newest}
+use Rattle.formula.proofs.Combined.{begun, begun_whole, ended_with}
+use Rattle.formula.proofs.evaluation.worth.Goals as goal
+
+pub loop-task-init : goal.loop-task-init
+loop-task-init c =
+    let first = c.in_ok-push.ensures.ok ∙ ap (λ l. Eval c.args.id ∷ l) c.new-tasks.ensures in
+    record {
+      same = begun c.args.pool.now c.args.definitions.now c.args.sheet.now c.args.id c.args.turns c.push.new.self c.new.result c.new-2.result first c.new.ensures c.new-2.ensures;
+      whole = begun_whole c.args.pool.now c.args.definitions.now c.args.sheet.now c.args.id c.args.turns c.push.new.self c.new.result c.new-2.result c.requires.id first c.new.ensures;
+    }
+
+pub returns-clause-value : goal.returns-clause-value
+returns-clause-value c =
+    let m = c.loop-task.machine in
+    let sheet = c.args.sheet.now in
+    let last : c.first-last.result ≡ first_held (newest 1 m.values) = c.first-last.ensures ∙ ap first_held (c.newest.ensures ∙ ap (newest 1) c.as_slice.ensures) in
+    let value : c.in_ok-value.value ≡ value_of sheet m.made (first_held (newest 1 m.values)) =
+    c.in_ok-value.ensures ∙ (λ i. value_of (c.entries.ensures.entries i) (c.as_slice-2.ensures i) (last i)) in
+    (m.turns, ended_with c.args.pool.now c.args.definitions.now sheet c.args.id c.args.turns m c.in_ok-value.value c.loop-task.invariant.same c.in_default.ensures.0 value)
