@@ -1,3 +1,4 @@
+pub mod BoundedWorth
 pub mod Digits
 pub mod Grown
 pub mod Growth
@@ -6,6 +7,8 @@ pub mod Lookup
 pub mod Marks
 pub mod Names
 pub mod OneIdEach
+pub mod OnSheet
+pub mod OwnBody
 pub mod Padded
 pub mod Putting
 pub mod ReadSpelled
@@ -13,3 +16,5 @@ pub mod Same
 pub mod SpelledRead
 pub mod TokenSteps
 pub mod Turns
+pub mod UsedFunctions
+pub mod UsesAgree

@@ -24,6 +24,7 @@ mod tests;
 mod tokens;
 mod value;
 mod word;
+mod worth_laws;
 
 pub use atoms::{
     is_digit, is_digits, is_function_name, is_letter, is_long, is_number, is_same, is_symbol,
@@ -43,3 +44,4 @@ pub use substitution::{Binding, substitute};
 pub use tokens::{Placed, Token, next_token};
 pub use value::{Cell, Value};
 pub use word::Word;
+pub use worth_laws::{assignments_suffice, bounded_worth_is_worth, uses_mean_their_terms};

@@ -1,0 +1,32 @@
+-- The laws of worth.
+use Rattle.std.specs.Prelude.{ℕ, ◌≡◌, not, List, Option, Some, None, IsTrue}
+use Rattle.formula.specs.declared.definition.Definition.{Definition}
+use Rattle.formula.specs.declared.node.Node.{Node}
+use Rattle.formula.specs.declared.value.Value.{Value}
+use Rattle.formula.specs.declared.value.Value.TheVariants.{Undefined}
+use Rattle.formula.specs.Adding.{AreAdded}
+use Rattle.formula.specs.Bounded.{got, chosen, function_at, bounded}
+use Rattle.formula.specs.Tree.{Tree}
+use Rattle.formula.specs.Worth.{Valuation, Function, functions_of, nothing_known, bound_to, used, worth, is_false_under, IsValid}
+
+-- the worth of a function's term for some arguments; a number without a function makes nothing
+abbrev pub term_worth : List Function → Option Function → List Value → Value
+term_worth fs None vs = Undefined
+term_worth fs (Some f) vs = worth fs (bound_to f.params vs) nothing_known (chosen f.body vs)
+
+-- a use of a definition is worth its term for the arguments, where uses in the term mean the same; the term of a
+-- counting definition is its base where the number of the first argument is at most 0, else its step
+abbrev pub UsesMeanTheirTerms : Type 0
+UsesMeanTheirTerms =
+    (pool : List Node) (ds : List Definition) → AreAdded pool ds → (k : ℕ) (vs : List Value) → used (functions_of pool ds) k vs ≡ term_worth (functions_of pool ds) (function_at (functions_of pool ds) k) vs
+
+-- a value that an evaluation with turns gives is the worth
+abbrev pub BoundedWorthIsWorth : Type 0
+BoundedWorthIsWorth =
+    (pool : List Node) (ds : List Definition) → AreAdded pool ds → (symbols entries : Valuation) (t : Tree) (n m : ℕ) (v : Value) → bounded (functions_of pool ds) symbols entries t n ≡ got v m
+    → worth (functions_of pool ds) symbols entries t ≡ v
+
+-- a condition that no assignment makes false is false for no values of symbols at all
+abbrev pub AssignmentsSuffice : Type 0
+AssignmentsSuffice =
+    (fs : List Function) (hyps : List Tree) (goal : Tree) → IsValid fs hyps goal → (symbols : Valuation) → IsTrue (not (is_false_under fs symbols nothing_known hyps goal))
