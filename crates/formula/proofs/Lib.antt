@@ -16,5 +16,6 @@ pub mod Same
 pub mod SpelledRead
 pub mod TokenSteps
 pub mod Turns
+pub mod UseDepths
 pub mod UsedFunctions
 pub mod UsesAgree

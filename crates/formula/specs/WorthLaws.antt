@@ -1,11 +1,11 @@
 -- The laws of worth.
-use Rattle.std.specs.Prelude.{ℕ, ◌≡◌, not, List, Option, Some, None, IsTrue}
+use Rattle.std.specs.Prelude.{ℕ, ◌≡◌, ◌≤◌, not, List, Option, Some, None, IsTrue}
 use Rattle.formula.specs.declared.definition.Definition.{Definition}
 use Rattle.formula.specs.declared.node.Node.{Node}
 use Rattle.formula.specs.declared.value.Value.{Value}
 use Rattle.formula.specs.declared.value.Value.TheVariants.{Undefined}
 use Rattle.formula.specs.Adding.{AreAdded}
-use Rattle.formula.specs.Bounded.{got, chosen, function_at, bounded}
+use Rattle.formula.specs.Bounded.{got, bounded_by, chosen, function_at, calls_within, bounded}
 use Rattle.formula.specs.Tree.{Tree}
 use Rattle.formula.specs.Worth.{Valuation, Function, functions_of, nothing_known, bound_to, used, worth, is_false_under, IsValid}
 
@@ -30,3 +30,8 @@ BoundedWorthIsWorth =
 abbrev pub AssignmentsSuffice : Type 0
 AssignmentsSuffice =
     (fs : List Function) (hyps : List Tree) (goal : Tree) → IsValid fs hyps goal → (symbols : Valuation) → IsTrue (not (is_false_under fs symbols nothing_known hyps goal))
+
+-- only the turns decide: how deep uses may stand one in another changes nothing where it is not less than the turns
+abbrev pub TurnsAloneDecide : Type 0
+TurnsAloneDecide =
+    (fs : List Function) (symbols entries : Valuation) (t : Tree) (n depth : ℕ) → n ≤ depth → bounded_by (calls_within fs depth) symbols entries t n ≡ bounded fs symbols entries t n

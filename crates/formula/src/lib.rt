@@ -44,4 +44,6 @@ pub use substitution::{Binding, substitute};
 pub use tokens::{Placed, Token, next_token};
 pub use value::{Cell, Value};
 pub use word::Word;
-pub use worth_laws::{assignments_suffice, bounded_worth_is_worth, uses_mean_their_terms};
+pub use worth_laws::{
+    assignments_suffice, bounded_worth_is_worth, turns_alone_decide, uses_mean_their_terms,
+};
