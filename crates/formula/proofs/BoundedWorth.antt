@@ -9,8 +9,8 @@ use Rattle.formula.specs.Bounded.{Outcome, got, beyond, spent, and_then, is_in_r
 use Rattle.formula.specs.Tree.{Tree, num, truth, symbol, old, apply, Row, none, more}
 use Rattle.formula.specs.Values.{holds, applied}
 use Rattle.formula.specs.Worth.{Uses, Valuation, Function, function_worth, worth_by, worths_by, bound_to, nothing_known, functions_of, used}
-use Rattle.formula.specs.WorthLaws.{term_worth, BoundedWorthIsWorth}
-use Rattle.formula.proofs.UsedFunctions.{uses_mean_their_terms}
+use Rattle.formula.specs.WorthLaws.{term_worth, IsMeaning, BoundedWorthIsWorth}
+use Rattle.formula.proofs.UsedFunctions.{functions_sound, uses_mean}
 
 -- ---- outcomes that are values
 
@@ -73,9 +73,9 @@ module _ (calls : Calls) (uses : Uses) (right : (k : ℕ) (vs : List Value) (n m
 
 -- ---- uses of functions
 
-module _ (fs : List Function) (mean : (k : ℕ) (vs : List Value) → used fs k vs ≡ term_worth fs (function_at fs k) vs) where
+module _ (fs : List Function) (mean : IsMeaning fs (used fs)) where
   body_right : (calls : Calls) (found : Option Function) (vs : List Value) (n m : ℕ) (v : Value) → ((k : ℕ) (ws : List Value) (i j : ℕ) (w : Value) → calls k ws i ≡ got w j → used fs k ws ≡ w)
-      → body_bounded calls found vs n ≡ got v m → term_worth fs found vs ≡ v
+      → body_bounded calls found vs n ≡ got v m → term_worth (used fs) found vs ≡ v
   body_right calls None vs n m v right e = cc
   body_right calls (Some f) vs n m v right e = term_right calls (used fs) right (bound_to f.params vs) nothing_known (chosen f.body vs) n m v e
 
@@ -87,4 +87,4 @@ module _ (fs : List Function) (mean : (k : ℕ) (vs : List Value) → used fs k 
 pub bounded_worth_is_worth : BoundedWorthIsWorth
 bounded_worth_is_worth pool ds h symbols entries t n m v e =
     let fs = functions_of pool ds in
-    term_right (calls_within fs n) (used fs) (calls_right fs (uses_mean_their_terms pool ds h) n) symbols entries t n m v e
+    term_right (calls_within fs n) (used fs) (calls_right fs (uses_mean fs (functions_sound pool ds h)) n) symbols entries t n m v e

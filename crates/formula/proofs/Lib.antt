@@ -7,6 +7,7 @@ pub mod Lookup
 pub mod Marks
 pub mod Names
 pub mod OneIdEach
+pub mod OneMeaning
 pub mod OnSheet
 pub mod OwnBody
 pub mod Padded

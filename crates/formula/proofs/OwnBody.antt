@@ -26,12 +26,12 @@ at_other k j called uses vs e = ap (λ (t : Bool). if t then called vs else uses
 
 -- ---- counting down by one
 
-not_positive : (z : ℤ) → count z ≡ 0 → int_le z (pos 0) ≡ true
+pub not_positive : (z : ℤ) → count z ≡ 0 → int_le z (pos 0) ≡ true
 not_positive (pos zero) e = refl
 not_positive (pos (suc n)) e = absurd (cc)
 not_positive (negsuc n) e = refl
 
-positive : (z : ℤ) (n : ℕ) → count z ≡ suc n → int_le z (pos 0) ≡ false
+pub positive : (z : ℤ) (n : ℕ) → count z ≡ suc n → int_le z (pos 0) ≡ false
 positive (pos zero) n e = absurd (cc)
 positive (pos (suc m)) n e = grind (arith, nat_tests)
 positive (negsuc m) n e = absurd (cc)
@@ -56,7 +56,7 @@ module _ (uses : Uses) (p : List ℕ) (ps : List (List ℕ)) (v : Value) (vs : L
   less_by_one _ h = absurd (true≢false (sym h))
 
 -- a use that counts down has one less left
-left_to_count : (uses : Uses) (params : List (List ℕ)) (vs : List Value) (row : Row) (n : ℕ) → first_is_one_less params row ≡ true → count (num (first_of vs)) ≡ suc n
+pub left_to_count : (uses : Uses) (params : List (List ℕ)) (vs : List Value) (row : Row) (n : ℕ) → first_is_one_less params row ≡ true → count (num (first_of vs)) ≡ suc n
     → count (num (first_of (worths_by uses (bound_to params vs) nothing_known row))) ≡ n
 left_to_count uses (p ∷ ps) (v ∷ vs) (more t rest) n h e = ap count (less_by_one uses p ps v vs t h) ∙ one_left (num v) n e
 left_to_count uses (p ∷ ps) [] (more t rest) n h e = absurd (cc)

@@ -6,21 +6,21 @@ use Rattle.formula.specs.declared.definition.Definition.{Definition}
 use Rattle.formula.specs.declared.node.Node.{Node}
 use Rattle.formula.specs.declared.value.Value.{Value}
 use Rattle.formula.specs.declared.value.Value.TheVariants.{Undefined}
-use Rattle.formula.specs.Adding.{uses_pass, body_passes, is_known_use, is_known_name, is_right_count, recurs_well, adding_fault, AreAddedTo}
+use Rattle.formula.specs.Adding.{uses_pass, body_passes, is_known_use, is_known_name, is_right_count, recurs_well, adding_fault, AreAddedTo, AreAdded}
 use Rattle.formula.specs.Bounded.{chosen, function_at}
 use Rattle.formula.specs.Tree.{Tree}
 use Rattle.formula.specs.Worth.{Uses, FunctionBody, plain, counting, Function, body_of, functions_of, worth_by, worths_by, bound_to, nothing_known, with_use, body_worth, used_from, used}
-use Rattle.formula.specs.WorthLaws.{term_worth, UsesMeanTheirTerms}
+use Rattle.formula.specs.WorthLaws.{term_worth, IsMeaning}
 use Rattle.formula.proofs.UsesAgree.{uses_agree}
 use Rattle.formula.proofs.OwnBody.{at_own, at_other, own_worth}
 
 -- a function of number k uses earlier ones, and itself as it should
-record IsSound (k : ℕ) (f : Function) : Type 0 where
-  known : body_passes (uses_pass (is_known_use k)) f.body ≡ true
-  recurs : recurs_well k f.params f.body ≡ true
+pub record IsSound (k : ℕ) (f : Function) : Type 0 where
+  pub known : body_passes (uses_pass (is_known_use k)) f.body ≡ true
+  pub recurs : recurs_well k f.params f.body ≡ true
 
 -- the first of these functions has the number k
-abbrev AreSound : ℕ → List Function → Type 0
+abbrev pub AreSound : ℕ → List Function → Type 0
 AreSound k [] = Unit {0}
 AreSound k (f ∷ rest) = IsSound k f × AreSound (suc k) rest
 
@@ -79,26 +79,29 @@ first_used k uses f rest vs s =
     (λ j row h. sym (before (suc k) own rest j (worths_by own (bound_to f.params vs) nothing_known row) (grind (arith, nat_tests, second_so (nat_lt 0 j) (nat_le j k) h))))
     (chosen f.body vs) (chosen_passes (uses_pass (is_known_use k)) f.body vs s.known)
 
--- the worth of a function's term, where uses are these
-abbrev term_worth_by : Uses → Option Function → List Value → Value
-term_worth_by uses None vs = Undefined
-term_worth_by uses (Some f) vs = worth_by uses (bound_to f.params vs) nothing_known (chosen f.body vs)
-
 from_first : (k : ℕ) (uses : Uses) (fs : List Function) (i j : ℕ) (vs : List Value) → ((n : ℕ) → k ≤ n → uses n vs ≡ Undefined) → AreSound k fs → j ≡ k + i
-    → used_from k uses fs j vs ≡ term_worth_by (used_from k uses fs) (slice_get fs i) vs
+    → used_from k uses fs j vs ≡ term_worth (used_from k uses fs) (slice_get fs i) vs
 from_first k uses [] i j vs none s e = none j (omega arith)
 from_first k uses (f ∷ rest) zero j vs none s e = subst (λ n. used_from k uses (f ∷ rest) n vs ≡ worth_by (used_from k uses (f ∷ rest)) (bound_to f.params vs) nothing_known (chosen f.body vs)) (omega arith) (first_used k uses f rest vs s.0)
 from_first k uses (f ∷ rest) (suc i) j vs none s e =
     let called = body_worth uses k f.params f.body in
     from_first (suc k) (with_use k called uses) rest i j vs (λ n h. at_other k n called uses vs (grind (arith, nat_tests)) ∙ none n (omega arith)) s.1 (omega arith)
 
-uses_mean : (fs : List Function) (k : ℕ) (vs : List Value) → AreSound 1 fs → used fs k vs ≡ term_worth fs (function_at fs k) vs
-uses_mean fs zero vs s = before 1 (λ k vs. Undefined) fs zero vs (omega arith)
-uses_mean fs (suc k) vs s = one (slice_get fs k) (from_first 1 (λ k vs. Undefined) fs k (suc k) vs (λ n h. refl) s (omega arith))
-  where
-    one : (found : Option Function) → used fs (suc k) vs ≡ term_worth_by (used fs) found vs → used fs (suc k) vs ≡ term_worth fs found vs
-    one None e = e
-    one (Some f) e = e
+pub uses_mean : (fs : List Function) → AreSound 1 fs → IsMeaning fs (used fs)
+uses_mean fs s zero vs = before 1 (λ k vs. Undefined) fs zero vs (omega arith)
+uses_mean fs s (suc k) vs = from_first 1 (λ k vs. Undefined) fs k (suc k) vs (λ n h. refl) s (omega arith)
 
-pub uses_mean_their_terms : UsesMeanTheirTerms
-uses_mean_their_terms pool ds h k vs = uses_mean (functions_of pool ds) k vs (all_sound pool [] ds 1 refl h)
+sound_from : (k : ℕ) (fs : List Function) (i j : ℕ) (f : Function) → AreSound k fs → j ≡ k + i → slice_get fs i ≡ Some f → IsSound j f
+sound_from k [] i j f s e got = absurd (cc)
+sound_from k (g ∷ rest) zero j f s e got =
+    let this : g ≡ f = cc in
+    let number : k ≡ j = omega arith in
+    subst (IsSound j) this (subst (λ n. IsSound n g) number s.0)
+sound_from k (g ∷ rest) (suc i) j f s e got = sound_from (suc k) rest i j f s.1 (omega arith) got
+
+pub sound_at : (fs : List Function) (k : ℕ) (f : Function) → AreSound 1 fs → function_at fs k ≡ Some f → IsSound k f
+sound_at fs zero f s got = absurd (cc)
+sound_at fs (suc k) f s got = sound_from 1 fs k (suc k) f s (omega arith) got
+
+pub functions_sound : (pool : List Node) (ds : List Definition) → AreAdded pool ds → AreSound 1 (functions_of pool ds)
+functions_sound pool ds h = all_sound pool [] ds 1 refl h

@@ -7,18 +7,24 @@ use Rattle.formula.specs.declared.value.Value.TheVariants.{Undefined}
 use Rattle.formula.specs.Adding.{AreAdded}
 use Rattle.formula.specs.Bounded.{got, bounded_by, chosen, function_at, calls_within, bounded}
 use Rattle.formula.specs.Tree.{Tree}
-use Rattle.formula.specs.Worth.{Valuation, Function, functions_of, nothing_known, bound_to, used, worth, is_false_under, IsValid}
+use Rattle.formula.specs.Worth.{Uses, Valuation, Function, worth_by, functions_of, nothing_known, bound_to, used, worth, is_false_under, IsValid}
 
 -- the worth of a function's term for some arguments; a number without a function makes nothing
-abbrev pub term_worth : List Function → Option Function → List Value → Value
-term_worth fs None vs = Undefined
-term_worth fs (Some f) vs = worth fs (bound_to f.params vs) nothing_known (chosen f.body vs)
+abbrev pub term_worth : Uses → Option Function → List Value → Value
+term_worth uses None vs = Undefined
+term_worth uses (Some f) vs = worth_by uses (bound_to f.params vs) nothing_known (chosen f.body vs)
 
--- a use of a definition is worth its term for the arguments, where uses in the term mean the same; the term of a
--- counting definition is its base where the number of the first argument is at most 0, else its step
+-- each use is worth its term for the arguments, where uses in the term mean the same; the term of a counting
+-- definition is its base where the number of the first argument is at most 0, else its step
+abbrev pub IsMeaning : List Function → Uses → Type 0
+IsMeaning fs uses = (k : ℕ) (vs : List Value) → uses k vs ≡ term_worth uses (function_at fs k) vs
+
+-- uses of definitions mean their terms, and nothing else does
 abbrev pub UsesMeanTheirTerms : Type 0
 UsesMeanTheirTerms =
-    (pool : List Node) (ds : List Definition) → AreAdded pool ds → (k : ℕ) (vs : List Value) → used (functions_of pool ds) k vs ≡ term_worth (functions_of pool ds) (function_at (functions_of pool ds) k) vs
+    (pool : List Node) (ds : List Definition) → AreAdded pool ds
+    → IsMeaning (functions_of pool ds) (used (functions_of pool ds))
+    × ((other : Uses) → IsMeaning (functions_of pool ds) other → (k : ℕ) (vs : List Value) → other k vs ≡ used (functions_of pool ds) k vs)
 
 -- a value that an evaluation with turns gives is the worth
 abbrev pub BoundedWorthIsWorth : Type 0

@@ -3,7 +3,7 @@ ghost use Rattle.formula.specs.WorthLaws.{AssignmentsSuffice, BoundedWorthIsWort
 
 /// A use of a definition is worth its term for the arguments: a plain definition's own term, or of
 /// a counting one the base where the number of the first argument is at most 0, else the step. All
-/// uses in that term mean the same again. It does nothing.
+/// uses in that term mean the same again, and only one meaning of all uses is so. It does nothing.
 pub fn uses_mean_their_terms()
     ensures { UsesMeanTheirTerms }
 {}

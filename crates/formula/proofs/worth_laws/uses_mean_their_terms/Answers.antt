@@ -1,4 +1,4 @@
-use Rattle.formula.proofs.UsedFunctions.{uses_mean_their_terms}
+use Rattle.formula.proofs.OneMeaning.{uses_mean_their_terms}
 use Rattle.formula.proofs.worth_laws.uses_mean_their_terms.Goals as goal
 
 pub returns : goal.returns
