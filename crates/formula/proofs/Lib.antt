@@ -2,6 +2,7 @@ pub mod Added
 pub mod Applied
 pub mod Assigned
 pub mod Bodies
+pub mod BoundedWorth
 pub mod Combined
 pub mod Depth
 pub mod Digits
@@ -13,8 +14,11 @@ pub mod Images
 pub mod Lookup
 pub mod Marks
 pub mod Names
+pub mod OnSheet
 pub mod OneIdEach
+pub mod OneMeaning
 pub mod OtherLengths
+pub mod OwnBody
 pub mod Padded
 pub mod Passes
 pub mod Putting
@@ -27,3 +31,6 @@ pub mod Steps
 pub mod SymbolValues
 pub mod TokenSteps
 pub mod Turns
+pub mod UseDepths
+pub mod UsedFunctions
+pub mod UsesAgree

@@ -19,3 +19,4 @@ pub mod Tree
 pub mod Values
 pub mod Word
 pub mod Worth
+pub mod WorthLaws

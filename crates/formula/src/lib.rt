@@ -46,6 +46,7 @@ mod value;
 #[cfg(test)]
 mod value_tests;
 mod word;
+mod worth_laws;
 
 pub use atoms::{
     is_digit, is_digits, is_function_name, is_letter, is_long, is_number, is_same, is_symbol,
@@ -71,3 +72,6 @@ pub use substitution_law::substitution_is_assignment;
 pub use tokens::{Placed, Token, next_token};
 pub use value::{Cell, Value};
 pub use word::Word;
+pub use worth_laws::{
+    assignments_suffice, bounded_worth_is_worth, turns_alone_decide, uses_mean_their_terms,
+};
