@@ -77,23 +77,23 @@ module _ (pool : List Node) (ds : List Definition) (sheet : List (Word × Value)
   pub does-apply : (m' : Machine) (id : TermId) (f : Func) (args : List TermId) → tree_of pool id ≡ apply f (row_in (trees pool) args) → is_branch f (row_in (trees pool) args) ≡ false
       → AllBelow (length pool) args → IsWhole pool m → m' ≡ record m { tasks = map Eval args ++ Combine f (length args) ∷ m.tasks } → Does pool ds sheet (Eval id) m m'
   does-apply m' id f args e b below w same = subst (Does pool ds sheet (Eval id) m) (sym same) (
-    let row = row_in (trees pool) args in
-    let c = row_count-row_in (trees pool) args in
-    let jobs : jobs_of pool ds sheet m.made (map Eval args ++ Combine f (length args) ∷ m.tasks) ≡ evals row ++ combine f (row_count row) ∷ js =
-    jobs_of-evals pool ds sheet m.made args (Combine f (length args) ∷ m.tasks) ∙ ap (λ k. evals row ++ combine f k ∷ js) (sym c) in
-    record {
-      same =
-          ap (λ l. finish (calls_of (functions_of pool ds)) s l vs m.turns) jobs
-          ∙ finish-apply (calls_of (functions_of pool ds)) s f row js vs m.turns b
-          ∙ ap (λ t. finish (calls_of (functions_of pool ds)) s (eval t ∷ js) vs m.turns) (sym e);
-      smaller =
-          let a : cost (jobs_of pool ds sheet m.made (map Eval args ++ Combine f (length args) ∷ m.tasks)) ≡ cost (evals row) + (1 + cost js) =
-          ap cost jobs ∙ cost-append (evals row) (combine f (row_count row) ∷ js) in
-          let r = cost-evals row in
-          let t : size (tree_of pool id) ≡ row_size row + 3 = ap size e in
-          omega arith;
-      whole = record { scope = w.scope; tasks = AreTasks-evals pool (length m.made) args (Combine f (length args) ∷ m.tasks) below (tt, w.tasks); values = w.values };
-    })
+      let row = row_in (trees pool) args in
+      let c = row_count-row_in (trees pool) args in
+      let jobs : jobs_of pool ds sheet m.made (map Eval args ++ Combine f (length args) ∷ m.tasks) ≡ evals row ++ combine f (row_count row) ∷ js =
+      jobs_of-evals pool ds sheet m.made args (Combine f (length args) ∷ m.tasks) ∙ ap (λ k. evals row ++ combine f k ∷ js) (sym c) in
+      record {
+        same =
+            ap (λ l. finish (calls_of (functions_of pool ds)) s l vs m.turns) jobs
+            ∙ finish-apply (calls_of (functions_of pool ds)) s f row js vs m.turns b
+            ∙ ap (λ t. finish (calls_of (functions_of pool ds)) s (eval t ∷ js) vs m.turns) (sym e);
+        smaller =
+            let a : cost (jobs_of pool ds sheet m.made (map Eval args ++ Combine f (length args) ∷ m.tasks)) ≡ cost (evals row) + (1 + cost js) =
+            ap cost jobs ∙ cost-append (evals row) (combine f (row_count row) ∷ js) in
+            let r = cost-evals row in
+            let t : size (tree_of pool id) ≡ row_size row + 3 = ap size e in
+            omega arith;
+        whole = record { scope = w.scope; tasks = AreTasks-evals pool (length m.made) args (Combine f (length args) ∷ m.tasks) below (tt, w.tasks); values = w.values };
+      })
 
   -- a condition comes before its branches
   pub does-branching : (m' : Machine) (id c a b : TermId) → tree_of pool id ≡ apply (BuiltIn If) (row_in (trees pool) (c ∷ a ∷ b ∷ [])) → AllBelow (length pool) (c ∷ a ∷ b ∷ [])
@@ -121,7 +121,7 @@ module _ (pool : List Node) (ds : List Definition) (sheet : List (Word × Value)
           let test : holds (first_of (newest 1 vs)) ≡ t = ap (λ l. holds (first_of l)) (sym (values_of-newest sheet m.made 1 m.values)) ∙ was in
           let there : id ≡ (if t then a else b) = e ∙ ap (λ u. if u then a else b) was in
           let worths : bounded_by calls s nothing_known (tree_of pool id) m.turns
-            ≡ (if t then bounded_by calls s nothing_known (tree_of pool a) m.turns else bounded_by calls s nothing_known (tree_of pool b) m.turns) = which t there in
+          ≡ (if t then bounded_by calls s nothing_known (tree_of pool a) m.turns else bounded_by calls s nothing_known (tree_of pool b) m.turns) = which t there in
           record {
             same =
                 ap (λ l. and_then (bounded_by calls s nothing_known (tree_of pool id) m.turns) (λ v n. finish calls s js (l ++ v ∷ []) n)) (values_of-all_but sheet m.made 1 m.values)
@@ -172,25 +172,25 @@ module _ (pool : List Node) (ds : List Definition) (sheet : List (Word × Value)
   pub does-Making : (m' : Machine) (f : Builtin) (c : ℕ) (cs : List Cell) → ranged (applied f (values_here c)) m.turns ≡ got (Cells cs) m.turns → IsWhole pool m
       → m' ≡ record m { values = all_but c m.values ++ held.Made (length m.made) ∷ []; made = m.made ++ cs ∷ [] } → Does pool ds sheet (Combine (BuiltIn f) c) m m'
   does-Making m' f c cs e w same = subst (Does pool ds sheet (Combine (BuiltIn f) c) m) (sym same) (
-    let calls = calls_of (functions_of pool ds) in
-    let made = m.made ++ cs ∷ [] in
-    let long : length made ≡ length m.made + 1 = simp length-append (omega arith) in
-    let rest : AreHeld (length m.made) (all_but c m.values) = AreHeld-take (length m.made) _ m.values w.values in
-    let jobs : jobs_of pool ds sheet made m.tasks ≡ js = jobs_of-append sheet m.made (cs ∷ []) ds pool m.tasks w.tasks in
-    let values : values_of sheet made (all_but c m.values ++ held.Made (length m.made) ∷ []) ≡ all_but c vs ++ Cells cs ∷ [] =
-    values_of-put sheet made (all_but c m.values) (held.Made (length m.made))
-    ∙ (λ i. (values_of-append sheet m.made (cs ∷ []) (all_but c m.values) rest ∙ values_of-all_but sheet m.made c m.values) i ++ value_of-made sheet m.made cs i ∷ []) in
-    record {
-      same =
-          (λ i. finish calls (symbols_of-append sheet m.made (cs ∷ []) ds m.scope w.scope i) (jobs i) (values i) m.turns)
-          ∙ sym (combined (BuiltIn f) c _ e);
-      smaller = let z : cost (jobs_of pool ds sheet made m.tasks) ≡ cost js = ap cost jobs in omega arith;
-      whole = record {
-        scope = IsScope-more (length m.made) (length made) m.scope (omega arith) w.scope;
-        tasks = AreTasks-more pool (length m.made) (length made) m.tasks (omega arith) w.tasks;
-        values = AreHeld-append (length made) (all_but c m.values) (held.Made (length m.made) ∷ []) (AreHeld-more (length m.made) (length made) (all_but c m.values) (omega arith) rest) (omega arith, tt);
-      };
-    })
+      let calls = calls_of (functions_of pool ds) in
+      let made = m.made ++ cs ∷ [] in
+      let long : length made ≡ length m.made + 1 = simp length-append (omega arith) in
+      let rest : AreHeld (length m.made) (all_but c m.values) = AreHeld-take (length m.made) _ m.values w.values in
+      let jobs : jobs_of pool ds sheet made m.tasks ≡ js = jobs_of-append sheet m.made (cs ∷ []) ds pool m.tasks w.tasks in
+      let values : values_of sheet made (all_but c m.values ++ held.Made (length m.made) ∷ []) ≡ all_but c vs ++ Cells cs ∷ [] =
+      values_of-put sheet made (all_but c m.values) (held.Made (length m.made))
+      ∙ (λ i. (values_of-append sheet m.made (cs ∷ []) (all_but c m.values) rest ∙ values_of-all_but sheet m.made c m.values) i ++ value_of-made sheet m.made cs i ∷ []) in
+      record {
+        same =
+            (λ i. finish calls (symbols_of-append sheet m.made (cs ∷ []) ds m.scope w.scope i) (jobs i) (values i) m.turns)
+            ∙ sym (combined (BuiltIn f) c _ e);
+        smaller = let z : cost (jobs_of pool ds sheet made m.tasks) ≡ cost js = ap cost jobs in omega arith;
+        whole = record {
+          scope = IsScope-more (length m.made) (length made) m.scope (omega arith) w.scope;
+          tasks = AreTasks-more pool (length m.made) (length made) m.tasks (omega arith) w.tasks;
+          values = AreHeld-append (length made) (all_but c m.values) (held.Made (length m.made) ∷ []) (AreHeld-more (length m.made) (length made) (all_but c m.values) (omega arith) rest) (omega arith, tt);
+        };
+      })
 
   -- ---- uses of definitions
 
@@ -220,20 +220,20 @@ module _ (pool : List Node) (ds : List Definition) (sheet : List (Word × Value)
       → m' ≡ record m { scope = Arguments k (newest c m.values); turns = j; tasks = Eval id ∷ Leave m.scope ∷ m.tasks; values = all_but c m.values }
       → Does pool ds sheet (Combine (Defined k) c) m m'
   does-Use m' k c j id f e at params tree small within w same = subst (Does pool ds sheet (Combine (Defined k) c) m) (sym same) (
-    let calls = calls_of (functions_of pool ds) in
-    record {
-      same =
-          (λ i. and_then (bounded_by calls (bound_to (params i) (values_here c)) nothing_known (tree i) j) (λ v n. finish calls s js (values_of-all_but sheet m.made c m.values i ++ v ∷ []) n))
-          ∙ sym (combined (Defined k) c _ (used k c j (Some f) e at));
-      smaller =
-          let t : m.turns * greatest (functions_of pool ds) ≡ suc j * greatest (functions_of pool ds) = ap (λ n. n * greatest (functions_of pool ds)) e in
-          omega arith;
-      whole = record {
-        scope = AreHeld-drop (length m.made) _ m.values w.values;
-        tasks = (within, (w.scope, w.tasks));
-        values = AreHeld-take (length m.made) _ m.values w.values;
-      };
-    })
+      let calls = calls_of (functions_of pool ds) in
+      record {
+        same =
+            (λ i. and_then (bounded_by calls (bound_to (params i) (values_here c)) nothing_known (tree i) j) (λ v n. finish calls s js (values_of-all_but sheet m.made c m.values i ++ v ∷ []) n))
+            ∙ sym (combined (Defined k) c _ (used k c j (Some f) e at));
+        smaller =
+            let t : m.turns * greatest (functions_of pool ds) ≡ suc j * greatest (functions_of pool ds) = ap (λ n. n * greatest (functions_of pool ds)) e in
+            omega arith;
+        whole = record {
+          scope = AreHeld-drop (length m.made) _ m.values w.values;
+          tasks = (within, (w.scope, w.tasks));
+          values = AreHeld-take (length m.made) _ m.values w.values;
+        };
+      })
 
   -- ---- the end
 

@@ -1,10 +1,10 @@
 // The worth of a term, by a list of the work still to do.
 ghost use Rattle.std.specs.Prelude.{◌≡◌, ◌≢◌, ℕ, ◌∷◌, if◌then◌else◌, length, IfOk, OnOk, Err};
-ghost use Rattle.formula.specs.Adding.{AreBodiesIn};
+ghost use Rattle.formula.specs.Adding.{AreAdded, AreBodiesIn};
 ghost use Rattle.formula.specs.Bounded.{bounded, got, beyond, spent};
 ghost use Rattle.formula.specs.Machine.{IsTask, IsWhole, Does, meaning_with, held_holds, first_held, newest, all_but};
 ghost use Rattle.formula.specs.Pool.{IsIn, tree_of};
-ghost use Rattle.formula.specs.Worth.{functions_of, assigned, nothing_known};
+ghost use Rattle.formula.specs.Worth.{functions_of, assigned, nothing_known, worth as the_worth};
 ghost use Rattle.formula.specs.declared.machine.Task.TheVariants as task;
 
 use crate::combining::{combine_newest, put_ranged};
@@ -22,7 +22,8 @@ use std::alloc::Global;
 /// undefined. Arguments are evaluated from the left, of IF only the branch that is needed, and
 /// each use of a definition takes one turn, after its arguments and before its body. `Beyond` is
 /// the answer where the number of a subterm is out of range before a use is made without a turn
-/// left, which is `Spent`.
+/// left, which is `Spent`. With definitions that were added one after another, a value that is
+/// found is the worth.
 pub fn worth(
     alloc: Global,
     pool: &TermPool,
@@ -34,6 +35,7 @@ pub fn worth(
     requires id { IsIn pool.now id }
     requires bodies { AreBodiesIn pool.now definitions.now }
     ensures value { IfOk result (λ v. (m : ℕ) × (bounded (functions_of pool.now definitions.now) (assigned sheet.now) nothing_known (tree_of pool.now id) turns ≡ got v m)) }
+    ensures is_worth { IfOk result (λ v. AreAdded pool.now definitions.now → the_worth (functions_of pool.now definitions.now) (assigned sheet.now) nothing_known (tree_of pool.now id) ≡ v) }
     ensures beyond { result ≡ Err Worth.Beyond → bounded (functions_of pool.now definitions.now) (assigned sheet.now) nothing_known (tree_of pool.now id) turns ≡ beyond }
     ensures spent { result ≡ Err Worth.Spent → bounded (functions_of pool.now definitions.now) (assigned sheet.now) nothing_known (tree_of pool.now id) turns ≡ spent }
 {

@@ -1,6 +1,9 @@
 use Rattle.std.proofs.Common.{◌≡◌, [], ◌∷◌, ap, ◌∙◌, sym}
 use Rattle.formula.specs.declared.machine.Task.TheVariants.{Eval}
 use Rattle.formula.specs.Machine.{value_of, first_held, newest}
+use Rattle.formula.specs.Pool.{tree_of}
+use Rattle.formula.specs.Worth.{assigned, nothing_known}
+use Rattle.formula.proofs.BoundedWorth.{bounded_worth_is_worth}
 use Rattle.formula.proofs.Combined.{begun, begun_whole, ended_with}
 use Rattle.formula.proofs.evaluation.worth.Goals as goal
 
@@ -20,3 +23,10 @@ returns-clause-value c =
     let value : c.in_ok-value.value ≡ value_of sheet m.made (first_held (newest 1 m.values)) =
     c.in_ok-value.ensures ∙ (λ i. value_of (c.entries.ensures.entries i) (c.as_slice-2.ensures i) (last i)) in
     (m.turns, ended_with c.args.pool.now c.args.definitions.now sheet c.args.id c.args.turns m c.in_ok-value.value c.loop-task.invariant.same c.in_default.ensures.0 value)
+
+pub returns-clause-is_worth : goal.returns-clause-is_worth
+returns-clause-is_worth c =
+    λ added.
+    let found = returns-clause-value c in
+    bounded_worth_is_worth c.args.pool.now c.args.definitions.now added (assigned c.args.sheet.now) nothing_known (tree_of c.args.pool.now c.args.id) c.args.turns (found.0)
+    c.in_ok-value.value (found.1)
