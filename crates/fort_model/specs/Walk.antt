@@ -44,11 +44,12 @@ module _ {V : Type 0} (w : Sight V) where
 
   -- ---- the start
 
-  -- what names stand for at the entry: a dummy and a COMMON entity for the symbol of its entry value, where it is one
-  -- cell or an array alike; any other name for new cells
+  -- the symbol of a name's entry value
   abbrev pub entry_symbol : Named V
   entry_symbol x = w.sense.named (AtEntry x)
 
+  -- what names stand for at the entry: dummies and COMMON entities for the symbols of their entry values, the other data
+  -- names for new cells
   abbrev pub at_entry : Named V
   at_entry x = cond (has_role is_own (data_name w.unit x)) (blank w.sense w.unit entry_symbol x) (entry_symbol x)
 
