@@ -3,6 +3,7 @@ pub mod BothSenses
 pub mod BothWalks
 pub mod Exact
 pub mod Falling
+pub mod MatchedExpressions
 pub mod Matching
 pub mod Near
 pub mod PlaceBounds

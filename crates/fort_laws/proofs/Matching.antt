@@ -109,9 +109,19 @@ matches_see Q a b st q =
 abbrev pub Stays : {A B : Type 0} → Storage → A → B → Storage → Type 0
 Stays st a b after = after ≡ st
 
-pub matches_check : (kind : Kind) (card : ℕ) (v : Value) (b : Bool) (st : Storage) → holds v ≡ b → Matches (Stays st) (meet (Check kind card v ∷ [])) (check kind card b) st
+-- the storage stays, and things belong together
+abbrev pub Same : {A B : Type 0} → Storage → (A → B → Type 0) → A → B → Storage → Type 0
+Same st R a b after = (after ≡ st) × R a b
+
+-- what follows a part that leaves the storage as it is
+pub stays_then : {A B C D : Type 0} (R : A → B → Type 0) (P : C → D → Storage → Type 0) (part : See Value A) (act : Act B) (f : A → See Value C) (g : B → Act D) (st : Storage)
+    → Matches (Same st R) part act st → ((a : A) (b : B) → R a b → Matches P (f a) (g b) st) → Matches P (part >>= f) (followed act g) st
+stays_then R P part act f g st first next =
+    matches_then (Same st R) P part act f g st first (λ a b after q. subst (λ (s : Storage). Matches P (f a) (g b) s) (sym q.0) (next a b q.1))
+
+pub matches_check : (kind : Kind) (card : ℕ) (v : Value) (b : Bool) (st : Storage) → holds v ≡ b → Matches (Same st (λ x y. b ≡ true)) (meet (Check kind card v ∷ [])) (check kind card b) st
 matches_check kind card v true st h =
-    moves (λ answers. answers) tt tt st 0 (λ answers. (h, tt)) (λ answers. refl) (λ answers. refl) (none_used (check kind card true) st (λ n. Ended tt st n) (λ n. refl)) refl
+    moves (λ answers. answers) tt tt st 0 (λ answers. (h, tt)) (λ answers. refl) (λ answers. refl) (none_used (check kind card true) st (λ n. Ended tt st n) (λ n. refl)) (refl, refl)
 matches_check kind card v false st h =
     fails (λ answers. answers) kind card (λ answers. inr (h, refl, refl)) (errs st 0 (none_used (check kind card false) st (λ n. Erred kind card st) (λ n. refl)))
 

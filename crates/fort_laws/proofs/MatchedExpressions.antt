@@ -1,0 +1,60 @@
+-- Expressions: what a walk by values makes of them, and what a strict run makes of them where these values stand for cells.
+use Rattle.std.proofs.Common.{◌≡◌, ℕ, zero, suc, ◌+◌, ◌-◌, ◌<◌, ◌≤◌, Bool, true, false, cond, not, ◌&&◌, ◌||◌, ℤ, pos, negsuc, ◌+ℤ◌, ◌-ℤ◌, ◌*ℤ◌, List, [], ◌∷◌, ◌++◌, map, length, Option, Some, None, slice_get, refl, sym, ap, ◌∙◌, subst, arith}
+use Rattle.std.specs.Prelude.{int_le, int_lt, neg_ℤ, pred, nat_lt, slice_index_or}
+use Rattle.formula.specs.declared.function.BuiltIn.{BuiltIn as Builtin}
+use Rattle.formula.specs.declared.function.BuiltIn.TheVariants as f
+use Rattle.formula.specs.declared.value.Cell.{Cell}
+use Rattle.formula.specs.declared.value.Cell.TheVariants as cell
+use Rattle.formula.specs.declared.value.Value.{Value}
+use Rattle.formula.specs.declared.value.Value.TheVariants.{Int, Logical, Undefined, Cells as CellList}
+use Rattle.formula.specs.Values as value
+use Rattle.formula.specs.Values.{holds, of_cell, is_between, applied, cell_at, value_or_undefined}
+use Rattle.formula.specs.Worth.{Function}
+use Rattle.fort_syntax.specs.declared.name.Name.{Name}
+use Rattle.fort_syntax.specs.declared.condition.Kind.TheVariants.{DefinedCheck, RangeCheck, DivisorCheck, SubscriptCheck}
+use Rattle.fort_syntax.specs.declared.unit.Unit.{Unit as Routine}
+use Rattle.fort_model.specs.Cells.{num, is_defined}
+use Rattle.fort_model.specs.Conditions.{sight}
+use Rattle.fort_model.specs.Evaluate as run
+use Rattle.fort_model.specs.Evaluate.{Scene}
+use Rattle.fort_model.specs.Events.{Check, Take}
+use Rattle.fort_model.specs.Outcome.{Act, give, check, held}
+use Rattle.fort_model.specs.Processor.{Processor}
+use Rattle.fort_model.specs.Program.{Program}
+use Rattle.fort_model.specs.Seen.{Named, See, see, meet}
+use Rattle.fort_model.specs.Senses as sense
+use Rattle.fort_model.specs.Senses.{Sense, of_values}
+use Rattle.fort_model.specs.Storage.{Storage, Environment, load}
+use Rattle.fort_model.specs.Symbols.{Symbol, LeastInteger, GreatestInteger}
+use Rattle.fort_model.specs.WalkCalls.{Sight}
+use Rattle.fort_model.specs.WalkExpr as walk
+use Rattle.fort_laws.proofs.Matching.{Matches, Same, stays_then, matches_see, matches_check, followed}
+
+and_one : (b : Bool) → (b && true) ≡ b
+and_one true = refl
+and_one false = refl
+
+and_two : (b c : Bool) → (b && (c && true)) ≡ (b && c)
+and_two true c = and_one c
+and_two false c = refl
+
+-- a value is that of a cell
+abbrev pub IsOf : Value → Cell → Type 0
+IsOf v c = v ≡ of_cell c
+
+module _ (fs : List Function) (values : Symbol → Value) (program : Program) (i : ℕ) (u : Routine) (s : Scene)
+    (least : values LeastInteger ≡ Int s.processor.least) (greatest : values GreatestInteger ≡ Int s.processor.greatest) (st : Storage) where
+  abbrev w : Sight Value
+  w = sight (of_values fs values) program i u
+
+  -- the walk's test of a range is the run's
+  in_range_is : (v : Value) → holds (sense.in_range (of_values fs values) v) ≡ is_between s.processor.least s.processor.greatest (value.num v)
+  in_range_is v =
+      (λ k. (int_le (value.num (least k)) (value.num v) && (int_le (value.num v) (value.num (greatest k)) && true)))
+      ∙ and_two (int_le s.processor.least (value.num v)) (int_le (value.num v) s.processor.greatest)
+
+  matches_ranged : (card : ℕ) (v : Value) (z : ℤ) → v ≡ Int z → Matches (Same st IsOf) (walk.ranged w card v) (run.ranged s.processor card z) st
+  matches_ranged card v z e =
+      stays_then (λ x y. is_between s.processor.least s.processor.greatest z ≡ true) (Same st IsOf) _ _ _ _ st
+      (matches_check RangeCheck card _ _ st (in_range_is v ∙ ap (λ x. is_between s.processor.least s.processor.greatest (value.num x)) e))
+      (λ x y h. matches_see (Same st IsOf) v (cell.Int z) st (refl, e))
