@@ -28,7 +28,7 @@ use Rattle.fort_model.specs.Storage.{Storage, Environment, load}
 use Rattle.fort_model.specs.Symbols.{Symbol, LeastInteger, GreatestInteger}
 use Rattle.fort_model.specs.WalkCalls.{Sight}
 use Rattle.fort_model.specs.WalkExpr as walk
-use Rattle.fort_laws.proofs.Matching.{Matches, Same, stays_then, matches_see, matches_check, followed}
+use Rattle.fort_laws.proofs.Matching.{Matches, Same, stays_then, matches_see, matches_check, matches_as, followed}
 
 and_one : (b : Bool) → (b && true) ≡ b
 and_one true = refl
@@ -58,3 +58,25 @@ module _ (fs : List Function) (values : Symbol → Value) (program : Program) (i
       stays_then (λ x y. is_between s.processor.least s.processor.greatest z ≡ true) (Same st IsOf) _ _ _ _ st
       (matches_check RangeCheck card _ _ st (in_range_is v ∙ ap (λ x. is_between s.processor.least s.processor.greatest (value.num x)) e))
       (λ x y h. matches_see (Same st IsOf) v (cell.Int z) st (refl, e))
+
+  matches_constant : (card n : ℕ) → nat_lt program.bound n ≡ false → int_le (pos n) s.processor.greatest ≡ true → Matches (Same st IsOf) (walk.constant w card n) (run.constant s.processor card n) st
+  matches_constant card n small fits =
+      stays_then (λ x y. Unit {0}) (Same st IsOf) _ _ _ _ st
+      (subst (λ (b : Bool). Matches (Same st (λ x y. Unit {0})) (meet (cond b (Check RangeCheck card (sense.make2 (of_values fs values) f.AtMost (sense.natural (of_values fs values) n) (sense.greatest_integer (of_values fs values))) ∷ []) []))
+      (check RangeCheck card (int_le (pos n) s.processor.greatest)) st) (sym small)
+      (subst (λ (b : Bool). Matches (Same st (λ x y. Unit {0})) (meet []) (check RangeCheck card b) st) (sym fits) (matches_see (Same st (λ x y. Unit {0})) tt tt st (refl, tt))))
+      (λ x y h. matches_see (Same st IsOf) (Int (pos n)) (cell.Int (pos n)) st (refl, refl))
+
+  -- with a check where the constant is beyond the bound
+  matches_large : (card n : ℕ) → nat_lt program.bound n ≡ true → Matches (Same st IsOf) (walk.constant w card n) (run.constant s.processor card n) st
+  matches_large card n large =
+      stays_then (λ x y. int_le (pos n) s.processor.greatest ≡ true) (Same st IsOf) _ _ _ _ st
+      (subst (λ (b : Bool). Matches (Same st (λ x y. int_le (pos n) s.processor.greatest ≡ true)) (meet (cond b (Check RangeCheck card (sense.make2 (of_values fs values) f.AtMost (sense.natural (of_values fs values) n) (sense.greatest_integer (of_values fs values))) ∷ []) []))
+      (check RangeCheck card (int_le (pos n) s.processor.greatest)) st) (sym large)
+      (matches_check RangeCheck card _ _ st (ap (λ x. int_le (pos n) (value.num x)) greatest)))
+      (λ x y h. matches_see (Same st IsOf) (Int (pos n)) (cell.Int (pos n)) st (refl, refl))
+
+  matches_divisor : (card : ℕ) (v : Value) (c : Cell) → IsOf v c → Matches (Same st (λ x y. Unit {0})) (walk.divisor w card v) (run.divisor card c) st
+  matches_divisor card v c e =
+      matches_as (Same st (λ x y. not (value.same_value (of_cell c) (Int (pos 0))) ≡ true)) (Same st (λ x y. Unit {0})) _ _ st (λ x y after h. (h.0, tt))
+      (matches_check DivisorCheck card _ _ st (ap (λ x. not (value.same_value x (Int (pos 0)))) e))
