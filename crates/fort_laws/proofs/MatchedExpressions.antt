@@ -40,7 +40,7 @@ and_one : (b : Bool) → (b && true) ≡ b
 and_one true = refl
 and_one false = refl
 
-and_two : (b c : Bool) → (b && (c && true)) ≡ (b && c)
+pub and_two : (b c : Bool) → (b && (c && true)) ≡ (b && c)
 and_two true c = and_one c
 and_two false c = refl
 

@@ -6,7 +6,7 @@ use Rattle.formula.specs.Values.{holds}
 use Rattle.fort_syntax.specs.declared.condition.Kind.{Kind}
 use Rattle.fort_syntax.specs.declared.condition.Kind.TheVariants.{InputCheck}
 use Rattle.fort_model.specs.Events.{Event, Check, Take}
-use Rattle.fort_model.specs.Outcome.{Outcome, Ended, Erred, Running, and_then, Act, give, check, step}
+use Rattle.fort_model.specs.Outcome.{Outcome, Ended, Erred, Running, and_then, Act, give, check, step, held}
 use Rattle.fort_model.specs.Seen.{Answers, Seen, See, ◌>>=◌, ◌>>◌, see, meet}
 use Rattle.fort_model.specs.Storage.{Storage}
 
@@ -149,3 +149,9 @@ pub matches_as : {A B : Type 0} (Q P : A → B → Storage → Type 0) (part : S
     → Matches Q part act st → Matches P part act st
 matches_as Q P part act st imply (moves pre a b after cost t v r run q) = moves pre a b after cost t v r run (imply a b after q)
 matches_as Q P part act st imply (fails pre kind card f e) = fails pre kind card f e
+
+-- a part of a run that looks at the storage
+pub matches_held : {A B : Type 0} (Q : A → B → Storage → Type 0) (part : See Value A) (g : Storage → Act B) (st : Storage) → Matches Q part (g st) st → Matches Q part (followed held g) st
+matches_held Q part g st (moves pre a b after cost t v r run q) = moves pre a b after cost t v r run q
+matches_held Q part g st (fails pre kind card f (of_callee e)) = fails pre kind card f (of_callee e)
+matches_held Q part g st (fails pre kind card f (errs after cost h)) = fails pre kind card f (errs after cost h)

@@ -19,7 +19,7 @@ index_of (negsuc n) d h = search rules
 index_of (pos (suc n)) (negsuc k) h = search rules
 index_of (pos (suc n)) (pos k) h = record { before = n; size = k; subscript = refl; dimension = refl; less = search rules }
 
-one_less : (n : ℕ) → pos (suc n) -ℤ pos 1 ≡ pos n
+pub one_less : (n : ℕ) → pos (suc n) -ℤ pos 1 ≡ pos n
 one_less n = -ℤ_one (pos (suc n))
 
 -- the bounds that a step keeps
