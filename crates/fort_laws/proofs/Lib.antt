@@ -4,6 +4,7 @@ pub mod BothWalks
 pub mod Exact
 pub mod Falling
 pub mod MatchedExpressions
+pub mod MatchedOperands
 pub mod MatchedPlaces
 pub mod Matching
 pub mod Near

@@ -62,12 +62,12 @@ abbrev pub Of : Sort → Value → Cell → Type 0
 Of sort v c = IsOf v c × IsSort sort c
 
 -- an integer is the number of its cell
-integer_is : (v : Value) (c : Cell) → Of Integer v c → v ≡ Int (num c)
+pub integer_is : (v : Value) (c : Cell) → Of Integer v c → v ≡ Int (num c)
 integer_is v (cell.Int z) h = h.0
 integer_is v (cell.Logical b) h = absurd h.1
 integer_is v cell.Undefined h = absurd h.1
 
-logical_is : (v : Value) (c : Cell) → Of Logical v c → v ≡ Truth (run_holds c)
+pub logical_is : (v : Value) (c : Cell) → Of Logical v c → v ≡ Truth (run_holds c)
 logical_is v (cell.Int z) h = absurd h.1
 logical_is v (cell.Logical b) h = h.0
 logical_is v cell.Undefined h = absurd h.1
@@ -83,13 +83,13 @@ module _ (fs : List Function) (values : Symbol → Value) (program : Program) (i
       (λ k. (int_le (value.num (least k)) (value.num v) && (int_le (value.num v) (value.num (greatest k)) && true)))
       ∙ and_two (int_le s.processor.least (value.num v)) (int_le (value.num v) s.processor.greatest)
 
-  matches_ranged : (card : ℕ) (v : Value) (z : ℤ) → v ≡ Int z → Matches (Same st (Of Integer)) (walk.ranged w card v) (run.ranged s.processor card z) st
+  pub matches_ranged : (card : ℕ) (v : Value) (z : ℤ) → v ≡ Int z → Matches (Same st (Of Integer)) (walk.ranged w card v) (run.ranged s.processor card z) st
   matches_ranged card v z e =
       stays_then (λ x y. is_between s.processor.least s.processor.greatest z ≡ true) (Same st (Of Integer)) _ _ _ _ st
       (matches_check RangeCheck card _ _ st (in_range_is v ∙ ap (λ x. is_between s.processor.least s.processor.greatest (value.num x)) e))
       (λ x y h. matches_see (Same st (Of Integer)) v (cell.Int z) st (refl, (e, tt)))
 
-  matches_constant : (card n : ℕ) → nat_lt program.bound n ≡ false → int_le (pos n) s.processor.greatest ≡ true → Matches (Same st (Of Integer)) (walk.constant w card n) (run.constant s.processor card n) st
+  pub matches_constant : (card n : ℕ) → nat_lt program.bound n ≡ false → int_le (pos n) s.processor.greatest ≡ true → Matches (Same st (Of Integer)) (walk.constant w card n) (run.constant s.processor card n) st
   matches_constant card n small fits =
       stays_then (λ x y. Unit {0}) (Same st (Of Integer)) _ _ _ _ st
       (subst (λ (b : Bool). Matches (Same st (λ x y. Unit {0})) (meet (cond b (Check RangeCheck card (sense.make2 (of_values fs values) f.AtMost (sense.natural (of_values fs values) n) (sense.greatest_integer (of_values fs values))) ∷ []) []))
@@ -98,7 +98,7 @@ module _ (fs : List Function) (values : Symbol → Value) (program : Program) (i
       (λ x y h. matches_see (Same st (Of Integer)) (Int (pos n)) (cell.Int (pos n)) st (refl, (refl, tt)))
 
   -- with a check where the constant is beyond the bound
-  matches_large : (card n : ℕ) → nat_lt program.bound n ≡ true → Matches (Same st (Of Integer)) (walk.constant w card n) (run.constant s.processor card n) st
+  pub matches_large : (card n : ℕ) → nat_lt program.bound n ≡ true → Matches (Same st (Of Integer)) (walk.constant w card n) (run.constant s.processor card n) st
   matches_large card n large =
       stays_then (λ x y. int_le (pos n) s.processor.greatest ≡ true) (Same st (Of Integer)) _ _ _ _ st
       (subst (λ (b : Bool). Matches (Same st (λ x y. int_le (pos n) s.processor.greatest ≡ true)) (meet (cond b (Check RangeCheck card (sense.make2 (of_values fs values) f.AtMost (sense.natural (of_values fs values) n) (sense.greatest_integer (of_values fs values))) ∷ []) []))
@@ -106,12 +106,12 @@ module _ (fs : List Function) (values : Symbol → Value) (program : Program) (i
       (matches_check RangeCheck card _ _ st (ap (λ x. int_le (pos n) (value.num x)) greatest)))
       (λ x y h. matches_see (Same st (Of Integer)) (Int (pos n)) (cell.Int (pos n)) st (refl, (refl, tt)))
 
-  matches_divisor : (card : ℕ) (v : Value) (c : Cell) → IsOf v c → Matches (Same st (λ x y. Unit {0})) (walk.divisor w card v) (run.divisor card c) st
+  pub matches_divisor : (card : ℕ) (v : Value) (c : Cell) → IsOf v c → Matches (Same st (λ x y. Unit {0})) (walk.divisor w card v) (run.divisor card c) st
   matches_divisor card v c e =
       matches_as (Same st (λ x y. not (value.same_value (of_cell c) (Int (pos 0))) ≡ true)) (Same st (λ x y. Unit {0})) _ _ st (λ x y after h. (h.0, tt))
       (matches_check DivisorCheck card _ _ st (ap (λ x. not (value.same_value x (Int (pos 0)))) e))
 
-  matches_operate : (card : ℕ) (o : BinOp) (v : Value) (a : Cell) (x : Value) (b : Cell) → IsOf v a → IsOf x b
+  pub matches_operate : (card : ℕ) (o : BinOp) (v : Value) (a : Cell) (x : Value) (b : Cell) → IsOf v a → IsOf x b
       → Matches (Same st (Of Integer)) (walk.operate w card o v x) (run.operate s.processor card o a b) st
   matches_operate card Add v a x b e g = matches_ranged card _ _ (λ k. Int (value.num (e k) +ℤ value.num (g k)))
   matches_operate card Sub v a x b e g = matches_ranged card _ _ (λ k. Int (value.num (e k) -ℤ value.num (g k)))
@@ -121,14 +121,14 @@ module _ (fs : List Function) (values : Symbol → Value) (program : Program) (i
       (λ y z h. matches_ranged card _ _ (λ k. Int (value.quotient (value.num (e k)) (value.num (g k)))))
 
   -- a product with a base, so often
-  matches_power_from : (card more : ℕ) (v : Value) (z : ℤ) (x : Value) (y : ℤ) → v ≡ Int z → x ≡ Int y
+  pub matches_power_from : (card more : ℕ) (v : Value) (z : ℤ) (x : Value) (y : ℤ) → v ≡ Int z → x ≡ Int y
       → Matches (Same st (Of Integer)) (walk.power_from w card v more x) (run.power_on s.processor card z more y) st
   matches_power_from card zero v z x y e g = matches_see (Same st (Of Integer)) x (cell.Int y) st (refl, (g, tt))
   matches_power_from card (suc more) v z x y e g =
       stays_then (Of Integer) (Same st (Of Integer)) _ _ _ _ st (matches_ranged card _ _ (λ k. Int (value.num (g k) *ℤ value.num (e k))))
       (λ p q h. matches_power_from card more v z p (num q) e (integer_is p q h))
 
-  relation_is : (o : RelOp) (v : Value) (a : Cell) (x : Value) (b : Cell) → IsOf v a → IsOf x b → walk.relation w o v x ≡ Truth (compares o a b)
+  pub relation_is : (o : RelOp) (v : Value) (a : Cell) (x : Value) (b : Cell) → IsOf v a → IsOf x b → walk.relation w o v x ≡ Truth (compares o a b)
   relation_is Lt v a x b e g = λ k. Truth (int_lt (value.num (e k)) (value.num (g k)))
   relation_is Le v a x b e g = λ k. Truth (int_le (value.num (e k)) (value.num (g k)))
   relation_is Eq v a x b e g = λ k. Truth (value.same_value (e k) (g k))
@@ -137,5 +137,5 @@ module _ (fs : List Function) (values : Symbol → Value) (program : Program) (i
   relation_is Gt v a x b e g = λ k. Truth (int_lt (value.num (g k)) (value.num (e k)))
 
   -- a truth value that is computed
-  matches_truth : (v : Value) (b : Bool) → v ≡ Truth b → Matches (Same st (Of Logical)) (see v) (give (cell.Logical b)) st
+  pub matches_truth : (v : Value) (b : Bool) → v ≡ Truth b → Matches (Same st (Of Logical)) (see v) (give (cell.Logical b)) st
   matches_truth v b e = matches_see (Same st (Of Logical)) v (cell.Logical b) st (refl, (e, tt))

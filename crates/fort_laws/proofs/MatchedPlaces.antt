@@ -79,10 +79,10 @@ module _ (u : Routine) (env : Environment) (st : Storage) where
   AreDims (Adjustable x ∷ ds) = IsScalar Integer x × AreDims ds
 
   module _ (now : Named Value) (standing : Standing now) where
-    scalar_stands : (sort : Sort) (x : Name) → IsScalar sort x → now x ≡ of_cell (load st (env x).first)
+    pub scalar_stands : (sort : Sort) (x : Name) → IsScalar sort x → now x ≡ of_cell (load st (env x).first)
     scalar_stands sort x h = standing.names x h.data_of h.is ∙ ap (λ (ds : List Dim). held_in ds st (env x)) h.scalar
 
-    scalar_sort : (sort : Sort) (x : Name) → IsScalar sort x → MayBe sort (load st (env x).first)
+    pub scalar_sort : (sort : Sort) (x : Name) → IsScalar sort x → MayBe sort (load st (env x).first)
     scalar_sort sort x h =
         subst (λ (q : Sort). MayBe q (load st (env x).first)) h.sort_is
         (subst (λ (j : ℕ). MayBe h.data_of.sort (load st j)) (omega arith) (standing.sorts x h.data_of h.is 0 (one_cell (env x).size one)))
@@ -98,7 +98,7 @@ module _ (u : Routine) (env : Environment) (st : Storage) where
       here = sight (of_values fs values) program i u
 
       -- a cell is read
-      matches_read : (card j : ℕ) (v : Value) (sort : Sort) → v ≡ of_cell (load st j) → MayBe sort (load st j) → Matches (Same st (Of sort)) (walk.read here card v) (run.read card j) st
+      pub matches_read : (card j : ℕ) (v : Value) (sort : Sort) → v ≡ of_cell (load st j) → MayBe sort (load st j) → Matches (Same st (Of sort)) (walk.read here card v) (run.read card j) st
       matches_read card j v sort e may =
           matches_held (Same st (Of sort)) _ (λ x. followed (check DefinedCheck card (is_defined (load x j))) (λ _. give (load x j))) st
           (stays_then (λ x y. is_defined (load st j) ≡ true) (Same st (Of sort)) _ _ _ _ st
@@ -114,20 +114,20 @@ module _ (u : Routine) (env : Environment) (st : Storage) where
       dims_split (Adjustable x) ds h = ((h.0, tt), h.1)
 
       -- a value for each cell
-      abbrev AreOf : List Value → List Cell → Type 0
+      abbrev pub AreOf : List Value → List Cell → Type 0
       AreOf [] [] = Unit {0}
       AreOf [] (c ∷ cs) = ⊥
       AreOf (v ∷ vs) [] = ⊥
       AreOf (v ∷ vs) (c ∷ cs) = IsOf v c × AreOf vs cs
 
       -- so many subscripts as dimensions
-      abbrev AreAsMany : List Cell → List Dim → Type 0
+      abbrev pub AreAsMany : List Cell → List Dim → Type 0
       AreAsMany [] [] = Unit {0}
       AreAsMany [] (d ∷ ds) = ⊥
       AreAsMany (c ∷ cs) [] = ⊥
       AreAsMany (c ∷ cs) (d ∷ ds) = AreAsMany cs ds
 
-      matches_subscripts : (card : ℕ) (vs : List Value) (cs : List Cell) (ds : List Dim) → AreOf vs cs → AreAsMany cs ds → AreDims ds
+      pub matches_subscripts : (card : ℕ) (vs : List Value) (cs : List Cell) (ds : List Dim) → AreOf vs cs → AreAsMany cs ds → AreDims ds
           → Matches (Same st (λ x y. AreWithin (run.numbers cs) (dim_values env st ds))) (meet (checks SubscriptCheck card (places.subscripts_fit (of_values fs values) now vs ds)))
           (run.subscripts_in card (run.numbers cs) (dim_values env st ds)) st
       matches_subscripts card [] [] [] h k l = matches_see (Same st (λ x y. Unit {0})) tt tt st (refl, tt)
@@ -154,7 +154,7 @@ module _ (u : Routine) (env : Environment) (st : Storage) where
       place_from_is (v ∷ vs) (c ∷ cs) (d ∷ ds) p q z y h l e g =
           place_from_is vs cs ds _ _ _ _ h.1 (dims_split d ds l).1 (λ j. e j +ℤ g j *ℤ (value.num (h.0 j) -ℤ pos 1)) (λ j. g j *ℤ dim_is d (dims_split d ds l).0 j)
 
-      place_is : (vs : List Value) (cs : List Cell) (ds : List Dim) → AreOf vs cs → AreDims ds
+      pub place_is : (vs : List Value) (cs : List Cell) (ds : List Dim) → AreOf vs cs → AreDims ds
           → value.num (places.place (of_values fs values) now vs ds) ≡ place (run.numbers cs) (dim_values env st ds)
       place_is [] [] ds h l = refl
       place_is [] (c ∷ cs) ds h l = absurd h
@@ -163,7 +163,7 @@ module _ (u : Routine) (env : Environment) (st : Storage) where
       place_is (v ∷ vs) (c ∷ cs) (d ∷ ds) h l = place_from_is vs cs ds _ _ _ _ h.1 (dims_split d ds l).1 (ap value.num h.0) (dim_is d (dims_split d ds l).0)
 
       -- the cell at a place of an array
-      cell_of_place : (first size : ℕ) (z : ℤ) (stretched : ℤ) → LiesIn z stretched → pos size ≡ stretched
+      pub cell_of_place : (first size : ℕ) (z : ℤ) (stretched : ℤ) → LiesIn z stretched → pos size ≡ stretched
           → value_or_undefined (cell_at (contents st first size) z) ≡ of_cell (load st (first + count (z -ℤ pos 1)))
       cell_of_place first size z stretched h e = go h.at h.place_is h.low h.high
         where
