@@ -4,3 +4,12 @@ pub mod Conditions
 pub mod FaultLine
 pub mod Name
 pub mod Rules
+pub mod Scopes
+pub mod TreePatterns
+pub mod Uses
+pub mod NameRules
+pub mod OrderRules
+pub mod Units
+pub mod TypeRules
+pub mod UnitRules
+pub mod UseRules
