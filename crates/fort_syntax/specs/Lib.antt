@@ -13,3 +13,7 @@ pub mod Units
 pub mod TypeRules
 pub mod UnitRules
 pub mod UseRules
+pub mod OrderRows
+pub mod SmallDecks
+pub mod NameRows
+pub mod UseRows

@@ -13,6 +13,7 @@ mod plain_deck;
 mod plain_expr;
 mod plain_stmt;
 mod refusal;
+mod rows;
 mod rule;
 mod stmt;
 mod unit;
@@ -25,6 +26,9 @@ pub use expr::Expr;
 pub use name::Name;
 pub use plain::Plain;
 pub use refusal::{Fault, Refusal};
+pub use rows::{
+    arrays_are_misused, blocks_of_units_differ, blocks_out_of_order, dimensions_are_bad, dimensions_that_are_names, ends_are_missed, first_faults, heads_are_missed, labels_are_bad, names_are_declared_twice, names_are_misused, names_without_type, results_are_missed, statements_out_of_order, subscripts_are_bad, types_are_bad,
+};
 pub use rule::Rule;
 pub use stmt::{BlockName, Dim, Group, Item, Param, Stmt};
 pub use unit::{DataName, FunctionName, Line, Role, Unit};
