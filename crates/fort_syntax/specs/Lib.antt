@@ -17,3 +17,5 @@ pub mod OrderRows
 pub mod SmallDecks
 pub mod NameRows
 pub mod UseRows
+pub mod DeckRows
+pub mod WellFormed

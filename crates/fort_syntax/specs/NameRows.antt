@@ -1,6 +1,6 @@
 -- Small decks whose declarations break a rule.
 use Rattle.std.specs.Prelude.{ℕ, List, [], ◌∷◌, ◌++◌, Some, None, codes}
-use Rattle.fort_syntax.specs.SmallDecks.{on_cards, plain, array, adjustable, applied_to, if, rel, IsRefused, IsKept, F, I, J, K, L, N, P, Q}
+use Rattle.fort_syntax.specs.SmallDecks.{on_cards, plain, array, adjustable, applied_to, IsRefused, IsKept, F, I, J, K, L, N, P, Q}
 use Rattle.fort_syntax.specs.declared.dialect.Dialect.TheVariants as dialect
 use Rattle.fort_syntax.specs.declared.dialect.Sort.TheVariants.{Integer, Logical}
 use Rattle.fort_syntax.specs.declared.expr.Expr.TheVariants.{Const, Var}

@@ -40,7 +40,7 @@ breaks_15 p =
     does_again dummies_by p || does_again typed_by p || does_again dimensioned_by p || does_again commons_by p
     || do_meet (commons_by p.line.stmt) (dummies_of p.unit)
     || is_among (own_name p.unit)
-         (dummies_by p.line.stmt ++ typed_by p.line.stmt ++ dimensioned_by p.line.stmt ++ commons_by p.line.stmt)
+    (dummies_by p.line.stmt ++ typed_by p.line.stmt ++ dimensioned_by p.line.stmt ++ commons_by p.line.stmt)
 
 -- ---- 16
 

@@ -1,5 +1,5 @@
 -- Small decks with heads, declarations, ENDs and block IFs out of order.
-use Rattle.std.specs.Prelude.{ℕ, Bool, true, false, List, [], ◌∷◌, ◌++◌}
+use Rattle.std.specs.Prelude.{true, List, [], ◌∷◌, ◌++◌}
 use Rattle.fort_syntax.specs.SmallDecks.{on_cards, plain, IsRefused, IsKept, I, J, P, Q}
 use Rattle.fort_syntax.specs.declared.dialect.Dialect.TheVariants.{Common, SeventySeven}
 use Rattle.fort_syntax.specs.declared.dialect.Sort.TheVariants.{Integer}

@@ -1,5 +1,5 @@
 -- Short ways to write small decks down, statement by statement.
-use Rattle.std.specs.Prelude.{◌≡◌, ℕ, ◌+◌, List, [], ◌∷◌, map, Option, Some, None, codes}
+use Rattle.std.specs.Prelude.{◌≡◌, ℕ, ◌+◌, List, [], ◌∷◌, map, Some, None, codes}
 use mathlib.Core.Former.{arity, this}
 use Rattle.edge_io.specs.formers.list.List as former
 use Rattle.fort_syntax.specs.TreePatterns.{only, carried}
@@ -10,14 +10,12 @@ use Rattle.fort_syntax.specs.declared.dialect.BinOp.{BinOp}
 use Rattle.fort_syntax.specs.declared.dialect.Dialect.{Dialect}
 use Rattle.fort_syntax.specs.declared.dialect.RelOp.{RelOp}
 use Rattle.fort_syntax.specs.declared.expr.Expr.{Expr, Row_of-Expr, end_of-Expr, more_of-Expr}
-use Rattle.fort_syntax.specs.declared.expr.Expr.TheVariants.{Apply', Paren', Neg', Bin', Rel'}
-use Rattle.fort_syntax.specs.declared.refusal.Fault.{Fault}
+use Rattle.fort_syntax.specs.declared.expr.Expr.TheVariants.{Apply', Paren', Bin', Rel'}
 use Rattle.fort_syntax.specs.declared.rule.Rule.{Rule}
-use Rattle.fort_syntax.specs.declared.stmt.Dim.{Dim}
 use Rattle.fort_syntax.specs.declared.stmt.Dim.TheVariants.{Fixed, Named}
 use Rattle.fort_syntax.specs.declared.stmt.Item.{Item}
 use Rattle.fort_syntax.specs.declared.stmt.Stmt.{Stmt}
-use Rattle.fort_syntax.specs.declared.stmt.Stmt.TheVariants.{Subroutine, LogicalIf'}
+use Rattle.fort_syntax.specs.declared.stmt.Stmt.TheVariants.{LogicalIf'}
 use Rattle.fort_syntax.specs.declared.unit.Line.{Line}
 
 -- expressions

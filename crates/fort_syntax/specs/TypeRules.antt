@@ -1,7 +1,7 @@
 -- What expressions and statements are to be by their types and forms, in a unit that says what its
 -- names are: this is asked of a deck's statements, and of the units made of them.
-use Rattle.std.specs.Prelude.{ℕ, ◌&&◌, ◌||◌, not, Bool, true, false, cond, List, [], ◌∷◌, length, Option, Some, None}
-use Rattle.std.specs.List.{list_any, list_all}
+use Rattle.std.specs.Prelude.{◌&&◌, ◌||◌, not, Bool, true, false, cond, List, Option, Some, None}
+use Rattle.std.specs.List.{list_all}
 use Rattle.fort_syntax.specs.TreePatterns.{only, carried, listed}
 use Rattle.fort_syntax.specs.Scopes.{Scope, same_option, is_array, is_intrinsic, is_integer_scalar}
 use Rattle.fort_syntax.specs.Uses.{all_parts}

@@ -1,6 +1,6 @@
 -- The rules on units, 12 to 25 and 50, in the order in which they are judged, and the first fault of
 -- statements that were read.
-use Rattle.std.specs.Prelude.{ℕ, Bool, true, false, cond, List, [], ◌∷◌, Option, Some, None}
+use Rattle.std.specs.Prelude.{Bool, false, cond, List, [], ◌∷◌, Option, Some, None}
 use Rattle.fort_syntax.specs.CardRules.{fault_or}
 use Rattle.fort_syntax.specs.Units.{Piece, statements, segments}
 use Rattle.fort_syntax.specs.OrderRules.{Place, places, breaks_12, breaks_13, breaks_14, breaks_50}

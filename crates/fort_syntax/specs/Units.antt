@@ -1,9 +1,8 @@
 -- The units that the statements of a deck are, what the declarations of a unit say of its names, and
 -- where notes stand.
 use Rattle.std.specs.Prelude.{ℕ, ◌&&◌, ◌||◌, not, Bool, true, false, cond, List, [], ◌∷◌, ◌++◌, map, length, flat_map, Option, Some, None}
-use Rattle.std.specs.List.{list_any}
 use Rattle.fort_syntax.specs.Scopes.{Scope, same_name, is_among, once, kept, sort_by_letter, is_given_dims, is_array, is_intrinsic_name}
-use Rattle.fort_syntax.specs.Uses.{Use, read, assigned, assigned_element, counted, applied, argument_of, actual, called, Occurrence, uses_of}
+use Rattle.fort_syntax.specs.Uses.{Use, applied, called, Occurrence, uses_of}
 use Rattle.fort_syntax.specs.declared.name.Name.{Name}
 use Rattle.fort_syntax.specs.declared.dialect.Sort.{Sort}
 use Rattle.fort_syntax.specs.declared.dialect.Sort.TheVariants.{Integer}
@@ -286,16 +285,16 @@ card_of_last card (line ∷ lines) = card_of_last line.card lines
 
 abbrev pub unit_of : Segment → Routine
 unit_of unit = record {
-    name = own_name unit;
-    sort = cond (is_function unit) (Some (sort_or_integer ((scope_of unit).sort (own_name unit)))) None;
-    head = card_of_first unit;
-    dummies = dummies_of unit;
-    names = map (data_name_of unit) (data_names unit);
-    functions = map (function_name_of unit) (functions_of unit);
-    blocks = map (group_of unit) (once (gathered blocks_by unit));
-    lines = executables unit;
-    «end» = card_of_last 0 unit
-  }
+  name = own_name unit;
+  sort = cond (is_function unit) (Some (sort_or_integer ((scope_of unit).sort (own_name unit)))) None;
+  head = card_of_first unit;
+  dummies = dummies_of unit;
+  names = map (data_name_of unit) (data_names unit);
+  functions = map (function_name_of unit) (functions_of unit);
+  blocks = map (group_of unit) (once (gathered blocks_by unit));
+  lines = executables unit;
+  «end» = card_of_last 0 unit;
+}
 
 -- ---- notes
 
@@ -317,8 +316,8 @@ line_outside (line ∷ lines) = 1
 abbrev pub placed : List Line → ℕ → List ℕ → Placed
 placed before card text =
     cond (is_inside false before)
-      (record { card = card; text = text; unit = length (segments before); line = length (executables (last_segment [] (segments before))) })
-      (record { card = card; text = text; unit = 0; line = line_outside before })
+    (record { card = card; text = text; unit = length (segments before); line = length (executables (last_segment [] (segments before))) })
+    (record { card = card; text = text; unit = 0; line = line_outside before })
 
 abbrev pub notes_behind : List Line → List Piece → List Placed
 notes_behind before [] = []

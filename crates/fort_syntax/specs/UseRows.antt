@@ -1,16 +1,15 @@
 -- Small decks whose executable statements break a rule.
-use Rattle.std.specs.Prelude.{ℕ, Bool, true, false, List, [], ◌∷◌, ◌++◌, Some, None, codes}
+use Rattle.std.specs.Prelude.{true, List, [], ◌∷◌, ◌++◌, Some, None, codes}
 use Rattle.fort_syntax.specs.SmallDecks.{on_cards, labelled, plain, array, applied_to, bin, rel, bracket, if, IsRefused, IsKept, F, I, J, K, L, N, P, Q}
 use Rattle.fort_syntax.specs.NameRows.{common, unit, Refused}
 use Rattle.fort_syntax.specs.declared.dialect.BinOp.TheVariants.{Add, Sub, Mul}
 use Rattle.fort_syntax.specs.declared.dialect.RelOp.TheVariants.{Eq}
 use Rattle.fort_syntax.specs.declared.dialect.Dialect.TheVariants as dialect
 use Rattle.fort_syntax.specs.declared.dialect.Sort.TheVariants.{Integer, Logical}
-use Rattle.fort_syntax.specs.declared.expr.Expr.{Expr}
 use Rattle.fort_syntax.specs.declared.expr.Expr.TheVariants.{Const, Truth, Var}
 use Rattle.fort_syntax.specs.declared.name.Name.{Name}
 use Rattle.fort_syntax.specs.declared.rule.Rule.{Rule}
-use Rattle.fort_syntax.specs.declared.rule.Rule.TheVariants.{NameTwice, ImplicitReal, StatementOrder, NoEnd, BadUse, BadType, BadSubscript, LabelTwice, NoLabel, BadResult, BadBlockIf}
+use Rattle.fort_syntax.specs.declared.rule.Rule.TheVariants.{ImplicitReal, StatementOrder, NoEnd, BadUse, BadType, BadSubscript, LabelTwice, NoLabel, BadResult, BadBlockIf}
 use Rattle.fort_syntax.specs.declared.stmt.BlockName.TheVariants.{Bare}
 use Rattle.fort_syntax.specs.declared.stmt.Param.TheVariants as parameter
 use Rattle.fort_syntax.specs.declared.stmt.Stmt.{Stmt}

@@ -1,10 +1,10 @@
 -- What executable statements may do: rules 18 to 23 on uses of names, types, subscripts and labels, and
 -- on the value of a FUNCTION.
-use Rattle.std.specs.Prelude.{ℕ, ◌==◌, ◌&&◌, ◌||◌, not, Bool, true, false, List, [], ◌∷◌, ◌++◌, length}
-use Rattle.std.specs.List.{list_any, list_all}
+use Rattle.std.specs.Prelude.{ℕ, ◌==◌, ◌&&◌, ◌||◌, not, Bool, true, false, List, ◌++◌, length}
+use Rattle.std.specs.List.{list_any}
 use Rattle.fort_syntax.specs.Scopes.{Scope, same_name, is_among, is_array, is_intrinsic, is_intrinsic_name, takes_so_many}
 use Rattle.fort_syntax.specs.Uses.{Use, read, assigned, assigned_element, counted, applied, argument_of, actual, called, Occurrence, uses_of, used_labels}
-use Rattle.fort_syntax.specs.Units.{Segment, gathered, executables, own_name, is_function, dummies_of, commons_of, scope_of, data_names, is_called, is_applied, is_reference}
+use Rattle.fort_syntax.specs.Units.{Segment, gathered, executables, own_name, is_function, dummies_of, commons_of, scope_of, data_names, is_called, is_reference}
 use Rattle.fort_syntax.specs.TypeRules.{is_well_typed, all_plain_subscripts}
 use Rattle.fort_syntax.specs.OrderRules.{Place, is_empty}
 use Rattle.fort_syntax.specs.declared.name.Name.{Name}
@@ -67,7 +67,7 @@ is_second_kind_of_use p o =
 abbrev pub breaks_18 : Place → Bool
 breaks_18 p =
     list_any (λ o. is_misused (scope_of p.unit) o.name o.«use» || is_use_of_other_kind p.unit o || is_second_kind_of_use p o)
-      (uses_of p.line.stmt)
+    (uses_of p.line.stmt)
 
 -- ---- 19, 20
 

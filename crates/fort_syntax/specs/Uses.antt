@@ -1,5 +1,5 @@
 -- The names in statements, in the order of the text, and what they are used as.
-use Rattle.std.specs.Prelude.{ℕ, ◌==◌, ◌&&◌, ◌||◌, not, Bool, true, false, List, [], ◌∷◌, ◌++◌, map, length, flat_map, Option, Some, None}
+use Rattle.std.specs.Prelude.{ℕ, List, [], ◌∷◌, ◌++◌, length, flat_map, Option, Some, None}
 use mathlib.Core.Former.{Count}
 use Rattle.fort_syntax.specs.TreePatterns.{only, carried, listed}
 use Rattle.fort_syntax.specs.declared.name.Name.{Name}

@@ -2,6 +2,7 @@
 ghost use Rattle.fort_syntax.specs.OrderRows.{StatementsOutOfOrder, HeadsAreMissed, EndsAreMissed, BlocksOutOfOrder};
 ghost use Rattle.fort_syntax.specs.NameRows.{NamesAreDeclaredTwice, NamesWithoutType, DimensionsAreBad, BlocksOfUnitsDiffer, DimensionsThatAreNames};
 ghost use Rattle.fort_syntax.specs.UseRows.{ArraysAreMisused, NamesAreMisused, SubscriptsAreBad, LabelsAreBad, ResultsAreMissed, TypesAreBad, FirstFaults};
+ghost use Rattle.fort_syntax.specs.DeckRows.{IncIsRead, RotIsRead, ZeroIsRead};
 
 /// A declaration behind an executable statement, and a head inside a unit, are out of order.
 pub fn statements_out_of_order()
@@ -81,4 +82,19 @@ pub fn types_are_bad()
 /// Of several faults the first is told by stage, card and number.
 pub fn first_faults()
     ensures { FirstFaults }
+{}
+
+/// A deck of one unit with notes, as the unit and the notes in their places.
+pub fn inc_is_read()
+    ensures { IncIsRead }
+{}
+
+/// Two units with declarations in any order, as units with their names, functions and blocks.
+pub fn rot_is_read()
+    ensures { RotIsRead }
+{}
+
+/// A unit with a block IF, a DO and an adjustable array is well formed under 77.
+pub fn zero_is_read()
+    ensures { ZeroIsRead }
 {}
