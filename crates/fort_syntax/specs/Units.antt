@@ -3,6 +3,8 @@
 use Rattle.std.specs.Prelude.{ℕ, ◌&&◌, ◌||◌, not, Bool, true, false, cond, List, [], ◌∷◌, ◌++◌, map, length, flat_map, Option, Some, None}
 use Rattle.fort_syntax.specs.Scopes.{Scope, same_name, is_among, once, kept, sort_by_letter, is_given_dims, is_array, is_intrinsic_name}
 use Rattle.fort_syntax.specs.Uses.{Use, applied, called, Occurrence, uses_of}
+use Rattle.fort_syntax.specs.declared.class.Class.{Class}
+use Rattle.fort_syntax.specs.declared.class.Class.TheVariants.{Heading, Declaring, Performing, Ending}
 use Rattle.fort_syntax.specs.declared.name.Name.{Name}
 use Rattle.fort_syntax.specs.declared.dialect.Sort.{Sort}
 use Rattle.fort_syntax.specs.declared.dialect.Sort.TheVariants.{Integer}
@@ -36,32 +38,29 @@ statements (remarked card text ∷ rest) = statements rest
 -- ---- units
 
 -- a head, a declaration, an executable statement, or END
-pub data Class : Type 0 where
-  heading declaring performing ending : Class
-
 abbrev pub class_of : Stmt → Class
-class_of (Subroutine f dummies) = heading
-class_of (Function sort f dummies) = heading
-class_of (Declare sort items) = declaring
-class_of (Dimension items) = declaring
-class_of (Common groups) = declaring
-class_of End = ending
-class_of _ = performing
+class_of (Subroutine f dummies) = Heading
+class_of (Function sort f dummies) = Heading
+class_of (Declare sort items) = Declaring
+class_of (Dimension items) = Declaring
+class_of (Common groups) = Declaring
+class_of End = Ending
+class_of _ = Performing
 
 abbrev pub is_heading : Class → Bool
-is_heading heading = true
+is_heading Heading = true
 is_heading _ = false
 
 abbrev pub is_declaring : Class → Bool
-is_declaring declaring = true
+is_declaring Declaring = true
 is_declaring _ = false
 
 abbrev pub is_performing : Class → Bool
-is_performing performing = true
+is_performing Performing = true
 is_performing _ = false
 
 abbrev pub is_ending : Class → Bool
-is_ending ending = true
+is_ending Ending = true
 is_ending _ = false
 
 -- the statements of a unit, head, declarations and END among them
@@ -74,10 +73,10 @@ put_before line [] = (line ∷ []) ∷ []
 put_before line (segment ∷ rest) = (line ∷ segment) ∷ rest
 
 abbrev pub begun_with : Class → Line → List Segment → List Segment
-begun_with ending line rest = (line ∷ []) ∷ rest
-begun_with heading line rest = put_before line rest
-begun_with declaring line rest = put_before line rest
-begun_with performing line rest = put_before line rest
+begun_with Ending line rest = (line ∷ []) ∷ rest
+begun_with Heading line rest = put_before line rest
+begun_with Declaring line rest = put_before line rest
+begun_with Performing line rest = put_before line rest
 
 -- the units of statements: each END is the last statement of one
 abbrev pub segments : List Line → List Segment

@@ -2,6 +2,7 @@
 #![tactic(auto)]
 
 mod cards;
+mod class;
 mod condition;
 mod deck;
 mod dialect;
@@ -19,6 +20,7 @@ mod stmt;
 mod unit;
 
 pub use cards::{CardKind, Cards, Entry};
+pub use class::Class;
 pub use condition::{Condition, Kind};
 pub use deck::{Deck, Placed};
 pub use dialect::{BinOp, Dialect, RelOp, Sort};
