@@ -31,16 +31,26 @@ breaks BadAdjustable p = breaks_25 p
 breaks BadBlockIf p = breaks_50 p
 breaks rule p = false
 
+-- on the order of statements, on block IFs, on declarations, on uses, and on types
+abbrev pub order_rules : List Rule
+order_rules = StatementOrder ∷ NoHead ∷ NoEnd ∷ []
+
+abbrev pub block_rules : List Rule
+block_rules = BadBlockIf ∷ []
+
+abbrev pub name_rules : List Rule
+name_rules = NameTwice ∷ ImplicitReal ∷ BadDimension ∷ BlocksDiffer ∷ BadAdjustable ∷ []
+
+abbrev pub use_rules : List Rule
+use_rules = BadUse ∷ BadSubscript ∷ LabelTwice ∷ NoLabel ∷ BadResult ∷ []
+
+abbrev pub type_rules : List Rule
+type_rules = BadType ∷ []
+
 -- rules are judged in stages, and a stage only where the deck keeps the rules of all stages before it;
 -- in each stage by number
 abbrev pub stages : List (List Rule)
-stages =
-    (StatementOrder ∷ NoHead ∷ NoEnd ∷ [])
-    ∷ (BadBlockIf ∷ [])
-    ∷ (NameTwice ∷ ImplicitReal ∷ BadDimension ∷ BlocksDiffer ∷ BadAdjustable ∷ [])
-    ∷ (BadUse ∷ BadSubscript ∷ LabelTwice ∷ NoLabel ∷ BadResult ∷ [])
-    ∷ (BadType ∷ [])
-    ∷ []
+stages = order_rules ∷ block_rules ∷ name_rules ∷ use_rules ∷ type_rules ∷ []
 
 -- the first of some rules that a statement breaks
 abbrev pub first_broken : List Rule → Place → Option Rule
