@@ -1,0 +1,4 @@
+pub mod Splits
+pub mod OrderScans
+pub mod Shapes
+pub mod BlockFaults
