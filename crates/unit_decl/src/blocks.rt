@@ -100,15 +100,22 @@ fn sooner(a: usize, b: usize) -> usize
     if a < b { a } else { b }
 }
 
-/// The fault of a unit by the rule on block IFs: it is told on the first statement that breaks the rule.
-#[tactic(auto, using(crate::proofs::BlockFaults::found))]
-pub fn block_fault(alloc: Global, unit: &[Line]) -> Result<Option<Fault>, NoMemory>
-    ensures { IfOk result (λ fault. (dialect : Dialect) (earlier : List Segment) → fault ≡ fault_in_stage block_rules (places_in dialect earlier unit.now [] unit.now)) }
+/// The first fault of a unit: it is told on the first statement that breaks the rule.
+pub(crate) fn scan_blocks(alloc: Global, unit: &[Line]) -> Result<Option<Fault>, NoMemory>
+    ensures { IfOk result (λ fault. fault ≡ block_scan [] unit.now) }
 {
     let Ok(misplaced) = before_misplaced(alloc, unit) else {
         return Err(NoMemory);
     };
     Ok(fault_behind(sooner(misplaced, before_unclosed(unit)), unit))
+}
+
+/// The first fault of a unit by the rule on block IFs.
+#[tactic(auto, using(crate::proofs::BlockFaults::found))]
+pub fn block_fault(alloc: Global, unit: &[Line]) -> Result<Option<Fault>, NoMemory>
+    ensures { IfOk result (λ fault. (dialect : Dialect) (earlier : List Segment) → fault ≡ fault_in_stage block_rules (places_in dialect earlier unit.now [] unit.now)) }
+{
+    scan_blocks(alloc, unit)
 }
 
 #[tactic(auto, using(crate::proofs::BlockFaults::fault_at, crate::proofs::BlockFaults::no_fault))]

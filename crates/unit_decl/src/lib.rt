@@ -8,7 +8,8 @@ mod names;
 mod order;
 mod splitting;
 
-pub use deck_order::deck_order_fault;
+pub use blocks::block_fault;
+pub use deck_order::{deck_block_fault, deck_order_fault};
 pub use dims::is_bad_shape;
 pub use names::{is_intrinsic_name, sort_by_letter, takes_so_many};
 pub use order::order_fault;
