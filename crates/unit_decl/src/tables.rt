@@ -12,7 +12,6 @@ use indexmap::IndexMap;
 use std::alloc::Global;
 
 /// Tells a table something of a name: it counts where nothing was told of the name before.
-
 fn tell<V: Drop>(table: &mut IndexMap<Name, V>, name: Name, value: V) -> Result<(), NoMemory>
     ensures { (ps : List (Name × V)) → Keeps table.old ps → OnOk result (Keeps table.new (ps ++ (name, value) ∷ [])) }
 {
@@ -62,7 +61,6 @@ pub fn types_of(alloc: Global, unit: &[Line]) -> Result<IndexMap<Name, Sort>, No
 
 /// The type of a name in a unit with these types: that of the first statement that gives it one, else
 /// the one that its first letter gives.
-
 pub fn sort_of(table: &IndexMap<Name, Sort>, name: &Name) -> Option<Sort>
     ensures { (typings : List Typing) → Keeps table.now (pairs_of typings) → result ≡ sort_in typings name.now }
 {
