@@ -2,6 +2,7 @@
 #![tactic(auto)]
 
 mod cards;
+mod class;
 mod condition;
 mod deck;
 mod dialect;
@@ -13,11 +14,13 @@ mod plain_deck;
 mod plain_expr;
 mod plain_stmt;
 mod refusal;
+mod rows;
 mod rule;
 mod stmt;
 mod unit;
 
 pub use cards::{CardKind, Cards, Entry};
+pub use class::Class;
 pub use condition::{Condition, Kind};
 pub use deck::{Deck, Placed};
 pub use dialect::{BinOp, Dialect, RelOp, Sort};
@@ -25,6 +28,13 @@ pub use expr::Expr;
 pub use name::Name;
 pub use plain::Plain;
 pub use refusal::{Fault, Refusal};
+pub use rows::{
+    arrays_are_misused, blocks_of_units_differ, blocks_out_of_order, dimensions_are_bad,
+    dimensions_that_are_names, ends_are_missed, first_faults, heads_are_missed, inc_is_read,
+    labels_are_bad, names_are_declared_twice, names_are_misused, names_without_type,
+    results_are_missed, rot_is_read, statements_out_of_order, subscripts_are_bad, types_are_bad,
+    zero_is_read,
+};
 pub use rule::Rule;
 pub use stmt::{BlockName, Dim, Group, Item, Param, Stmt};
 pub use unit::{DataName, FunctionName, Line, Role, Unit};

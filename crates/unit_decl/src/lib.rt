@@ -1,0 +1,18 @@
+//! Units: from the statements of a deck to subprograms whose declarations are resolved.
+#![tactic(auto)]
+
+mod blocks;
+mod deck_order;
+mod dims;
+mod names;
+mod order;
+mod splitting;
+mod tables;
+
+pub use blocks::block_fault;
+pub use deck_order::{deck_block_fault, deck_order_fault};
+pub use dims::is_bad_shape;
+pub use names::{is_intrinsic_name, sort_by_letter, takes_so_many};
+pub use order::order_fault;
+pub use splitting::{first_unit, unit_size};
+pub use tables::{sort_of, types_of};
