@@ -2,5 +2,8 @@ pub mod CardRules
 pub mod Cards
 pub mod Conditions
 pub mod FaultLine
+pub mod Grammar
+pub mod Misspelled
 pub mod Name
 pub mod Rules
+pub mod Spelled
