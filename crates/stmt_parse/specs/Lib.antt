@@ -1,2 +1,5 @@
-pub mod Tokens
+pub mod Answers
 pub mod Parsing
+pub mod Statements
+pub mod Stems
+pub mod Tokens

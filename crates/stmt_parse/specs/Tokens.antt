@@ -31,20 +31,20 @@ after word t = if begins word t then Some (drop (length word) t) else None
 abbrev pub name_of_length : ℕ → List ℕ → Reading Name
 name_of_length n t = if is_name (take n t) then Some (take n t, drop n t) else None
 
-abbrev pub name_at : List ℕ → Reading Name
+unfoldable pub name_at : List ℕ → Reading Name
 name_at t = name_of_length (run_length is_name_byte t) t
 
 abbrev pub constant_of_length : ℕ → List ℕ → Reading ℕ
 constant_of_length n t = if is_digits (take n t) then (if is_long (take n t) then None else Some (spelled (take n t), drop n t)) else None
 
-abbrev pub constant_at : List ℕ → Reading ℕ
+unfoldable pub constant_at : List ℕ → Reading ℕ
 constant_at t = constant_of_length (run_length is_digit t) t
 
 abbrev pub label_of_length : ℕ → List ℕ → Reading ℕ
 label_of_length n t =
     if is_digits (take n t) then (if nat_lt 5 n then None else (if spelled (take n t) == 0 then None else Some (spelled (take n t), drop n t))) else None
 
-abbrev pub label_at : List ℕ → Reading ℕ
+unfoldable pub label_at : List ℕ → Reading ℕ
 label_at t = label_of_length (run_length is_digit t) t
 
 -- `**` and its exponent
@@ -52,22 +52,39 @@ abbrev pub power_at : List ℕ → Reading ℕ
 power_at t =
     if begins (codes "**") t && nat_le 49 (get_or t 2 0) && nat_le (get_or t 2 0) 57 then Some (get_or t 2 0 - 48, drop 3 t) else None
 
--- an operator between two parts
-abbrev pub joint_at : List ℕ → Reading Joint
-joint_at t =
+-- `+`, `-`, `*` or `/`
+abbrev pub sign_at : List ℕ → Reading Joint
+sign_at t =
     if begins (codes "+") t then Some (Bin Add, drop 1 t)
     else if begins (codes "-") t then Some (Bin Sub, drop 1 t)
     else if begins (codes "*") t then Some (Bin Mul, drop 1 t)
     else if begins (codes "/") t then Some (Bin Div, drop 1 t)
-    else if begins (codes ".LT.") t then Some (Rel Lt, drop 4 t)
+    else None
+
+-- a relation
+abbrev pub relation_at : List ℕ → Reading Joint
+relation_at t =
+    if begins (codes ".LT.") t then Some (Rel Lt, drop 4 t)
     else if begins (codes ".LE.") t then Some (Rel Le, drop 4 t)
     else if begins (codes ".EQ.") t then Some (Rel Eq, drop 4 t)
     else if begins (codes ".NE.") t then Some (Rel Ne, drop 4 t)
     else if begins (codes ".GE.") t then Some (Rel Ge, drop 4 t)
     else if begins (codes ".GT.") t then Some (Rel Gt, drop 4 t)
-    else if begins (codes ".AND.") t then Some (And, drop 5 t)
+    else None
+
+abbrev pub logical_at : List ℕ → Reading Joint
+logical_at t =
+    if begins (codes ".AND.") t then Some (And, drop 5 t)
     else if begins (codes ".OR.") t then Some (Or, drop 4 t)
     else None
+
+abbrev pub or_else : {A : Type 0} → Option A → Option A → Option A
+or_else (Some x) other = Some x
+or_else None other = other
+
+-- an operator between two parts
+abbrev pub joint_at : List ℕ → Reading Joint
+joint_at t = or_else (sign_at t) (or_else (relation_at t) (logical_at t))
 
 -- how tightly an operator binds, and how tightly its parts must be bound
 abbrev pub strength : Joint → ℕ

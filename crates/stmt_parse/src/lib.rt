@@ -2,10 +2,19 @@
 #![tactic(auto)]
 
 mod chains;
+mod declarations;
+mod executable;
+mod expressions;
 mod joint;
 mod lack;
+mod lists;
+mod misspelled;
 mod parts;
+mod answer;
+mod stems;
 mod tokens;
 
-pub use lack::Lack;
 pub use joint::Joint;
+pub use lack::Lack;
+pub use answer::{StmtRefusal, statement};
+pub use stems::Stem;
