@@ -46,6 +46,6 @@ five_nines (suc (suc (suc (suc (suc (suc k)))))) le = absurd (omega arith)
 
 pub few_small : (ds : List ℕ) → is_digits ds ≡ true → length ds ≤ 5 → spelled ds < 2 ^ 32
 few_small ds h few =
-    let low : spelled ds ≤ nines 0 (length ds) = below 0 0 ds (omega arith) (both _ _ h).1 in
+    let low : spelled ds ≤ nines 0 (length ds) = below 0 0 ds (let e : 0 ≤ 0 = omega arith in e) (both _ _ h).1 in
     let high = five_nines (length ds) few in
     omega arith
