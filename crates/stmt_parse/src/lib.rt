@@ -18,3 +18,6 @@ pub use joint::Joint;
 pub use lack::Lack;
 pub use answer::{StmtRefusal, statement};
 pub use stems::Stem;
+
+#[cfg(test)]
+mod tests;
