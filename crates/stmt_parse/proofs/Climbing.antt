@@ -1,19 +1,16 @@
 -- What follows an expression, and where climbing stops.
-use Rattle.std.proofs.Common.{◌≡◌, ℕ, zero, suc, ◌+◌, ◌-◌, ◌<◌, ◌≤◌, Bool, true, false, Option, Some, None, List, [], ◌∷◌, ◌++◌, length, drop, codes, refl, sym, ap, ◌∙◌, arith}
+use Rattle.std.proofs.Common.{◌≡◌, ℕ, zero, suc, ◌<◌, Bool, true, false, Some, None, List, ◌++◌, codes, refl, arith}
 use Rattle.std.specs.Prelude.{◌&&◌, if◌then◌else◌, nat_le}
-use Rattle.std.proofs.lemmas.Bool.Decides.{nat_tests}
-use Rattle.formula.specs.Atoms.{is_name_byte, starts}
 use Rattle.fort_syntax.specs.declared.dialect.BinOp.{BinOp}
 use Rattle.fort_syntax.specs.declared.dialect.BinOp.TheVariants.{Add, Sub, Mul, Div}
 use Rattle.fort_syntax.specs.declared.dialect.RelOp.{RelOp}
 use Rattle.fort_syntax.specs.declared.dialect.RelOp.TheVariants.{Lt, Le, Eq, Ne, Ge, Gt}
 use Rattle.fort_syntax.specs.declared.expr.Expr.{Expr}
-use Rattle.fort_syntax.specs.Spelled.{binding, operator, relation}
-use Rattle.fort_syntax.specs.Misspelled.{begins}
+use Rattle.fort_syntax.specs.Spelled.{operator, relation}
 use Rattle.stmt_parse.specs.declared.joint.Joint.{Joint}
 use Rattle.stmt_parse.specs.declared.joint.Joint.TheVariants as joint
 use Rattle.stmt_parse.specs.Tokens.{Reading, power_at, joint_at, strength}
-use Rattle.stmt_parse.specs.Parsing.{Inner, takes, takes_power, at_power, at_joint, climb}
+use Rattle.stmt_parse.specs.Parsing.{Inner, at_power, at_joint, climb}
 
 -- an operator that binds at least so tightly is what was found
 abbrev pub joint_continues : ℕ → Reading Joint → Bool

@@ -1,12 +1,12 @@
 -- How the reading of an expression is put together from that of its parts.
-use Rattle.std.proofs.Common.{◌≡◌, ℕ, zero, suc, ◌+◌, ◌-◌, ◌<◌, ◌≤◌, Bool, true, false, Option, Some, None, List, [], ◌∷◌, ◌++◌, length, drop, codes, refl, sym, ap, ◌∙◌, append_assoc, arith}
-use Rattle.std.specs.Prelude.{◌&&◌, if◌then◌else◌, nat_le}
+use Rattle.std.proofs.Common.{◌≡◌, ℕ, suc, ◌+◌, ◌-◌, ◌≤◌, Bool, true, false, Some, None, List, ◌++◌, length, ap, ◌∙◌, append_assoc, arith}
+use Rattle.std.specs.Prelude.{◌&&◌, nat_le}
 use Rattle.std.proofs.lemmas.List.{length-append}
 use Rattle.std.proofs.lemmas.Bool.Decides.{nat_tests}
 use Rattle.fort_syntax.specs.declared.expr.Expr.{Expr, Power}
 use Rattle.fort_syntax.specs.Spelled.{binding}
 use Rattle.stmt_parse.specs.declared.joint.Joint.{Joint}
-use Rattle.stmt_parse.specs.Tokens.{Reading, ◌>>=◌, power_at, joint_at, strength, left_strength, right_strength}
+use Rattle.stmt_parse.specs.Tokens.{◌>>=◌, power_at, joint_at, strength, left_strength, right_strength}
 use Rattle.stmt_parse.specs.Parsing.{joined, front, takes, takes_power, at_power, at_joint, climb, parse}
 use Rattle.stmt_parse.proofs.Rounds.{climb_next}
 use Rattle.stmt_parse.proofs.Climbing.{continues, climb_stops}
@@ -49,13 +49,13 @@ joined_parts f k a b o sign ta tb r found none some tight apart room first secon
       left = first.left - 1;
       enough = omega arith;
       same =
-        ap (parse (suc f) k) regroup
-        ∙ first.same
-        ∙ climb_next (parse f) first.left k a (sign ++ (tb ++ r)) (omega arith)
-        ∙ ap (at_power (climb (parse f) (first.left - 1) k) (parse f) k a (sign ++ (tb ++ r))) none
-        ∙ ap (at_joint (climb (parse f) (first.left - 1) k) (parse f) k a (sign ++ (tb ++ r))) found
-        ∙ when_true (takes k a o) _ _ taken
-        ∙ ap (λ x. x >>= λ right. climb (parse f) (first.left - 1) k (joined o a right.0) right.1) second;
+          ap (parse (suc f) k) regroup
+          ∙ first.same
+          ∙ climb_next (parse f) first.left k a (sign ++ (tb ++ r)) (omega arith)
+          ∙ ap (at_power (climb (parse f) (first.left - 1) k) (parse f) k a (sign ++ (tb ++ r))) none
+          ∙ ap (at_joint (climb (parse f) (first.left - 1) k) (parse f) k a (sign ++ (tb ++ r))) found
+          ∙ when_true (takes k a o) _ _ taken
+          ∙ ap (λ x. x >>= λ right. climb (parse f) (first.left - 1) k (joined o a right.0) right.1) second;
     }
 
 -- a power
@@ -70,9 +70,9 @@ power_part f k a n sign ta r found some tight apart room first =
       left = first.left - 1;
       enough = omega arith;
       same =
-        ap (parse (suc f) k) (append_assoc ta sign r)
-        ∙ first.same
-        ∙ climb_next (parse f) first.left k a (sign ++ r) (omega arith)
-        ∙ ap (at_power (climb (parse f) (first.left - 1) k) (parse f) k a (sign ++ r)) found
-        ∙ when_true (takes_power k a) _ _ taken;
+          ap (parse (suc f) k) (append_assoc ta sign r)
+          ∙ first.same
+          ∙ climb_next (parse f) first.left k a (sign ++ r) (omega arith)
+          ∙ ap (at_power (climb (parse f) (first.left - 1) k) (parse f) k a (sign ++ r)) found
+          ∙ when_true (takes_power k a) _ _ taken;
     }

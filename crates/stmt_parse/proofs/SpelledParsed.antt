@@ -1,21 +1,13 @@
 -- What spells an expression is read as it, whatever follows that does not go on with it.
-use Rattle.std.proofs.Common.{◌≡◌, ℕ, zero, suc, ◌+◌, ◌-◌, ◌<◌, ◌≤◌, Bool, true, false, Option, Some, None, List, [], ◌∷◌, ◌++◌, length, drop, codes, refl, sym, ap, ◌∙◌, subst, arith}
-use Rattle.std.specs.Prelude.{◌==◌, ◌&&◌, if◌then◌else◌}
-use Rattle.std.proofs.lemmas.List.{length-append}
+use Rattle.std.proofs.Common.{◌≡◌, ℕ, Bool, true, false, Some, List, [], ◌∷◌, ◌++◌, codes, refl, ap, ◌∙◌, arith}
+use Rattle.std.specs.Prelude.{◌==◌, ◌&&◌}
 use Rattle.std.proofs.lemmas.Bool.Decides.{nat_tests}
-use mathlib.Core.Former.{Count, none_left, one_more}
 use Rattle.formula.specs.Atoms.{is_letter, is_digit, is_name_byte, starts}
-use Rattle.fort_syntax.specs.declared.dialect.BinOp.{BinOp}
-use Rattle.fort_syntax.specs.declared.dialect.BinOp.TheVariants.{Add, Sub, Mul, Div}
-use Rattle.fort_syntax.specs.declared.expr.Expr.{Expr, Bin, Row_of-Expr, end_of-Expr, more_of-Expr}
-use Rattle.fort_syntax.specs.declared.expr.Expr.TheVariants.{Const, Var, Bin'}
-use Rattle.fort_syntax.specs.Spelled.{is_name, constant, expression, binding, tightness, operator}
+use Rattle.fort_syntax.specs.declared.expr.Expr.TheVariants.{Const, Var}
+use Rattle.fort_syntax.specs.Spelled.{is_name, constant}
 use Rattle.fort_syntax.specs.Misspelled.{begins}
-use Rattle.stmt_parse.specs.declared.joint.Joint.TheVariants as joint
-use Rattle.stmt_parse.specs.Tokens.{◌>>=◌, name_at, constant_at, power_at, joint_at}
-use Rattle.stmt_parse.specs.Parsing.{Inner, joined, named, primary, front, parse}
-use Rattle.stmt_parse.proofs.Climbing.{continues, operator_found}
-use Rattle.stmt_parse.proofs.PartsParsed.{Reached, first_part, whole_part, joined_parts}
+use Rattle.stmt_parse.specs.Tokens.{◌>>=◌}
+use Rattle.stmt_parse.specs.Parsing.{Inner, named, front}
 use Rattle.stmt_parse.proofs.TokensRead.{when_true, when_false, name_read, constant_read}
 
 first_false : (x y : Bool) → x ≡ false → (x && y) ≡ false

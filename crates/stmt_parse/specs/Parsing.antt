@@ -1,6 +1,6 @@
 -- The expression that begins a text. Operators are climbed: a part is read, and then each operator behind it that
 -- binds tightly enough takes it as its left part. Numbers of rounds bound every way down.
-use Rattle.std.specs.Prelude.{ℕ, zero, suc, ◌≡◌, ◌==◌, ◌&&◌, ◌||◌, nat_le, Bool, true, false, if◌then◌else◌, Option, Some, None, Result, Ok, Err, List, [], ◌∷◌, ◌++◌, drop, codes}
+use Rattle.std.specs.Prelude.{ℕ, zero, suc, ◌≡◌, ◌&&◌, nat_le, Bool, true, false, if◌then◌else◌, Option, Some, None, Result, Ok, Err, List, [], ◌∷◌, ◌++◌, drop, codes}
 use Rattle.formula.specs.Atoms.{is_digit, starts}
 use Rattle.fort_syntax.specs.declared.name.Name.{Name}
 use Rattle.fort_syntax.specs.declared.expr.Expr.{Expr, Const, Truth, Var, Apply, Paren, Pos, Neg, Power, Bin, Rel, Not, And, Or}

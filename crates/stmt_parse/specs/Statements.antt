@@ -2,12 +2,11 @@
 use Rattle.std.specs.Prelude.{ℕ, zero, suc, ◌+◌, ◌==◌, ◌&&◌, nat_lt, Bool, true, false, if◌then◌else◌, Option, Some, None, List, [], ◌∷◌, ◌++◌, length, drop, codes}
 use Rattle.std.specs.List.{list_all}
 use Rattle.formula.specs.Atoms.{is_digit, starts}
-use Rattle.fort_syntax.specs.declared.name.Name.{Name}
 use Rattle.fort_syntax.specs.declared.dialect.Dialect.{Dialect}
 use Rattle.fort_syntax.specs.declared.dialect.Dialect.TheVariants.{Common as CommonForms, SeventySeven}
 use Rattle.fort_syntax.specs.declared.dialect.Sort.{Sort}
 use Rattle.fort_syntax.specs.declared.dialect.Sort.TheVariants.{Integer, Logical}
-use Rattle.fort_syntax.specs.declared.expr.Expr.{Expr, Apply, Var}
+use Rattle.fort_syntax.specs.declared.expr.Expr.{Expr}
 use Rattle.fort_syntax.specs.declared.stmt.Dim.{Dim}
 use Rattle.fort_syntax.specs.declared.stmt.Dim.TheVariants as dimension
 use Rattle.fort_syntax.specs.declared.stmt.Item.{Item}

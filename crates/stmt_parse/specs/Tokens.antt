@@ -1,5 +1,5 @@
 -- What begins a text: a word, a name, a number, an operator. Each reader answers what it read and the text behind it.
-use Rattle.std.specs.Prelude.{ℕ, zero, suc, ◌+◌, ◌-◌, ◌==◌, ◌&&◌, nat_le, nat_lt, Bool, true, false, if◌then◌else◌, Option, Some, None, List, [], ◌∷◌, length, take, drop, get_or, codes}
+use Rattle.std.specs.Prelude.{ℕ, suc, ◌+◌, ◌-◌, ◌==◌, ◌&&◌, nat_le, nat_lt, Bool, if◌then◌else◌, Option, Some, None, List, [], ◌∷◌, length, take, drop, get_or, codes}
 use Rattle.formula.specs.Atoms.{is_digit, is_name_byte, is_digits, is_long, spelled}
 use Rattle.fort_syntax.specs.declared.name.Name.{Name}
 use Rattle.fort_syntax.specs.declared.dialect.BinOp.TheVariants.{Add, Sub, Mul, Div}
@@ -10,7 +10,6 @@ use Rattle.stmt_parse.specs.declared.joint.Joint.{Joint}
 use Rattle.stmt_parse.specs.declared.joint.Joint.TheVariants.{Or, And, Rel, Bin}
 
 infixr 1 ◌>>=◌
-
 -- a reading: what was read and the text behind it, or nothing
 abbrev pub Reading : Type 0 → Type 0
 Reading A = Option (A × List ℕ)

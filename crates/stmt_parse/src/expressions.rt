@@ -60,7 +60,11 @@ fn arguments(alloc: Global, rounds: usize, text: &[u8]) -> Result<(List<Expr>, &
 
 #[cycle(parse)]
 // Arguments and the closing bracket.
-pub(crate) fn bracketed_arguments(alloc: Global, rounds: usize, text: &[u8]) -> Result<(List<Expr>, &[u8]), Lack>
+pub(crate) fn bracketed_arguments(
+    alloc: Global,
+    rounds: usize,
+    text: &[u8],
+) -> Result<(List<Expr>, &[u8]), Lack>
     ensures { Gives (λ r. (r.0, r.1.now)) result (bracketed_arguments (parse rounds) rounds text.now) }
 {
     let (all, rest) = arguments(alloc, rounds, text)?;
@@ -72,7 +76,12 @@ pub(crate) fn bracketed_arguments(alloc: Global, rounds: usize, text: &[u8]) -> 
 
 #[cycle(parse)]
 // A name, with arguments where a bracket follows.
-pub(crate) fn named(alloc: Global, rounds: usize, name: Name, text: &[u8]) -> Result<(Expr, &[u8]), Lack>
+pub(crate) fn named(
+    alloc: Global,
+    rounds: usize,
+    name: Name,
+    text: &[u8],
+) -> Result<(Expr, &[u8]), Lack>
     ensures { Gives (λ r. (r.0, r.1.now)) result (named (parse rounds) rounds name text.now) }
 {
     if !begins(text, b"(") {
@@ -156,7 +165,13 @@ fn front(alloc: Global, rounds: usize, k: u8, text: &[u8]) -> Result<(Expr, &[u8
 #[cycle(parse)]
 #[tactic(auto, using(crate::proofs::Rounds::climb_next, crate::proofs::Rounds::climb_none))]
 // What stands behind an expression: operators and their right parts.
-fn climb(alloc: Global, rounds: usize, k: u8, first: Expr, text: &[u8]) -> Result<(Expr, &[u8]), Lack>
+fn climb(
+    alloc: Global,
+    rounds: usize,
+    k: u8,
+    first: Expr,
+    text: &[u8],
+) -> Result<(Expr, &[u8]), Lack>
     ensures { Gives (λ r. (r.0, r.1.now)) result (climb (parse rounds) rounds k first text.now) }
 {
     let mut e = first;

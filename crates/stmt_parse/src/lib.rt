@@ -1,6 +1,7 @@
 //! Statements: the one statement that a text spells, and a text that spells a statement.
 #![tactic(auto)]
 
+mod answer;
 mod chains;
 mod declarations;
 mod executable;
@@ -10,13 +11,12 @@ mod lack;
 mod lists;
 mod misspelled;
 mod parts;
-mod answer;
 mod stems;
 mod tokens;
 
+pub use answer::{StmtRefusal, statement};
 pub use joint::Joint;
 pub use lack::Lack;
-pub use answer::{StmtRefusal, statement};
 pub use stems::Stem;
 
 #[cfg(test)]

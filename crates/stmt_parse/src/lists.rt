@@ -105,7 +105,11 @@ fn more_names(rounds: usize, first: Vec<Name>, text: &[u8]) -> Result<(List<Name
 
 // Names and the closing bracket.
 #[tactic(auto, unfolding(crate::specs::Statements::rest_of_brackets, crate::specs::Statements::list_of))]
-pub(crate) fn bracketed_names(alloc: Global, rounds: usize, text: &[u8]) -> Result<(List<Name>, &[u8]), Lack>
+pub(crate) fn bracketed_names(
+    alloc: Global,
+    rounds: usize,
+    text: &[u8],
+) -> Result<(List<Name>, &[u8]), Lack>
     ensures { Gives (λ r. (r.0, r.1.now)) result (rest_of_brackets name_at rounds text.now) }
 {
     let Some((first, rest)) = name_at(text) else {
@@ -122,7 +126,11 @@ pub(crate) fn bracketed_names(alloc: Global, rounds: usize, text: &[u8]) -> Resu
 
 // The same behind an opening bracket, or nothing.
 #[tactic(auto, unfolding(crate::specs::Statements::brackets_at))]
-pub(crate) fn optional_names(alloc: Global, rounds: usize, text: &[u8]) -> Result<(List<Name>, &[u8]), Lack>
+pub(crate) fn optional_names(
+    alloc: Global,
+    rounds: usize,
+    text: &[u8],
+) -> Result<(List<Name>, &[u8]), Lack>
     ensures { Gives (λ r. (r.0, r.1.now)) result (brackets_at name_at rounds text.now) }
 {
     if !begins(text, b"(") {
@@ -154,7 +162,11 @@ fn more_labels(rounds: usize, first: Vec<u32>, text: &[u8]) -> Result<(List<u32>
 
 // Labels and the closing bracket.
 #[tactic(auto, unfolding(crate::specs::Statements::rest_of_brackets, crate::specs::Statements::list_of))]
-pub(crate) fn bracketed_labels(alloc: Global, rounds: usize, text: &[u8]) -> Result<(List<u32>, &[u8]), Lack>
+pub(crate) fn bracketed_labels(
+    alloc: Global,
+    rounds: usize,
+    text: &[u8],
+) -> Result<(List<u32>, &[u8]), Lack>
     ensures { Gives (λ r. (r.0, r.1.now)) result (rest_of_brackets label_at rounds text.now) }
 {
     let Some((first, rest)) = label_at(text) else {
@@ -192,7 +204,11 @@ fn more_dims(rounds: usize, first: Vec<Dim>, text: &[u8]) -> Result<(List<Dim>, 
 
 // Dimensions and the closing bracket.
 #[tactic(auto, unfolding(crate::specs::Statements::rest_of_brackets, crate::specs::Statements::list_of))]
-pub(crate) fn bracketed_dims(alloc: Global, rounds: usize, text: &[u8]) -> Result<(List<Dim>, &[u8]), Lack>
+pub(crate) fn bracketed_dims(
+    alloc: Global,
+    rounds: usize,
+    text: &[u8],
+) -> Result<(List<Dim>, &[u8]), Lack>
     ensures { Gives (λ r. (r.0, r.1.now)) result (rest_of_brackets dim_at rounds text.now) }
 {
     let Some((first, rest)) = dim_at(text) else {
@@ -209,7 +225,11 @@ pub(crate) fn bracketed_dims(alloc: Global, rounds: usize, text: &[u8]) -> Resul
 
 // The same behind an opening bracket, or nothing.
 #[tactic(auto, unfolding(crate::specs::Statements::brackets_at))]
-pub(crate) fn optional_dims(alloc: Global, rounds: usize, text: &[u8]) -> Result<(List<Dim>, &[u8]), Lack>
+pub(crate) fn optional_dims(
+    alloc: Global,
+    rounds: usize,
+    text: &[u8],
+) -> Result<(List<Dim>, &[u8]), Lack>
     ensures { Gives (λ r. (r.0, r.1.now)) result (brackets_at dim_at rounds text.now) }
 {
     if !begins(text, b"(") {
@@ -231,7 +251,12 @@ fn item_at(alloc: Global, rounds: usize, text: &[u8]) -> Result<(Item, &[u8]), L
 }
 
 #[tactic(auto, using(crate::proofs::Rounds::more_of_next, crate::proofs::Rounds::more_of_none))]
-fn more_items(alloc: Global, rounds: usize, first: Vec<Item>, text: &[u8]) -> Result<(List<Item>, &[u8]), Lack>
+fn more_items(
+    alloc: Global,
+    rounds: usize,
+    first: Vec<Item>,
+    text: &[u8],
+) -> Result<(List<Item>, &[u8]), Lack>
     ensures { Gives (λ r. (r.0, r.1.now)) result (more_of (item_at rounds) rounds first.items text.now) }
 {
     let mut all = first;
@@ -251,7 +276,11 @@ fn more_items(alloc: Global, rounds: usize, first: Vec<Item>, text: &[u8]) -> Re
 
 // One or more items.
 #[tactic(auto, unfolding(crate::specs::Statements::list_of))]
-pub(crate) fn items_at(alloc: Global, rounds: usize, text: &[u8]) -> Result<(List<Item>, &[u8]), Lack>
+pub(crate) fn items_at(
+    alloc: Global,
+    rounds: usize,
+    text: &[u8],
+) -> Result<(List<Item>, &[u8]), Lack>
     ensures { Gives (λ r. (r.0, r.1.now)) result (list_of (item_at rounds) rounds text.now) }
 {
     let (first, rest) = item_at(alloc, rounds, text)?;

@@ -5,23 +5,41 @@ use std::alloc::Global;
 use std::test::Fail;
 
 const SUBROUTINE: u32 = 1;
+
 const FUNCTION: u32 = 2;
+
 const DECLARE: u32 = 3;
+
 const DIMENSION: u32 = 4;
+
 const COMMON: u32 = 5;
+
 const ASSIGN: u32 = 6;
+
 const GO_TO: u32 = 7;
+
 const COMPUTED: u32 = 8;
+
 const ARITH_IF: u32 = 9;
+
 const LOGICAL_IF: u32 = 10;
+
 const DO: u32 = 11;
+
 const CONTINUE: u32 = 12;
+
 const CALL: u32 = 13;
+
 const RETURN: u32 = 14;
+
 const END: u32 = 15;
+
 const BLOCK_IF: u32 = 16;
+
 const ELSE_IF: u32 = 17;
+
 const ELSE: u32 = 18;
+
 const END_IF: u32 = 19;
 
 fn kind(stmt: &Stmt) -> u32 {
@@ -47,7 +65,6 @@ fn kind(stmt: &Stmt) -> u32 {
         Stmt::EndIf => END_IF,
     }
 }
-
 
 // 100 and the number of the rule.
 fn refused(refusal: StmtRefusal) -> u32 {
