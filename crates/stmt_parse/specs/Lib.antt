@@ -1,0 +1,5 @@
+pub mod Answers
+pub mod Parsing
+pub mod Statements
+pub mod Stems
+pub mod Tokens
