@@ -1,3 +1,4 @@
+pub mod Kept
 pub mod PlaceBounds
 pub mod Tied
 pub mod TiedParts
