@@ -13,20 +13,20 @@ pub record IsIndex (s d : ℤ) : Type 0 where
   pub dimension : d ≡ pos size
   pub less : before < size
 
-index_of : (s d : ℤ) → lies_in (pos 1) d s ≡ true → IsIndex s d
+pub index_of : (s d : ℤ) → lies_in (pos 1) d s ≡ true → IsIndex s d
 index_of (pos zero) d h = search rules
 index_of (negsuc n) d h = search rules
 index_of (pos (suc n)) (negsuc k) h = search rules
 index_of (pos (suc n)) (pos k) h = record { before = n; size = k; subscript = refl; dimension = refl; less = search rules }
 
-one_less : (n : ℕ) → pos (suc n) -ℤ pos 1 ≡ pos n
+pub one_less : (n : ℕ) → pos (suc n) -ℤ pos 1 ≡ pos n
 one_less n = -ℤ_one (pos (suc n))
 
 -- the bounds that a step keeps
-step_low : (p q c : ℕ) → 1 ≤ p → 1 ≤ p + q * c
+pub step_low : (p q c : ℕ) → 1 ≤ p → 1 ≤ p + q * c
 step_low p q c h = omega arith
 
-step_high : (p q c e : ℕ) → p ≤ q → c < e → p + q * c ≤ q * e
+pub step_high : (p q c e : ℕ) → p ≤ q → c < e → p + q * c ≤ q * e
 step_high p q c e h l = grind arith
 
 -- a place from 1 to the number of elements
