@@ -17,7 +17,7 @@ use Rattle.fort_model.specs.Cells.{num, lies_in, count}
 use Rattle.fort_model.specs.Fits.{IsIn, HasShape, is_good_dim, is_positive}
 use Rattle.fort_model.specs.Flow.{target, Loop, loop_of, loops_from, loops_at}
 use Rattle.fort_model.specs.Lists.{IsAmong}
-use Rattle.fort_model.specs.Places.{dim_value, dim_values, stretch, stretch_on, place, place_on}
+use Rattle.fort_model.specs.Places.{dim_value, dim_values, stretch, stretch_on, size_of, place, place_on}
 use Rattle.fort_model.specs.Smashes.{Smashes, set_by}
 use Rattle.fort_model.specs.Storage.{Storage, Extent, Environment, load, store}
 use Rattle.fort_laws.specs.Frame.{HasName, IsAdjustable, IsSoundUnit, OthersKept}
@@ -254,3 +254,7 @@ module _ (units : List Routine) (i : ℕ) (u : Routine) (sound : IsSoundUnit uni
 
     pub still_placed : IsPlaced units i u env after
     still_placed = record { apart = placed.apart; shapes = still_shaped }
+
+-- the number of cells that positive dimensions count
+pub size_of_stretch : (ds : List ℤ) → ArePositive ds → pos (size_of ds) ≡ stretch ds
+size_of_stretch ds good = let l = stretch_from 1 1 (omega arith) (omega arith) ds good in ap (λ (z : ℤ). pos (count z)) l.stretch_is ∙ sym l.stretch_is

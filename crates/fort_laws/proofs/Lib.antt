@@ -1,3 +1,4 @@
+pub mod FrameEnter
 pub mod FrameParts
 pub mod Kept
 pub mod PlaceBounds
