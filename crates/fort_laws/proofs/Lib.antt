@@ -1,5 +1,7 @@
+pub mod FrameClaims
 pub mod FrameEnter
 pub mod FrameParts
+pub mod FrameRuns
 pub mod Kept
 pub mod PlaceBounds
 pub mod StorageLaws
