@@ -145,7 +145,7 @@ own_or_not d = by_test (is_own d.role) refl
     by_test true e = inl e
     by_test false e = inr e
 
-fixed_good : (env : Environment) (st : Storage) (ds : List Dim) → ((x : Name) → IsAmong (Named x) ds → ⊥) → list_all (is_good_dim env st) ds ≡ true
+pub fixed_good : (env : Environment) (st : Storage) (ds : List Dim) → ((x : Name) → IsAmong (Named x) ds → ⊥) → list_all (is_good_dim env st) ds ≡ true
 fixed_good env st [] unlike = refl
 fixed_good env st (Fixed n ∷ ds) unlike = fixed_good env st ds (λ x m. unlike x (suc m.0, m.1))
 fixed_good env st (Named x ∷ ds) unlike = absurd (unlike x (0, refl))

@@ -2,6 +2,7 @@ pub mod FrameClaims
 pub mod FrameEnter
 pub mod FrameParts
 pub mod FrameRuns
+pub mod FrameSeats
 pub mod Kept
 pub mod PlaceBounds
 pub mod StorageLaws
