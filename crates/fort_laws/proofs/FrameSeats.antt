@@ -29,6 +29,7 @@ use Rattle.fort_laws.proofs.FrameClaims.{IsPart}
 use Rattle.fort_laws.proofs.FrameEnter.{SameOrNot, same, other, same_or_not, fixed_good}
 use Rattle.fort_laws.proofs.FrameParts.{IsOpen, IsPlaced, one_cell}
 use Rattle.fort_laws.proofs.Kept.{Matches, AllMatch}
+use Rattle.fort_laws.proofs.Tied.{at_most_or}
 use Rattle.fort_laws.proofs.StorageLaws.{width, widths, seat, seat_at, widths_apart, length-new_cells, copy_holds, value_holds, passed_at}
 
 -- ---- names
@@ -151,3 +152,242 @@ old_cells u env (Rel' o q a r b) e named fit = absurd fit
 old_cells u env (Not' shape a) e named fit = absurd fit
 old_cells u env (And' q a r b) e named fit = absurd fit
 old_cells u env (Or' q a r b) e named fit = absurd fit
+
+-- ---- a call
+
+module _ (units : List Routine) (i j : ℕ) (c : Calls units i j) (of_caller : IsSoundUnit units i c.caller) (of_callee : IsSoundUnit units j c.callee) (of_call : IsSoundCall c)
+    (env : Environment) (st : Storage) (placed : IsPlaced units i c.caller env st) (copies : ℕ → Bool) (xs : List Taken)
+    (fit : AllMatch env (IsPart c.caller env) c.site.actuals xs) where
+  abbrev pub ps : List Passed
+  ps = passed copies 1 xs
+
+  abbrev pub inner : Environment
+  inner x = with_extents c.callee.dummies (seats ps (length st)) env x
+
+  abbrev pub begun : Storage
+  begun = st ++ new_cells st ps
+
+  pub long : length begun ≡ length st + length (new_cells st ps)
+  long = length-append st (new_cells st ps)
+
+  pub same_below : (k : ℕ) → k < length st → load begun k ≡ load st k
+  same_below k lt = get_or_append_left st (new_cells st ps) Undefined k lt
+
+  pub new_at : (k : ℕ) → load begun (length st + k) ≡ load (new_cells st ps) k
+  new_at k = get_or-append-add st (new_cells st ps) k Undefined
+
+  -- the seat of a dummy
+  pub record Seated (d : Name) : Type 0 where
+    pub at : ℕ
+    pub dummy : slice_get c.callee.dummies at ≡ Some d
+    pub actual : Expr
+    pub is_actual : slice_get c.site.actuals at ≡ Some actual
+    pub taken : Taken
+    pub is_taken : slice_get xs at ≡ Some taken
+    pub fits : Matches env (IsPart c.caller env) actual taken
+    pub is_passed : slice_get ps at ≡ Some (passed_by (copies (1 + at)) taken)
+    pub place : inner d ≡ seat (passed_by (copies (1 + at)) taken) (length st + widths ps at)
+
+  pub seated : (d : Name) (n : ℕ) (e : Expr) → slice_get c.callee.dummies n ≡ Some d → slice_get c.site.actuals n ≡ Some e → Seated d
+  seated d n e is_dummy is_actual =
+      let x = fit_at env (IsPart c.caller env) c.site.actuals xs n e fit is_actual in
+      let is_passed : slice_get ps n ≡ Some (passed_by (copies (1 + n)) x.0) = passed_at copies 1 xs n x.0 x.1 in
+      record {
+        at = n; dummy = is_dummy; actual = e; is_actual = is_actual; taken = x.0; is_taken = x.1; fits = x.2; is_passed = is_passed;
+        place = extents_at c.callee.dummies (seats ps (length st)) env n d _ of_callee.one_dummy is_dummy (seat_at ps (length st) n _ is_passed);
+      }
+
+  -- the cells of a dummy: old ones, which its actual has, or new ones
+  pub data Place (d : Name) (s : Seated d) : Type 0 where
+    old : (e : Extent) → s.taken ≡ Cells e → inner d ≡ e → Place d s
+    new : (y : Passed) → slice_get ps s.at ≡ Some y → inner d ≡ record { first = length st + widths ps s.at; size = width y } → Place d s
+
+  pub place_of : (d : Name) (s : Seated d) → Place d s
+  place_of d s = by_way s.taken (copies (1 + s.at)) refl refl
+    where
+      by_way : (x : Taken) (t : Bool) → s.taken ≡ x → copies (1 + s.at) ≡ t → Place d s
+      by_way (Fresh v) t e q =
+          new (ByValue v) (s.is_passed ∙ ap (λ (z : Taken). Some (passed_by (copies (1 + s.at)) z)) e) (s.place ∙ ap (λ (z : Taken). seat (passed_by (copies (1 + s.at)) z) (length st + widths ps s.at)) e)
+      by_way (Cells f) true e q =
+          new (ByCopy f) (s.is_passed ∙ (ap (λ (z : Taken). Some (passed_by (copies (1 + s.at)) z)) e ∙ ap (λ (b : Bool). Some (passed_by b (Cells f))) q))
+          (s.place ∙ (ap (λ (z : Taken). seat (passed_by (copies (1 + s.at)) z) (length st + widths ps s.at)) e ∙ ap (λ (b : Bool). seat (passed_by b (Cells f)) (length st + widths ps s.at)) q))
+      by_way (Cells f) false e q =
+          old f e (s.place ∙ (ap (λ (z : Taken). seat (passed_by (copies (1 + s.at)) z) (length st + widths ps s.at)) e ∙ ap (λ (b : Bool). seat (passed_by b (Cells f)) (length st + widths ps s.at)) q))
+
+  pub old_of : (d : Name) (s : Seated d) (e : Extent) → s.taken ≡ Cells e → IsOld c.caller env s.actual e
+  old_of d s e q =
+      old_cells c.caller env s.actual e (λ x is. of_call.names s.at x (s.is_actual ∙ ap Some is)) (subst (λ (z : Taken). Matches env (IsPart c.caller env) s.actual z) q s.fits)
+
+  pub old_within : (actual : Expr) (e : Extent) → IsOld c.caller env actual e → e.first + e.size ≤ length st
+  old_within actual e o = let w = (placed.shapes o.its o.among).within in let h = o.high in omega arith
+
+  -- ---- the visible names of the called unit
+
+  pub record Shared (d : DataName) : Type 0 where
+    pub its : DataName
+    pub among : IsAmong its c.caller.names
+    pub name : its.name ≡ d.name
+    pub role : its.role ≡ InCommon
+    pub dims : its.dims ≡ d.dims
+    pub place : inner d.name ≡ env d.name
+
+  pub data Root (d : DataName) : Type 0 where
+    common : d.role ≡ InCommon → Shared d → Root d
+    dummy : d.role ≡ Dummy → (s : Seated d.name) → DimsAgree c.callee c.site.actuals d.dims (dims_of_actual c.caller s.actual) → Root d
+
+  roles_differ : (r : Role) → r ≡ InCommon → r ≡ Dummy → ⊥
+  roles_differ r a b = clash (is_in_common r) (ap is_in_common a) (ap is_in_common b)
+
+  pub shared : (d : DataName) → IsAmong d c.callee.names → d.role ≡ InCommon → Shared d
+  shared d m r =
+      let s = of_call.commons d m r in
+      record {
+        its = s.0; among = s.1; name = s.2; role = s.3; dims = s.4;
+        place = extents_other c.callee.dummies (seats ps (length st)) env d.name (λ k. roles_differ d.role r (of_callee.roles d m k));
+      }
+
+  pub root : (d : DataName) → IsVisible c.callee d → Root d
+  unfolding seated
+  root d v = by_role d.role refl
+    where
+      by_role : (r : Role) → d.role ≡ r → Root d
+      by_role Dummy q =
+          let k = of_callee.dummies d v.among q in
+          let a = of_call.matches d k.0 v.among k.1 in
+          dummy q (seated d.name k.0 a.actual k.1 a.is) a.dims
+      by_role InCommon q = common q (shared d v.among q)
+      by_role OwnValue q = absurd (clash (is_own d.role) (ap is_own q) v.not_own)
+      by_role Local q = absurd (clash (is_own d.role) (ap is_own q) v.not_own)
+
+  -- ---- smashed names of the called unit
+
+  -- a smashed dummy has a bare name, which the calling unit smashes
+  pub record Bare (d : Name) (s : Seated d) : Type 0 where
+    pub name : Name
+    pub is : s.actual ≡ Var name
+    pub has : HasName c.caller name
+    pub smashed : Smashes units i has.its.name
+
+  pub bare : (d : Name) (s : Seated d) → Smashes units j d → Bare d s
+  bare d s h =
+      let b = of_call.bare s.at d s.actual s.dummy h s.is_actual in
+      let is_actual : slice_get c.site.actuals s.at ≡ Some (Var b.0) = s.is_actual ∙ ap Some b.1 in
+      let has : HasName c.caller b.0 = of_call.names s.at b.0 is_actual in
+      record { name = b.0; is = b.1; has = has; smashed = subst (λ (z : Name). Smashes units i z) (sym has.name) (passes c s.at s.dummy is_actual h) }
+
+  bare_cells : (d : Name) (s : Seated d) (b : Bare d s) (e : Extent) → s.taken ≡ Cells e → e ≡ env b.has.its.name
+  bare_cells d s b e q =
+      let f : Matches env (IsPart c.caller env) (Var b.name) (Cells e) =
+      subst (λ (z : Expr). Matches env (IsPart c.caller env) z (Cells e)) b.is (subst (λ (z : Taken). Matches env (IsPart c.caller env) s.actual z) q s.fits) in
+      same_cells e (env b.name) f ∙ ap env (sym b.has.name)
+    where
+      same_cells : (e f : Extent) → Cells e ≡ Cells f → e ≡ f
+      same_cells e f h = cc
+
+  -- cells of a smashed dummy's actual are those of a name that the calling unit smashes
+  pub actual_open : (d : Name) (s : Seated d) → Smashes units j d → (e : Extent) → s.taken ≡ Cells e → (k : ℕ) → IsIn k e → IsOpen units i c.caller env k
+  actual_open d s h e q k inside =
+      let b : Bare d s = bare d s h in
+      record { its = b.has.its; among = b.has.among; smashed = b.smashed; cell = subst (λ (z : Extent). IsIn k z) (bare_cells d s b e q) inside }
+
+  shared_smashed : (d : DataName) → IsAmong d c.callee.names → d.role ≡ InCommon → (s : Shared d) → Smashes units j d.name → Smashes units i s.its.name
+  shared_smashed d m r s h =
+      subst (λ (z : Name). Smashes units i z) (sym s.name)
+      (shares c (is_common units i c.caller of_caller s.its s.among d.name s.name s.role) (is_common units j c.callee of_callee d m d.name refl r) h)
+
+  pub shared_open : (d : DataName) → IsAmong d c.callee.names → d.role ≡ InCommon → (s : Shared d) → Smashes units j d.name → (k : ℕ) → IsIn k (inner d.name) → IsOpen units i c.caller env k
+  shared_open d m r s h k inside =
+      record {
+        its = s.its; among = s.among; smashed = shared_smashed d m r s h;
+        cell = subst (λ (z : Name). IsIn k (env z)) (sym s.name) (subst (λ (z : Extent). IsIn k z) s.place inside);
+      }
+
+  -- an old cell of a smashed name is that of a name that the calling unit smashes
+  pub smashed_open : (d : DataName) → IsVisible c.callee d → Smashes units j d.name → (k : ℕ) → k < length st → IsIn k (inner d.name) → IsOpen units i c.caller env k
+  smashed_open d v h k lt inside = by_root (root d v)
+    where
+      by_place : (s : Seated d.name) → Place d.name s → IsOpen units i c.caller env k
+      by_place s (old e q p) = actual_open d.name s h e q k (subst (λ (z : Extent). IsIn k z) p inside)
+      by_place s (new y q p) = let r = (subst (λ (z : Extent). IsIn k z) p inside).0 in absurd (omega arith)
+
+      by_root : Root d → IsOpen units i c.caller env k
+      by_root (common r s) = shared_open d v.among r s h k inside
+      by_root (dummy r s agree) = by_place s (place_of d.name s)
+
+  -- ---- smashed names of the called unit lie apart
+
+  inside_by : (k : ℕ) (e f : Extent) → e ≡ f → IsIn k e → IsIn k f
+  inside_by k e f q h = subst (λ (z : Extent). IsIn k z) q h
+
+  old_inside : (k : ℕ) (actual : Expr) (e : Extent) (o : IsOld c.caller env actual e) → IsIn k e → IsIn k (env o.its.name)
+  old_inside k actual e o h = (let l = o.low in let a = h.0 in omega arith, let l = o.high in let a = h.1 in omega arith)
+
+  shared_inside : (d : DataName) (s : Shared d) (k : ℕ) → IsIn k (inner d.name) → IsIn k (env s.its.name)
+  shared_inside d s k h = subst (λ (z : Name). IsIn k (env z)) (sym s.name) (inside_by k _ _ s.place h)
+
+  shared_below : (d : DataName) (s : Shared d) (k : ℕ) → IsIn k (inner d.name) → k < length st
+  shared_below d s k h = let a = (shared_inside d s k h).1 in let w = (placed.shapes s.its s.among).within in omega arith
+
+  same_some : (x y : Name) → Some x ≡ Some y → x ≡ y
+  same_some x y h = cc
+
+  other_seats : (d e : Name) (s : Seated d) (t : Seated e) → d ≢ e → s.at ≢ t.at
+  other_seats d e s t unlike q = unlike (same_some d e (sym s.dummy ∙ (ap (slice_get c.callee.dummies) q ∙ t.dummy)))
+
+  module _ (d e : DataName) (v : IsVisible c.callee d) (w : IsVisible c.callee e) (h : Smashes units j d.name) (unlike : d.name ≢ e.name) (k : ℕ) (a : IsIn k (inner d.name)) (b : IsIn k (inner e.name)) where
+    both_shared : (s : Shared d) (t : Shared e) → d.role ≡ InCommon → ⊥
+    both_shared s t r =
+        placed.apart s.its t.its s.among t.among (shared_smashed d v.among r s h) (λ q. unlike (sym s.name ∙ (q ∙ t.name))) k (shared_inside d s k a) (shared_inside e t k b)
+
+    shared_dummy : (s : Shared d) → d.role ≡ InCommon → (t : Seated e.name) → Place e.name t → ⊥
+    shared_dummy s r t (new y q p) = let l = shared_below d s k a in let m = (inside_by k _ _ p b).0 in absurd (omega arith)
+    shared_dummy s r t (old f q p) =
+        let o : IsOld c.caller env t.actual f = old_of e.name t f q in
+        let not_there : mentions t.actual d.name ≡ false = of_call.no_common t.at d.name t.actual (is_common units j c.callee of_callee d v.among d.name refl r) h t.is_actual in
+        placed.apart s.its o.its s.among o.among (shared_smashed d v.among r s h)
+        (λ same_names. clash (mentions t.actual d.name) (subst (λ (z : Name). mentions t.actual z ≡ true) (sym same_names ∙ s.name) o.mentioned) not_there) k
+        (shared_inside d s k a) (old_inside k t.actual f o (inside_by k _ _ p b))
+
+    dummy_shared : (s : Seated d.name) → Place d.name s → (t : Shared e) → e.role ≡ InCommon → ⊥
+    dummy_shared s (new y q p) t r = let l = shared_below e t k b in let m = (inside_by k _ _ p a).0 in absurd (omega arith)
+    dummy_shared s (old f q p) t r =
+        let x : Bare d.name s = bare d.name s h in
+        placed.apart x.has.its t.its x.has.among t.among x.smashed
+        (λ same_names.
+        let named : t.its.name ≡ x.name = sym same_names ∙ x.has.name in
+        of_call.not_shared s.at d.name x.name s.dummy h (s.is_actual ∙ ap Some x.is)
+        (is_common units i c.caller of_caller t.its t.among x.name named t.role) (is_common units j c.callee of_callee e w.among x.name (sym t.name ∙ named) r)) k
+        (inside_by k _ _ (bare_cells d.name s x f q) (inside_by k _ _ p a)) (shared_inside e t k b)
+
+    new_apart : (s : Seated d.name) (t : Seated e.name) (y z : Passed) → slice_get ps s.at ≡ Some y → slice_get ps t.at ≡ Some z
+        → inner d.name ≡ record { first = length st + widths ps s.at; size = width y } → inner e.name ≡ record { first = length st + widths ps t.at; size = width z } → ⊥
+    new_apart s t y z q r p o = by_order (at_most_or s.at t.at) (at_most_or t.at s.at)
+      where
+        by_order : (s.at < t.at) ⊎ (t.at ≤ s.at) → (t.at < s.at) ⊎ (s.at ≤ t.at) → ⊥
+        by_order (inl l) g = let m = widths_apart ps s.at t.at y q l in let x = (inside_by k _ _ p a).1 in let x2 = (inside_by k _ _ o b).0 in absurd (omega arith)
+        by_order (inr l) (inl g) = let m = widths_apart ps t.at s.at z r g in let x = (inside_by k _ _ o b).1 in let x2 = (inside_by k _ _ p a).0 in absurd (omega arith)
+        by_order (inr l) (inr g) = other_seats d.name e.name s t unlike (omega arith)
+
+    both_dummies : (s : Seated d.name) → Place d.name s → (t : Seated e.name) → Place e.name t → ⊥
+    both_dummies s (new y q p) t (new z r o) = new_apart s t y z q r p o
+    both_dummies s (new y q p) t (old f r o) =
+        let l = old_within t.actual f (old_of e.name t f r) in let m = (inside_by k _ _ p a).0 in let x = (inside_by k _ _ o b).1 in absurd (omega arith)
+    both_dummies s (old f q p) t (new z r o) =
+        let l = old_within s.actual f (old_of d.name s f q) in let m = (inside_by k _ _ o b).0 in let x = (inside_by k _ _ p a).1 in absurd (omega arith)
+    both_dummies s (old f q p) t (old g r o) =
+        let x : Bare d.name s = bare d.name s h in
+        let y : IsOld c.caller env t.actual g = old_of e.name t g r in
+        let not_there : mentions t.actual x.name ≡ false =
+        of_call.once t.at s.at d.name x.name t.actual (λ same_at. other_seats d.name e.name s t unlike (sym same_at)) s.dummy h (s.is_actual ∙ ap Some x.is) t.is_actual in
+        placed.apart x.has.its y.its x.has.among y.among x.smashed
+        (λ same_names. clash (mentions t.actual x.name) (subst (λ (z : Name). mentions t.actual z ≡ true) (sym same_names ∙ x.has.name) y.mentioned) not_there) k
+        (inside_by k _ _ (bare_cells d.name s x f q) (inside_by k _ _ p a)) (old_inside k t.actual g y (inside_by k _ _ o b))
+
+    apart_by : Root d → Root e → ⊥
+    apart_by (common r s) (common q t) = both_shared s t r
+    apart_by (common r s) (dummy q t agree) = shared_dummy s r t (place_of e.name t)
+    apart_by (dummy r s agree) (common q t) = dummy_shared s (place_of d.name s) t q
+    apart_by (dummy r s agree) (dummy q t agree2) = both_dummies s (place_of d.name s) t (place_of e.name t)
+
+  pub callee_apart : IsApart units j c.callee inner
+  callee_apart d e v w h unlike k a b = apart_by d e v w h unlike k a b (root d v) (root e w)
