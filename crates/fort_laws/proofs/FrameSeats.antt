@@ -1,5 +1,5 @@
 -- Where the names of a called unit have their cells.
-use Rattle.std.proofs.Common.{◌≡◌, ◌≢◌, ℕ, zero, suc, ◌+◌, ◌-◌, ◌<◌, ◌≤◌, ◌⊎◌, inl, inr, Bool, true, false, cond, ◌||◌, ℤ, pos, List, [], ◌∷◌, ◌++◌, length, Option, Some, None, slice_get, refl, sym, ap, ◌∙◌, subst, arith, rules, length-append, get_or-append-add}
+use Rattle.std.proofs.Common.{◌≡◌, ◌≢◌, ℕ, zero, suc, ◌+◌, ◌-◌, ◌<◌, ◌≤◌, ◌⊎◌, inl, inr, Bool, true, false, cond, ◌&&◌, ◌||◌, ℤ, pos, List, [], ◌∷◌, ◌++◌, length, Option, Some, None, slice_get, refl, sym, ap, ◌∙◌, subst, arith, rules, length-append, get_or-append-add}
 use Rattle.std.proofs.lemmas.List.{get_or_append_left}
 use Rattle.std.specs.List.{list_all}
 use Rattle.formula.specs.declared.value.Cell.{Cell}
@@ -152,6 +152,84 @@ old_cells u env (Rel' o q a r b) e named fit = absurd fit
 old_cells u env (Not' shape a) e named fit = absurd fit
 old_cells u env (And' q a r b) e named fit = absurd fit
 old_cells u env (Or' q a r b) e named fit = absurd fit
+
+-- ---- dimensions of actuals
+
+pub whole_or_not : (u : Routine) (e : Expr) → ((y : Name) × (e ≡ Var y)) ⊎ (dims_of_actual u e ≡ [])
+whole_or_not u (Var y) = inl (y, refl)
+whole_or_not u (Const n) = inr refl
+whole_or_not u (Truth b) = inr refl
+whole_or_not u (Apply' f shape args) = inr refl
+whole_or_not u (Paren' shape a) = inr refl
+whole_or_not u (Pos' shape a) = inr refl
+whole_or_not u (Neg' shape a) = inr refl
+whole_or_not u (Power' shape a n) = inr refl
+whole_or_not u (Bin' o q a r b) = inr refl
+whole_or_not u (Rel' o q a r b) = inr refl
+whole_or_not u (Not' shape a) = inr refl
+whole_or_not u (And' q a r b) = inr refl
+whole_or_not u (Or' q a r b) = inr refl
+
+pub data DimCase (e : Expr) (d : Dim) : Type 0 where
+  constant : (n : ℕ) → e ≡ Const n → d ≡ Fixed n → DimCase e d
+  variable : (x : Name) → e ≡ Var x → d ≡ Named x → DimCase e d
+
+dim_case : (e : Expr) (d : Dim) → IsDim e d → DimCase e d
+dim_case (Const c) (Fixed n) h = constant c refl (ap Fixed (sym h))
+dim_case (Const c) (Named x) h = absurd h
+dim_case (Var y) (Named x) h = variable y refl (ap Named (sym h))
+dim_case (Var y) (Fixed n) h = absurd h
+dim_case (Truth b) d h = absurd h
+dim_case (Apply' f shape args) d h = absurd h
+dim_case (Paren' shape a) d h = absurd h
+dim_case (Pos' shape a) d h = absurd h
+dim_case (Neg' shape a) d h = absurd h
+dim_case (Power' shape a n) d h = absurd h
+dim_case (Bin' o q a r b) d h = absurd h
+dim_case (Rel' o q a r b) d h = absurd h
+dim_case (Not' shape a) d h = absurd h
+dim_case (And' q a r b) d h = absurd h
+dim_case (Or' q a r b) d h = absurd h
+
+abbrev pub taken_size : Taken → ℕ
+taken_size (Cells e) = e.size
+taken_size (Fresh v) = 1
+
+seat_size : (t : Bool) (x : Taken) (at : ℕ) → (seat (passed_by t x) at).size ≡ taken_size x
+seat_size true (Cells e) at = refl
+seat_size false (Cells e) at = refl
+seat_size true (Fresh v) at = refl
+seat_size false (Fresh v) at = refl
+
+-- what is no whole array has one cell
+part_size : (u : Routine) (env : Environment) (e : Expr) (x : Taken) → dims_of_actual u e ≡ [] → ((y : Name) → e ≡ Var y → ⊥) → Matches env (IsPart u env) e x → taken_size x ≡ 1
+part_size u env e (Fresh v) d whole fit = refl
+part_size u env (Var y) (Cells f) d whole fit = absurd (whole y refl)
+part_size u env (Const n) (Cells f) d whole fit = absurd (cc)
+part_size u env (Apply' f shape args) (Cells g) d whole fit = fit.one
+part_size u env (Truth b) (Cells f) d whole fit = absurd fit
+part_size u env (Paren' shape a) (Cells f) d whole fit = absurd fit
+part_size u env (Pos' shape a) (Cells f) d whole fit = absurd fit
+part_size u env (Neg' shape a) (Cells f) d whole fit = absurd fit
+part_size u env (Power' shape a n) (Cells f) d whole fit = absurd fit
+part_size u env (Bin' o q a r b) (Cells f) d whole fit = absurd fit
+part_size u env (Rel' o q a r b) (Cells f) d whole fit = absurd fit
+part_size u env (Not' shape a) (Cells f) d whole fit = absurd fit
+part_size u env (And' q a r b) (Cells f) d whole fit = absurd fit
+part_size u env (Or' q a r b) (Cells f) d whole fit = absurd fit
+
+positive_constant : (n : ℕ) → 1 ≤ n → is_positive (Int (pos n)) ≡ true
+positive_constant zero h = absurd (omega arith)
+positive_constant (suc n) h = search rules
+
+both_true : (a b : Bool) → (a && b) ≡ true → (a ≡ true) × (b ≡ true)
+both_true true b e = (refl, e)
+both_true false b e = absurd (cc)
+
+fixed_values : (env inside : Environment) (st after : Storage) (ds : List Dim) → ((x : Name) → IsAmong (Named x) ds → ⊥) → dim_values inside after ds ≡ dim_values env st ds
+fixed_values env inside st after [] none_named = refl
+fixed_values env inside st after (Fixed n ∷ ds) none_named = ap (λ (zs : List ℤ). pos n ∷ zs) (fixed_values env inside st after ds (λ x m. none_named x (suc m.0, m.1)))
+fixed_values env inside st after (Named x ∷ ds) none_named = absurd (none_named x (0, refl))
 
 -- ---- a call
 
@@ -316,7 +394,7 @@ module _ (units : List Routine) (i j : ℕ) (c : Calls units i j) (of_caller : I
 
   -- ---- smashed names of the called unit lie apart
 
-  inside_by : (k : ℕ) (e f : Extent) → e ≡ f → IsIn k e → IsIn k f
+  pub inside_by : (k : ℕ) (e f : Extent) → e ≡ f → IsIn k e → IsIn k f
   inside_by k e f q h = subst (λ (z : Extent). IsIn k z) q h
 
   old_inside : (k : ℕ) (actual : Expr) (e : Extent) (o : IsOld c.caller env actual e) → IsIn k e → IsIn k (env o.its.name)
@@ -325,7 +403,7 @@ module _ (units : List Routine) (i j : ℕ) (c : Calls units i j) (of_caller : I
   shared_inside : (d : DataName) (s : Shared d) (k : ℕ) → IsIn k (inner d.name) → IsIn k (env s.its.name)
   shared_inside d s k h = subst (λ (z : Name). IsIn k (env z)) (sym s.name) (inside_by k _ _ s.place h)
 
-  shared_below : (d : DataName) (s : Shared d) (k : ℕ) → IsIn k (inner d.name) → k < length st
+  pub shared_below : (d : DataName) (s : Shared d) (k : ℕ) → IsIn k (inner d.name) → k < length st
   shared_below d s k h = let a = (shared_inside d s k h).1 in let w = (placed.shapes s.its s.among).within in omega arith
 
   same_some : (x y : Name) → Some x ≡ Some y → x ≡ y
@@ -391,3 +469,150 @@ module _ (units : List Routine) (i j : ℕ) (c : Calls units i j) (of_caller : I
 
   pub callee_apart : IsApart units j c.callee inner
   callee_apart d e v w h unlike k a b = apart_by d e v w h unlike k a b (root d v) (root e w)
+
+  -- ---- shapes of the visible names of the called unit
+
+  place_at : (z : Name) (n : ℕ) (x : Taken) → slice_get c.callee.dummies n ≡ Some z → slice_get xs n ≡ Some x → inner z ≡ seat (passed_by (copies (1 + n)) x) (length st + widths ps n)
+  place_at z n x is_dummy is_taken = extents_at c.callee.dummies (seats ps (length st)) env n z _ of_callee.one_dummy is_dummy (seat_at ps (length st) n _ (passed_at copies 1 xs n x is_taken))
+
+  -- the cell of a dummy that is a dimension
+  constant_cell : (z : Name) (n m : ℕ) (x : Taken) → slice_get c.callee.dummies n ≡ Some z → slice_get xs n ≡ Some x → x ≡ Fresh (Int (pos m)) → load begun (inner z).first ≡ Int (pos m)
+  constant_cell z n m x is_dummy is_taken e =
+      let got : slice_get xs n ≡ Some (Fresh (Int (pos m))) = is_taken ∙ ap Some e in
+      ap (λ (f : Extent). load begun f.first) (place_at z n _ is_dummy got) ∙ (new_at (widths ps n) ∙ value_holds st ps n (Int (pos m)) (passed_at copies 1 xs n _ got))
+
+  variable_cell : (z : Name) (n : ℕ) (y : Name) (x : Taken) → slice_get c.callee.dummies n ≡ Some z → slice_get xs n ≡ Some x → x ≡ Cells (env y) → HasName c.caller y → load begun (inner z).first ≡ load st (env y).first
+  variable_cell z n y x is_dummy is_taken e has = by_way (copies (1 + n)) refl
+    where
+      got : slice_get xs n ≡ Some (Cells (env y))
+      got = is_taken ∙ ap Some e
+
+      one : 1 ≤ (env y).size
+      one = subst (λ (w : Name). 1 ≤ (env w).size) has.name (one_cell units i c.caller of_caller env st placed has.its has.among)
+
+      within : (env y).first + (env y).size ≤ length st
+      within = subst (λ (w : Name). (env w).first + (env w).size ≤ length st) has.name (placed.shapes has.its has.among).within
+
+      by_way : (t : Bool) → copies (1 + n) ≡ t → load begun (inner z).first ≡ load st (env y).first
+      by_way false q =
+          ap (λ (f : Extent). load begun f.first) (place_at z n _ is_dummy got ∙ ap (λ (b : Bool). seat (passed_by b (Cells (env y))) (length st + widths ps n)) q)
+          ∙ same_below (env y).first (let a = one in let b = within in omega arith)
+      by_way true q =
+          let zero_more : widths ps n ≡ widths ps n + 0 = omega arith in
+          let first_more : (env y).first + 0 ≡ (env y).first = omega arith in
+          ap (λ (f : Extent). load begun f.first) (place_at z n _ is_dummy got ∙ ap (λ (b : Bool). seat (passed_by b (Cells (env y))) (length st + widths ps n)) q)
+          ∙ (new_at (widths ps n) ∙ (ap (load (new_cells st ps)) zero_more
+          ∙ (copy_holds st ps n (env y) 0 (passed_at copies 1 xs n _ got ∙ ap (λ (b : Bool). Some (passed_by b (Cells (env y)))) q) (let a = one in omega arith) ∙ ap (load st) first_more)))
+
+  abbrev Agreed : Dim → Dim → Type 0
+  Agreed a b = (dim_value inner begun a ≡ dim_value env st b) × (is_good_dim inner begun a ≡ true)
+
+  agree_one : (a b : Dim) → DimAgrees c.callee c.site.actuals a b → is_good_dim env st b ≡ true → ((m : ℕ) → b ≡ Fixed m → 1 ≤ m) → Agreed a b
+  agree_one (Fixed n) b h good const = (ap (dim_value env st) (sym h), refl)
+  agree_one (Named z) b h good const = by_case (dim_case h.1 b h.4)
+    where
+      x : (t : Taken) × (slice_get xs h.0 ≡ Some t) × Matches env (IsPart c.caller env) h.1 t
+      x = fit_at env (IsPart c.caller env) c.site.actuals xs h.0 h.1 fit h.3
+
+      by_case : DimCase h.1 b → Agreed (Named z) b
+      by_case (constant m e q) =
+          let t : x.0 ≡ Fresh (Int (pos m)) = subst (λ (f : Expr). Matches env (IsPart c.caller env) f x.0) e x.2 in
+          let cell : load begun (inner z).first ≡ Int (pos m) = constant_cell z h.0 m x.0 h.2 x.1 t in
+          (ap num cell ∙ ap (dim_value env st) (sym q), ap is_positive cell ∙ positive_constant m (const m q))
+      by_case (variable y e q) =
+          let t : x.0 ≡ Cells (env y) = subst (λ (f : Expr). Matches env (IsPart c.caller env) f x.0) e x.2 in
+          let cell : load begun (inner z).first ≡ load st (env y).first = variable_cell z h.0 y x.0 h.2 x.1 t (of_call.names h.0 y (h.3 ∙ ap Some e)) in
+          (ap num cell ∙ ap (dim_value env st) (sym q), ap is_positive cell ∙ (ap (is_good_dim env st) (sym q) ∙ good))
+
+  agree_all : (ds bs : List Dim) → DimsAgree c.callee c.site.actuals ds bs → list_all (is_good_dim env st) bs ≡ true → ((m : ℕ) → IsAmong (Fixed m) bs → 1 ≤ m)
+      → (dim_values inner begun ds ≡ dim_values env st bs) × (list_all (is_good_dim inner begun) ds ≡ true)
+  agree_all [] [] h good const = (refl, refl)
+  agree_all [] (b ∷ bs) h good const = absurd h
+  agree_all (a ∷ ds) [] h good const = absurd h
+  agree_all (a ∷ ds) (b ∷ bs) h good const =
+      let g = both_true (is_good_dim env st b) (list_all (is_good_dim env st) bs) good in
+      let first : Agreed a b = agree_one a b h.0 g.0 (λ m q. const m (0, ap Some q)) in
+      let rest = agree_all ds bs h.1 g.1 (λ m k. const m (suc k.0, k.1)) in (
+        ap (λ (z : ℤ). z ∷ dim_values inner begun ds) first.0 ∙ ap (λ (zs : List ℤ). dim_value env st b ∷ zs) rest.0,
+        ap (λ (t : Bool). t && list_all (is_good_dim inner begun) ds) first.1 ∙ rest.1,
+      )
+
+  -- the size and the dimensions of an actual
+  record ActualShape (e : Expr) (x : Taken) : Type 0 where
+    size : pos (taken_size x) ≡ stretch (dim_values env st (dims_of_actual c.caller e))
+    good : list_all (is_good_dim env st) (dims_of_actual c.caller e) ≡ true
+    constants : (m : ℕ) → IsAmong (Fixed m) (dims_of_actual c.caller e) → 1 ≤ m
+
+  whole_shape : (y : Name) (x : Taken) → HasName c.caller y → x ≡ Cells (env y) → ActualShape (Var y) x
+  whole_shape y x has q =
+      let dims : has.its.dims ≡ dims_of c.caller y = ap dims_in (sym (found units i c.caller of_caller has.its has.among y has.name)) in
+      let shape : HasShape env st has.its = placed.shapes has.its has.among in
+      record {
+        size = ap (λ (t : Taken). pos (taken_size t)) q ∙ (ap (λ (w : Name). pos (env w).size) (sym has.name) ∙ (shape.size ∙ ap (λ (ds : List Dim). stretch (dim_values env st ds)) dims));
+        good = subst (λ (ds : List Dim). list_all (is_good_dim env st) ds ≡ true) dims shape.dims;
+        constants = subst (λ (ds : List Dim). (m : ℕ) → IsAmong (Fixed m) ds → 1 ≤ m) dims (λ m k. of_caller.constants has.its m has.among k);
+      }
+
+  part_shape : (e : Expr) (x : Taken) → dims_of_actual c.caller e ≡ [] → taken_size x ≡ 1 → ActualShape e x
+  part_shape e x q one = record {
+    size = ap pos one ∙ ap (λ (ds : List Dim). stretch (dim_values env st ds)) (sym q);
+    good = subst (λ (ds : List Dim). list_all (is_good_dim env st) ds ≡ true) (sym q) refl;
+    constants = subst (λ (ds : List Dim). (m : ℕ) → IsAmong (Fixed m) ds → 1 ≤ m) (sym q) (λ m k. absurd (cc));
+  }
+
+  actual_shape : (d : Name) (s : Seated d) → ActualShape s.actual s.taken
+  actual_shape d s = by_kind s.actual refl (whole_or_not c.caller s.actual)
+    where
+      whole : (y : Name) → s.actual ≡ Var y → ActualShape s.actual s.taken
+      whole y q =
+          subst (λ (f : Expr). ActualShape f s.taken) (sym q)
+          (whole_shape y s.taken (of_call.names s.at y (s.is_actual ∙ ap Some q)) (subst (λ (f : Expr). Matches env (IsPart c.caller env) f s.taken) q s.fits))
+
+      is_whole : (f : Expr) → ((y : Name) × (f ≡ Var y)) ⊎ ((y : Name) → f ≡ Var y → ⊥)
+      is_whole (Var y) = inl (y, refl)
+      is_whole (Const n) = inr (λ y q. cc)
+      is_whole (Truth b) = inr (λ y q. cc)
+      is_whole (Apply' g shape args) = inr (λ y q. cc)
+      is_whole (Paren' shape a) = inr (λ y q. cc)
+      is_whole (Pos' shape a) = inr (λ y q. cc)
+      is_whole (Neg' shape a) = inr (λ y q. cc)
+      is_whole (Power' shape a n) = inr (λ y q. cc)
+      is_whole (Bin' o p a r b) = inr (λ y q. cc)
+      is_whole (Rel' o p a r b) = inr (λ y q. cc)
+      is_whole (Not' shape a) = inr (λ y q. cc)
+      is_whole (And' p a r b) = inr (λ y q. cc)
+      is_whole (Or' p a r b) = inr (λ y q. cc)
+
+      by_whole : dims_of_actual c.caller s.actual ≡ [] → ((y : Name) × (s.actual ≡ Var y)) ⊎ ((y : Name) → s.actual ≡ Var y → ⊥) → ActualShape s.actual s.taken
+      by_whole q (inl w) = whole w.0 w.1
+      by_whole q (inr unlike) = part_shape s.actual s.taken q (part_size c.caller env s.actual s.taken q unlike s.fits)
+
+      by_kind : (e : Expr) → s.actual ≡ e → ((y : Name) × (s.actual ≡ Var y)) ⊎ (dims_of_actual c.caller s.actual ≡ []) → ActualShape s.actual s.taken
+      by_kind e q (inl w) = whole w.0 w.1
+      by_kind e q (inr z) = by_whole z (is_whole s.actual)
+
+  dummy_within : (d : Name) (s : Seated d) → Place d s → (inner d).first + (inner d).size ≤ length begun
+  dummy_within d s (old e q p) = subst (λ (f : Extent). f.first + f.size ≤ length begun) (sym p) (let w = old_within s.actual e (old_of d s e q) in let l = long in omega arith)
+  dummy_within d s (new y q p) = subst (λ (f : Extent). f.first + f.size ≤ length begun) (sym p) (let w = length-new_cells st ps s.at y q in let l = long in omega arith)
+
+  shape_by : (d : DataName) → IsVisible c.callee d → Root d → HasShape inner begun d
+  shape_by d v (common r s) =
+      let none_named : (x : Name) → IsAmong (Named x) d.dims → ⊥ = λ x m. roles_differ d.role r (of_callee.adjustables d x v.among m).array_is_dummy in
+      let shape : HasShape env st s.its = placed.shapes s.its s.among in
+      record {
+        within = subst (λ (f : Extent). f.first + f.size ≤ length begun) (ap env s.name ∙ sym s.place) (let w = shape.within in let l = long in omega arith);
+        size = ap (λ (f : Extent). pos f.size) (s.place ∙ ap env (sym s.name))
+            ∙ (shape.size ∙ (ap (λ (ds : List Dim). stretch (dim_values env st ds)) s.dims ∙ ap stretch (sym (fixed_values env inner st begun d.dims none_named))));
+        dims = fixed_good inner begun d.dims none_named;
+      }
+  shape_by d v (dummy r s agree) =
+      let a : ActualShape s.actual s.taken = actual_shape d.name s in
+      let g = agree_all d.dims (dims_of_actual c.caller s.actual) agree a.good a.constants in
+      record {
+        within = dummy_within d.name s (place_of d.name s);
+        size = ap (λ (f : Extent). pos f.size) s.place ∙ (ap pos (seat_size (copies (1 + s.at)) s.taken (length st + widths ps s.at)) ∙ (a.size ∙ ap stretch (sym g.0)));
+        dims = g.1;
+      }
+
+  pub callee_shapes : (d : DataName) → IsVisible c.callee d → HasShape inner begun d
+  callee_shapes d v = shape_by d v (root d v)

@@ -1,3 +1,4 @@
+pub mod FrameCalls
 pub mod FrameClaims
 pub mod FrameEnter
 pub mod FrameParts
