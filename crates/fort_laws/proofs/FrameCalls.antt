@@ -1,22 +1,18 @@
 -- A call changes only cells of names that the calling unit smashes, where runs of the called unit change only its own.
-use Rattle.std.proofs.Common.{◌≡◌, ◌≢◌, ℕ, zero, suc, ◌+◌, ◌-◌, ◌<◌, ◌≤◌, ◌⊎◌, inl, inr, Bool, true, false, List, [], ◌∷◌, ◌++◌, length, take, Option, Some, None, slice_get, refl, sym, ap, ◌∙◌, subst, arith, length-take-le, get_or-take, ext_get_or}
+use Rattle.std.proofs.Common.{◌≡◌, ℕ, ◌+◌, ◌-◌, ◌<◌, ◌≤◌, ◌⊎◌, inl, inr, Bool, true, false, List, length, take, Option, Some, None, slice_get, refl, sym, ap, ◌∙◌, subst, arith, length-take-le, get_or-take, ext_get_or}
 use Rattle.formula.specs.declared.value.Cell.{Cell}
 use Rattle.formula.specs.declared.value.Cell.TheVariants.{Undefined}
-use Rattle.fort_syntax.specs.declared.expr.Expr.{Expr}
-use Rattle.fort_syntax.specs.declared.expr.Expr.TheVariants.{Var}
-use Rattle.fort_syntax.specs.declared.unit.DataName.{DataName}
 use Rattle.fort_syntax.specs.declared.unit.Unit.{Unit as Routine}
-use Rattle.fort_model.specs.Calls.{CallSite, Calls, callee_of}
-use Rattle.fort_model.specs.Fits.{IsIn, IsVisible, IsApart, HasShape}
+use Rattle.fort_model.specs.Calls.{Calls, callee_of}
+use Rattle.fort_model.specs.Fits.{IsIn}
 use Rattle.fort_model.specs.Names.{unit_at}
 use Rattle.fort_model.specs.Outcome.{Outcome, Ended, Erred, Running, and_then}
 use Rattle.fort_model.specs.Passing.{Taken, Cells, Fresh, Passed, ByReference, ByCopy, ByValue, passed_by, passed, written_back, call}
 use Rattle.fort_model.specs.Processor.{Processor}
-use Rattle.fort_model.specs.Run.{run, run_within}
-use Rattle.fort_model.specs.Smashes.{Smashes}
+use Rattle.fort_model.specs.Run.{run_within}
 use Rattle.fort_model.specs.Storage.{Storage, Extent, Environment, load}
 use Rattle.fort_laws.specs.Frame.{IsSoundUnit, IsSoundCall, AreSound, IsSmashedCell, OthersKept, Changes, RunsChangeOnlySmashed, RunsWithoutSmashingChangeNothing}
-use Rattle.fort_laws.proofs.FrameClaims.{IsPart, IsCalled, RunFrame, CallFrame}
+use Rattle.fort_laws.proofs.FrameClaims.{IsPart, RunFrame, CallFrame}
 use Rattle.fort_laws.proofs.FrameParts.{IsOpen, IsPlaced}
 use Rattle.fort_laws.proofs.FrameRuns.{run_frame}
 use Rattle.fort_laws.proofs.FrameSeats.{at_fit, ps, inner, begun, long, same_below, new_at, Seated, Place, old, new, place_of, old_of, old_within, Shared, Root, common, dummy, root, actual_open, smashed_open, shared_below, inside_by, callee_apart, callee_shapes}

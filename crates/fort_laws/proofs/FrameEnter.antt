@@ -3,16 +3,15 @@ use Rattle.std.proofs.Common.{◌≡◌, ◌≢◌, ℕ, zero, suc, ◌+◌, ◌
 use Rattle.std.proofs.lemmas.List.{get_or_append_left}
 use Rattle.std.specs.Cmp.Lexicographic.{same_text, other_text}
 use Rattle.std.specs.List.{fold, list_all}
-use Rattle.formula.specs.declared.value.Cell.{Cell}
 use Rattle.formula.specs.declared.value.Cell.TheVariants.{Undefined}
 use Rattle.fort_syntax.specs.declared.name.Name.{Name}
 use Rattle.fort_syntax.specs.declared.stmt.Dim.{Dim}
 use Rattle.fort_syntax.specs.declared.stmt.Dim.TheVariants.{Fixed, Named}
 use Rattle.fort_syntax.specs.declared.unit.DataName.{DataName}
 use Rattle.fort_syntax.specs.declared.unit.Role.{Role}
-use Rattle.fort_syntax.specs.declared.unit.Role.TheVariants.{Dummy, InCommon, OwnValue, Local}
+use Rattle.fort_syntax.specs.declared.unit.Role.TheVariants.{Dummy}
 use Rattle.fort_syntax.specs.declared.unit.Unit.{Unit as Routine}
-use Rattle.fort_model.specs.Cells.{num, count}
+use Rattle.fort_model.specs.Cells.{num}
 use Rattle.fort_model.specs.Fits.{IsIn, IsVisible, IsApart, HasShape, is_good_dim, is_positive}
 use Rattle.fort_model.specs.Lists.{IsAmong}
 use Rattle.fort_model.specs.Names.{same_name, is_own, own_in, own_names}
@@ -20,8 +19,8 @@ use Rattle.fort_model.specs.Places.{dim_value, dim_values, stretch, size_of}
 use Rattle.fort_model.specs.Run.{own_sizes}
 use Rattle.fort_model.specs.Smashes.{Smashes}
 use Rattle.fort_model.specs.Storage.{Storage, Extent, Environment, load, with_extents, side_by_side}
-use Rattle.fort_laws.specs.Frame.{HasName, IsAdjustable, IsSoundUnit, IsSmashedCell, OthersKept}
-use Rattle.fort_laws.proofs.FrameParts.{ArePositive, good_dims, size_of_stretch, IsOpen, IsPlaced, Framed, Late, size_positive}
+use Rattle.fort_laws.specs.Frame.{IsAdjustable, IsSoundUnit, IsSmashedCell, OthersKept}
+use Rattle.fort_laws.proofs.FrameParts.{good_dims, size_of_stretch, IsOpen, IsPlaced, Framed, Late, size_positive}
 
 -- ---- equal names
 
@@ -193,9 +192,10 @@ module _ (units : List Routine) (i : ℕ) (u : Routine) (sound : IsSoundUnit uni
       let a : IsAdjustable units i u d x = sound.adjustables d x m k in
       let v : is_own a.has.its.role ≡ false = ap is_own a.is_dummy in
       let shape : HasShape env st a.has.its = shapes a.has.its (record { among = a.has.among; not_own = v }) in
-      let one : 1 ≤ (env a.has.its.name).size = size_positive (env a.has.its.name).size [] (shape.size ∙ ap (λ (ds : List Dim). stretch (dim_values env st ds)) a.is_scalar) tt in
-      (subst (λ (z : Name). own_env z ≡ env z) a.has.name (visible_env a.has.its a.has.among v),
-        same_below (env x).first (subst (λ (z : Name). (env z).first < length st) a.has.name (let w = shape.within in omega arith)))
+      let one : 1 ≤ (env a.has.its.name).size = size_positive (env a.has.its.name).size [] (shape.size ∙ ap (λ (ds : List Dim). stretch (dim_values env st ds)) a.is_scalar) tt in (
+        subst (λ (z : Name). own_env z ≡ env z) a.has.name (visible_env a.has.its a.has.among v),
+        same_below (env x).first (subst (λ (z : Name). (env z).first < length st) a.has.name (let w = shape.within in omega arith)),
+      )
 
   same_dim : (d : DataName) → IsAmong d u.names → (dim : Dim) → IsAmong dim d.dims → dim_value own_env entered dim ≡ dim_value env st dim
   same_dim d m (Fixed n) k = refl
@@ -276,5 +276,7 @@ module _ (units : List Routine) (i : ℕ) (u : Routine) (sound : IsSoundUnit uni
   seen_late after h = (let a = h.0 in let l = long in omega arith, seen_others after h.1)
 
   pub seen_left : (after : Storage) → Framed (IsOpen units i u own_env) entered after → Framed (IsSmashedCell units i u env) st (take (length st) after)
-  seen_left after h = (length-take-le (length st) after (let a = h.0 in let l = long in omega arith),
-      λ k lt unlike. get_or-take (length st) after k Undefined lt ∙ seen_others after h.1 k lt unlike)
+  seen_left after h = (
+    length-take-le (length st) after (let a = h.0 in let l = long in omega arith),
+    λ k lt unlike. get_or-take (length st) after k Undefined lt ∙ seen_others after h.1 k lt unlike,
+  )

@@ -1,8 +1,8 @@
 -- What is kept while a unit is run: its names' cells, and all cells but those of smashed names.
-use Rattle.std.proofs.Common.{◌≡◌, ◌≢◌, ℕ, zero, suc, ◌+◌, ◌*◌, ◌<◌, ◌≤◌, ◌⊎◌, inl, inr, Bool, true, false, cond, ◌&&◌, ℤ, pos, negsuc, ◌+ℤ◌, ◌-ℤ◌, ◌*ℤ◌, int_le, List, [], ◌∷◌, length, Option, Some, None, slice_get, refl, sym, ap, ◌∙◌, subst, arith, rules, length-set, get_or-set_other}
+use Rattle.std.proofs.Common.{◌≡◌, ◌≢◌, ℕ, zero, suc, ◌+◌, ◌*◌, ◌<◌, ◌≤◌, ◌⊎◌, inl, inr, Bool, true, false, cond, ◌&&◌, ℤ, pos, negsuc, ◌+ℤ◌, ◌-ℤ◌, ◌*ℤ◌, List, [], ◌∷◌, length, Some, refl, sym, ap, ◌∙◌, subst, arith, rules, length-set, get_or-set_other}
 use Rattle.std.proofs.Math.IntN.{pos-+ℤ-pos, pos-*ℤ-pos}
 use Rattle.std.specs.List.{list_all}
-use Rattle.std.specs.Prelude.{IsTrue, ◌==◌}
+use Rattle.std.specs.Prelude.{◌==◌}
 use Rattle.formula.specs.declared.value.Cell.{Cell}
 use Rattle.formula.specs.declared.value.Cell.TheVariants.{Int, Logical, Undefined}
 use Rattle.fort_syntax.specs.declared.name.Name.{Name}
@@ -13,14 +13,14 @@ use Rattle.fort_syntax.specs.declared.stmt.Stmt.TheVariants.{Subroutine, Functio
 use Rattle.fort_syntax.specs.declared.unit.DataName.{DataName}
 use Rattle.fort_syntax.specs.declared.unit.Line.{Line}
 use Rattle.fort_syntax.specs.declared.unit.Unit.{Unit as Routine}
-use Rattle.fort_model.specs.Cells.{num, lies_in, count}
+use Rattle.fort_model.specs.Cells.{num, count}
 use Rattle.fort_model.specs.Fits.{IsIn, HasShape, is_good_dim, is_positive}
 use Rattle.fort_model.specs.Flow.{target, Loop, loop_of, loops_from, loops_at}
 use Rattle.fort_model.specs.Lists.{IsAmong}
 use Rattle.fort_model.specs.Places.{dim_value, dim_values, stretch, stretch_on, size_of, place, place_on}
 use Rattle.fort_model.specs.Smashes.{Smashes, set_by}
 use Rattle.fort_model.specs.Storage.{Storage, Extent, Environment, load, store}
-use Rattle.fort_laws.specs.Frame.{HasName, IsAdjustable, IsSoundUnit, OthersKept}
+use Rattle.fort_laws.specs.Frame.{IsAdjustable, IsSoundUnit, OthersKept}
 use Rattle.fort_laws.proofs.PlaceBounds.{IsIndex, index_of, one_less, step_low, step_high, LiesIn}
 use Rattle.fort_laws.proofs.Kept.{AreIn, element_at}
 

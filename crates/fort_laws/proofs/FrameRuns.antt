@@ -1,5 +1,5 @@
 -- A unit changes only cells of names that it smashes, where its calls do.
-use Rattle.std.proofs.Common.{◌≡◌, ℕ, zero, suc, ◌+◌, ◌<◌, ◌≤◌, cond, ℤ, pos, List, [], ◌∷◌, length, Option, Some, None, slice_get, refl, sym, ap, ◌∙◌, subst, arith}
+use Rattle.std.proofs.Common.{◌≡◌, ℕ, zero, suc, cond, ℤ, pos, List, [], ◌∷◌, length, Option, Some, None, slice_get, refl, sym, ap, ◌∙◌, subst, arith}
 use Rattle.formula.specs.declared.value.Cell.{Cell}
 use Rattle.fort_syntax.specs.declared.name.Name.{Name}
 use Rattle.fort_syntax.specs.declared.stmt.Dim.{Dim}
@@ -19,11 +19,11 @@ use Rattle.fort_model.specs.Run.{run, run_within, from_point, leave, go_to, at_l
 use Rattle.fort_model.specs.Sites.{calls_before}
 use Rattle.fort_model.specs.Smashes.{Smashes, set_by, sets}
 use Rattle.fort_model.specs.Storage.{Storage, Extent, Environment}
-use Rattle.fort_laws.specs.Frame.{HasName, IsSoundUnit, AreSound, IsSmashedCell, OthersKept, Changes}
+use Rattle.fort_laws.specs.Frame.{HasName, IsSoundUnit, AreSound, IsSmashedCell, Changes}
 use Rattle.fort_laws.proofs.FrameClaims.{IsPart, IsCalled, RunFrame, CallFrame}
 use Rattle.fort_laws.proofs.FrameEnter.{SameOrNot, same, other, same_or_not, own_env, entered, entered_placed, seen_late, seen_left}
 use Rattle.fort_laws.proofs.FrameParts.{ArePositive, IsOpen, IsPlaced, Framed, Late, framed_late, framed_writes, first_in, element_within, positive, still_shaped, still_placed, loops_set}
-use Rattle.fort_laws.proofs.Kept.{AllMatch, AreIn, element_at, Comes, Does, Keeps, does_stuck, keeps_give, keeps_step, keeps_then, keeps_before, keeps_perform}
+use Rattle.fort_laws.proofs.Kept.{AllMatch, AreIn, element_at, Comes, Keeps, does_stuck, keeps_give, keeps_step, keeps_then, keeps_before, keeps_perform}
 
 -- the data name that is an array before a bracket
 named_in : (ds : List DataName) (f : Name) (d : Dim) (dims : List Dim) → dims_in (data_name_in ds f) ≡ d ∷ dims → (e : DataName) × IsAmong e ds × (e.name ≡ f) × (e.dims ≡ d ∷ dims)

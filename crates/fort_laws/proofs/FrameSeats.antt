@@ -1,8 +1,7 @@
 -- Where the names of a called unit have their cells.
-use Rattle.std.proofs.Common.{◌≡◌, ◌≢◌, ℕ, zero, suc, ◌+◌, ◌-◌, ◌<◌, ◌≤◌, ◌⊎◌, inl, inr, Bool, true, false, cond, ◌&&◌, ◌||◌, ℤ, pos, List, [], ◌∷◌, ◌++◌, length, Option, Some, None, slice_get, refl, sym, ap, ◌∙◌, subst, arith, rules, length-append, get_or-append-add}
+use Rattle.std.proofs.Common.{◌≡◌, ◌≢◌, ℕ, zero, suc, ◌+◌, ◌<◌, ◌≤◌, ◌⊎◌, inl, inr, Bool, true, false, cond, ◌&&◌, ◌||◌, ℤ, pos, List, [], ◌∷◌, ◌++◌, length, Some, slice_get, refl, sym, ap, ◌∙◌, subst, arith, rules, length-append, get_or-append-add}
 use Rattle.std.proofs.lemmas.List.{get_or_append_left}
 use Rattle.std.specs.List.{list_all}
-use Rattle.formula.specs.declared.value.Cell.{Cell}
 use Rattle.formula.specs.declared.value.Cell.TheVariants.{Int, Undefined}
 use Rattle.fort_syntax.specs.declared.name.Name.{Name}
 use Rattle.fort_syntax.specs.declared.expr.Expr.{Expr}
@@ -14,17 +13,17 @@ use Rattle.fort_syntax.specs.declared.unit.Role.{Role}
 use Rattle.fort_syntax.specs.declared.unit.Role.TheVariants.{Dummy, InCommon, OwnValue, Local}
 use Rattle.fort_syntax.specs.declared.unit.Unit.{Unit as Routine}
 use Rattle.fort_model.specs.Arguments.{mentions, row_mentions, dims_of_actual}
-use Rattle.fort_model.specs.Calls.{CallSite, Calls}
+use Rattle.fort_model.specs.Calls.{Calls}
 use Rattle.fort_model.specs.Cells.{num}
 use Rattle.fort_model.specs.Fits.{IsIn, IsVisible, IsApart, HasShape, is_good_dim, is_positive}
 use Rattle.fort_model.specs.Lists.{IsAmong}
 use Rattle.fort_model.specs.Names.{same_name, data_name_in, data_name, dims_in, dims_of, is_own}
-use Rattle.fort_model.specs.Passing.{Taken, Cells, Fresh, Passed, ByReference, ByCopy, ByValue, passed_by, passed, seats, new_cells}
+use Rattle.fort_model.specs.Passing.{Taken, Cells, Fresh, Passed, ByCopy, ByValue, passed_by, passed, seats, new_cells}
 use Rattle.fort_model.specs.Places.{dim_value, dim_values, stretch}
 use Rattle.fort_model.specs.Program.{has_common, has_role, is_in_common}
 use Rattle.fort_model.specs.Smashes.{Smashes, passes, shares}
 use Rattle.fort_model.specs.Storage.{Storage, Extent, Environment, load, with_extents}
-use Rattle.fort_laws.specs.Frame.{HasName, IsAdjustable, IsSoundUnit, IsDim, DimAgrees, DimsAgree, HasActual, IsSoundCall}
+use Rattle.fort_laws.specs.Frame.{HasName, IsSoundUnit, IsDim, DimAgrees, DimsAgree, IsSoundCall}
 use Rattle.fort_laws.proofs.FrameClaims.{IsPart}
 use Rattle.fort_laws.proofs.FrameEnter.{SameOrNot, same, other, same_or_not, fixed_good}
 use Rattle.fort_laws.proofs.FrameParts.{IsOpen, IsPlaced, one_cell}
@@ -271,7 +270,14 @@ module _ (units : List Routine) (i j : ℕ) (c : Calls units i j) (of_caller : I
       let x = fit_at env (IsPart c.caller env) c.site.actuals xs n e fit is_actual in
       let is_passed : slice_get ps n ≡ Some (passed_by (copies (1 + n)) x.0) = passed_at copies 1 xs n x.0 x.1 in
       record {
-        at = n; dummy = is_dummy; actual = e; is_actual = is_actual; taken = x.0; is_taken = x.1; fits = x.2; is_passed = is_passed;
+        at = n;
+        dummy = is_dummy;
+        actual = e;
+        is_actual = is_actual;
+        taken = x.0;
+        is_taken = x.1;
+        fits = x.2;
+        is_passed = is_passed;
         place = extents_at c.callee.dummies (seats ps (length st)) env n d _ of_callee.one_dummy is_dummy (seat_at ps (length st) n _ is_passed);
       }
 
@@ -320,7 +326,11 @@ module _ (units : List Routine) (i j : ℕ) (c : Calls units i j) (of_caller : I
   shared d m r =
       let s = of_call.commons d m r in
       record {
-        its = s.0; among = s.1; name = s.2; role = s.3; dims = s.4;
+        its = s.0;
+        among = s.1;
+        name = s.2;
+        role = s.3;
+        dims = s.4;
         place = extents_other c.callee.dummies (seats ps (length st)) env d.name (λ k. roles_differ d.role r (of_callee.roles d m k));
       }
 
@@ -376,7 +386,9 @@ module _ (units : List Routine) (i j : ℕ) (c : Calls units i j) (of_caller : I
   pub shared_open : (d : DataName) → IsAmong d c.callee.names → d.role ≡ InCommon → (s : Shared d) → Smashes units j d.name → (k : ℕ) → IsIn k (inner d.name) → IsOpen units i c.caller env k
   shared_open d m r s h k inside =
       record {
-        its = s.its; among = s.among; smashed = shared_smashed d m r s h;
+        its = s.its;
+        among = s.among;
+        smashed = shared_smashed d m r s h;
         cell = subst (λ (z : Name). IsIn k (env z)) (sym s.name) (subst (λ (z : Extent). IsIn k z) s.place inside);
       }
 

@@ -1,5 +1,5 @@
 -- Parts of runs that keep a property of storage, where parts of statements without calls do, and calls do.
-use Rattle.std.proofs.Common.{◌≡◌, ℕ, zero, suc, ◌+◌, Bool, true, false, cond, ◌&&◌, ℤ, pos, ◌-ℤ◌, List, [], ◌∷◌, ◌++◌, length, Option, Some, None, slice_get, nat_lt, refl, sym, ap, ◌∙◌, subst}
+use Rattle.std.proofs.Common.{◌≡◌, ℕ, zero, suc, ◌+◌, Bool, true, false, cond, ℤ, pos, ◌-ℤ◌, List, [], ◌∷◌, ◌++◌, length, Option, Some, None, slice_get, nat_lt, refl, sym, ap, subst}
 use mathlib.Core.Former.{Count}
 use Rattle.formula.specs.declared.value.Cell.{Cell}
 use Rattle.formula.specs.declared.value.Cell.TheVariants.{Int}
@@ -17,22 +17,21 @@ use Rattle.fort_syntax.specs.declared.stmt.Param.{Param}
 use Rattle.fort_syntax.specs.declared.stmt.Param.TheVariants.{Fixed, Named}
 use Rattle.fort_syntax.specs.declared.stmt.Stmt.{Stmt}
 use Rattle.fort_syntax.specs.declared.stmt.Stmt.TheVariants.{Subroutine, Function, Declare, Dimension, Common as CommonBlock, Assign, GoTo, Computed, ArithIf, LogicalIf', Do, Continue, Call, Return, End, BlockIf, ElseIf, Else, EndIf}
-use Rattle.fort_syntax.specs.declared.unit.Unit.{Unit as Routine}
 use Rattle.fort_model.specs.Lists.{IsAmong}
 use Rattle.fort_model.specs.Trees.{only, carried, row_of}
-use Rattle.fort_model.specs.Names.{Intrinsic, Absolute, Modulo, Greatest, Least, Applied, Element, BuiltIn, Reference, applied, function, subroutine, unit_at}
+use Rattle.fort_model.specs.Names.{Intrinsic, Absolute, Modulo, Greatest, Least, Applied, Element, BuiltIn, Reference, applied, unit_at}
 use Rattle.fort_model.specs.Sites.{calls_in}
-use Rattle.fort_model.specs.Flow.{target, Loop, loops_at, loops_around, around}
+use Rattle.fort_model.specs.Flow.{target, Loop, loops_at, around}
 use Rattle.fort_model.specs.Calls.{CallSite, listed, own_site, sites_in, sites_in_row, sites_of, callee_of}
 use Rattle.fort_model.specs.Cells.{num, is_defined, lies_in, count}
 use Rattle.fort_model.specs.Storage.{Storage, Extent, Environment, load, store}
 use Rattle.fort_model.specs.Places.{dim_values, place}
 use Rattle.fort_model.specs.Processor.{Processor}
 use Rattle.fort_model.specs.Smashes.{set_name, set_by}
-use Rattle.fort_model.specs.Outcome.{Outcome, Ended, Erred, Running, and_then, Act, ◌>>=◌, ◌>>◌, give, fail, check, step, stuck, held, put}
-use Rattle.fort_model.specs.Passing.{Taken, Cells, Fresh, Passed, passed, Caller, call}
+use Rattle.fort_model.specs.Outcome.{Outcome, Ended, Erred, Running, and_then, Act, ◌>>=◌, ◌>>◌, give, check, step, stuck, held, put}
+use Rattle.fort_model.specs.Passing.{Taken, Cells, Fresh, passed, Caller, call}
 use Rattle.fort_model.specs.Evaluate.{Scene, read, value_of, valued, ranged, constant, divisor, operate, power_on, intrinsic_value, numbers, subscripts_in, element, fresh, call_at, apply, taken, values, actuals, evaluate}
-use Rattle.fort_model.specs.Perform.{write_cell, assign, variable, parameter, step_value, tests, go_on, pass_over, begin, select, result, perform}
+use Rattle.fort_model.specs.Perform.{write_cell, assign, parameter, step_value, tests, go_on, pass_over, begin, select, result, perform}
 
 -- ---- what stands in joined lists
 

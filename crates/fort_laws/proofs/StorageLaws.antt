@@ -1,12 +1,11 @@
 -- Cells of storage after writes, and of the storage of a call.
-use Rattle.std.proofs.Common.{◌≡◌, ◌≢◌, ℕ, zero, suc, ◌+◌, ◌-◌, ◌<◌, ◌≤◌, ◌⊎◌, inl, inr, Bool, true, false, List, [], ◌∷◌, ◌++◌, length, Option, Some, None, slice_get, refl, sym, ap, ◌∙◌, subst, arith, length-append, length-set, get_or-append-add, get_or-set_same, get_or-set_other}
+use Rattle.std.proofs.Common.{◌≡◌, ℕ, zero, suc, ◌+◌, ◌-◌, ◌<◌, ◌≤◌, ◌⊎◌, inl, inr, Bool, List, [], ◌∷◌, ◌++◌, length, Some, slice_get, refl, sym, ap, ◌∙◌, subst, arith, length-append, length-set, get_or-append-add, get_or-set_same, get_or-set_other}
 use Rattle.std.proofs.lemmas.List.{get_or_append_left}
 use Rattle.formula.specs.declared.value.Cell.{Cell}
 use Rattle.formula.specs.declared.value.Cell.TheVariants.{Undefined}
-use Rattle.fort_syntax.specs.declared.name.Name.{Name}
 use Rattle.fort_model.specs.Fits.{IsIn}
-use Rattle.fort_model.specs.Storage.{Storage, Extent, Environment, load, store, contents, write, with_extents, side_by_side}
-use Rattle.fort_model.specs.Passing.{Taken, Cells, Fresh, Passed, ByReference, ByCopy, ByValue, passed_by, passed, seats, new_cells, written_back}
+use Rattle.fort_model.specs.Storage.{Storage, Extent, load, store, contents, write}
+use Rattle.fort_model.specs.Passing.{Taken, Passed, ByReference, ByCopy, ByValue, passed_by, passed, seats, new_cells, written_back}
 use Rattle.fort_laws.proofs.Tied.{at_most_or}
 
 -- ---- contents and writes
@@ -190,8 +189,10 @@ pub copies_hold : (long k : ℕ) (st : Storage) (xs : List Passed) (next : ℕ)
 copies_hold long k st [] next h = tt
 copies_hold long k st (ByReference e ∷ xs) next h = copies_hold long k st xs next (λ n f g. h (suc n) f g)
 copies_hold long k st (ByCopy e ∷ xs) next h =
-    let first = h 0 e refl in
-    (first.0, (λ inside. ap (load st) (omega arith) ∙ first.1 inside),
-      copies_hold long k st xs (next + e.size) (λ n f g. let r = h (suc n) f g in (r.0, λ inside. ap (load st) (omega arith) ∙ r.1 inside)))
+    let first = h 0 e refl in (
+      first.0,
+      (λ inside. ap (load st) (omega arith) ∙ first.1 inside),
+      copies_hold long k st xs (next + e.size) (λ n f g. let r = h (suc n) f g in (r.0, λ inside. ap (load st) (omega arith) ∙ r.1 inside)),
+    )
 copies_hold long k st (ByValue c ∷ xs) next h =
     copies_hold long k st xs (next + 1) (λ n f g. let r = h (suc n) f g in (r.0, λ inside. ap (load st) (omega arith) ∙ r.1 inside))

@@ -11,7 +11,7 @@ use Rattle.fort_syntax.specs.declared.unit.Line.{Line}
 use Rattle.fort_syntax.specs.declared.unit.Role.TheVariants.{Dummy, InCommon}
 use Rattle.fort_syntax.specs.declared.unit.Unit.{Unit as Routine}
 use Rattle.fort_model.specs.Arguments.{mentions, dims_of_actual}
-use Rattle.fort_model.specs.Calls.{CallSite, Calls}
+use Rattle.fort_model.specs.Calls.{Calls}
 use Rattle.fort_model.specs.Fits.{IsVisible, IsIn, IsApart, HasShape}
 use Rattle.fort_model.specs.Lists.{IsAmong}
 use Rattle.fort_model.specs.Outcome.{Outcome, Ended, Erred, Running}
