@@ -63,20 +63,20 @@ applied_sort u f (BuiltIn i) = Some Integer
 applied_sort u f Reference = reference_sort u.functions f
 
 -- the type of an expression; none where a name in it has none
-abbrev pub sort_of : Routine → Expr → Option Sort
-sort_of u (Const c) = Some Integer
-sort_of u (Truth b) = Some Logical
-sort_of u (Var x) = data_sort (data_name u x)
-sort_of u (Apply' f _ args) = applied_sort u f (applied u f)
-sort_of u (Paren' _ (only a)) = sort_of u a
-sort_of u (Pos' _ (only a)) = Some Integer
-sort_of u (Neg' _ (only a)) = Some Integer
-sort_of u (Power' _ (only a) n) = Some Integer
-sort_of u (Bin' o _ (only a) _ (only b)) = Some Integer
-sort_of u (Rel' o _ (only a) _ (only b)) = Some Logical
-sort_of u (Not' _ (only a)) = Some Logical
-sort_of u (And' _ (only a) _ (only b)) = Some Logical
-sort_of u (Or' _ (only a) _ (only b)) = Some Logical
+abbrev pub sort_of_expr : Routine → Expr → Option Sort
+sort_of_expr u (Const c) = Some Integer
+sort_of_expr u (Truth b) = Some Logical
+sort_of_expr u (Var x) = data_sort (data_name u x)
+sort_of_expr u (Apply' f _ args) = applied_sort u f (applied u f)
+sort_of_expr u (Paren' _ (only a)) = sort_of_expr u a
+sort_of_expr u (Pos' _ (only a)) = Some Integer
+sort_of_expr u (Neg' _ (only a)) = Some Integer
+sort_of_expr u (Power' _ (only a) n) = Some Integer
+sort_of_expr u (Bin' o _ (only a) _ (only b)) = Some Integer
+sort_of_expr u (Rel' o _ (only a) _ (only b)) = Some Logical
+sort_of_expr u (Not' _ (only a)) = Some Logical
+sort_of_expr u (And' _ (only a) _ (only b)) = Some Logical
+sort_of_expr u (Or' _ (only a) _ (only b)) = Some Logical
 
 -- ---- dimensions
 
@@ -85,11 +85,11 @@ abbrev pub dims_of_actual : Routine → Expr → List Dim
 dims_of_actual u (Var x) = dims_of u x
 dims_of_actual u _ = []
 
--- an actual is a dimension: the same constant, written bare, or the same name
-abbrev pub is_dim : Option Expr → Dim → Bool
-is_dim (Some (Const c)) (Fixed n) = c == n
-is_dim (Some (Var y)) (Named x) = same_name y x
-is_dim _ d = false
+-- an actual gives a dimension: the same constant, written bare, or the same name
+abbrev pub gives_dim : Option Expr → Dim → Bool
+gives_dim (Some (Const c)) (Fixed n) = c == n
+gives_dim (Some (Var y)) (Named x) = same_name y x
+gives_dim _ d = false
 
 -- the actual for a dummy
 abbrev pub actual_for : List Name → List Expr → Name → Option Expr
@@ -105,7 +105,7 @@ same_constant n (Named x) = false
 -- the actual's dimension
 abbrev pub dim_agrees : Routine → List Expr → Dim → Dim → Bool
 dim_agrees g es (Fixed n) d = same_constant n d
-dim_agrees g es (Named x) d = is_dim (actual_for g.dummies es x) d
+dim_agrees g es (Named x) d = gives_dim (actual_for g.dummies es x) d
 
 abbrev pub dims_agree : Routine → List Expr → List Dim → List Dim → Bool
 dims_agree g es [] [] = true
@@ -116,7 +116,7 @@ dims_agree g es _ _ = false
 
 abbrev pub fits_dummy : Routine → List Expr → Routine → Option DataName → Expr → Bool
 fits_dummy g es u None e = false
-fits_dummy g es u (Some d) e = same_sort_as d.sort (sort_of u e) && dims_agree g es d.dims (dims_of_actual u e)
+fits_dummy g es u (Some d) e = same_sort_as d.sort (sort_of_expr u e) && dims_agree g es d.dims (dims_of_actual u e)
 
 -- each actual of a call of g in u matches its dummy
 abbrev pub all_fit : Routine → List Expr → Routine → List Name → List Expr → Bool

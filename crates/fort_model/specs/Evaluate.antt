@@ -1,6 +1,7 @@
 -- How expressions are evaluated: operands from the left, and before their operators.
-use Rattle.std.specs.Prelude.{ℕ, zero, suc, pred, ◌+◌, true, false, cond, not, ◌&&◌, ◌||◌, ℤ, pos, ◌-ℤ◌, ◌*ℤ◌, neg_ℤ, int_le, int_lt, int_div, unsigned_abs, List, [], ◌∷◌, Option}
+use Rattle.std.specs.Prelude.{ℕ, zero, suc, pred, ◌+◌, true, false, cond, not, ◌&&◌, ◌||◌, ℤ, pos, ◌-ℤ◌, ◌*ℤ◌, neg_ℤ, int_le, List, [], ◌∷◌, Option}
 use mathlib.Core.Former.{Count}
+use Rattle.formula.specs.Values.{count, is_between, quotient, remainder, absolute, greater, smaller}
 use Rattle.formula.specs.declared.value.Cell.{Cell}
 use Rattle.formula.specs.declared.value.Cell.TheVariants.{Int, Logical, Undefined}
 use Rattle.fort_syntax.specs.declared.name.Name.{Name}
@@ -14,7 +15,7 @@ use Rattle.fort_syntax.specs.declared.unit.Unit.{Unit as Routine}
 use Rattle.fort_model.specs.Trees.{only}
 use Rattle.fort_model.specs.Names.{Intrinsic, Absolute, Modulo, Greatest, Least, Applied, Element, BuiltIn, Reference, applied, function, unit_at}
 use Rattle.fort_model.specs.Sites.{calls_in}
-use Rattle.fort_model.specs.Cells.{num, holds, is_defined, same_cell, count, lies_in, arithmetic, compares}
+use Rattle.fort_model.specs.Cells.{num, holds, is_defined, same, arithmetic, compares}
 use Rattle.fort_model.specs.Storage.{Extent, Environment, load}
 use Rattle.fort_model.specs.Places.{dim_values, place}
 use Rattle.fort_model.specs.Processor.{Processor}
@@ -48,7 +49,7 @@ valued card take = do
 -- a number must be one of the processor's integers
 abbrev pub ranged : Processor → ℕ → ℤ → Act Cell
 ranged p card z = do
-  check RangeCheck card (lies_in p.least p.greatest z)
+  check RangeCheck card (is_between p.least p.greatest z)
   give (Int z)
 
 abbrev pub constant : Processor → ℕ → ℕ → Act Cell
@@ -57,7 +58,7 @@ constant p card c = do
   give (Int (pos c))
 
 abbrev pub divisor : ℕ → Cell → Act (Unit {0})
-divisor card c = check DivisorCheck card (not (same_cell c (Int (pos 0))))
+divisor card c = check DivisorCheck card (not (same c (Int (pos 0))))
 
 -- + - * and /
 abbrev pub operate : Processor → ℕ → BinOp → Cell → Cell → Act Cell
@@ -76,24 +77,18 @@ power_on p card base (suc more) product = do
 abbrev pub power : Processor → ℕ → ℤ → ℕ → Act Cell
 power p card base exponent = power_on p card base (pred exponent) base
 
--- the greater and the smaller of two numbers, and such a function on several numbers from the left
-abbrev pub greater : ℤ → ℤ → ℤ
-greater a b = cond (int_lt a b) b a
-
-abbrev pub smaller : ℤ → ℤ → ℤ
-smaller a b = cond (int_lt b a) b a
-
+-- a function of two numbers on several, from the left
 abbrev pub folded : (ℤ → ℤ → ℤ) → ℤ → List Cell → ℤ
 folded f z [] = z
 folded f z (c ∷ cs) = folded f (f z (num c)) cs
 
 -- the intrinsic functions on the values of their arguments
 abbrev pub intrinsic_value : Processor → ℕ → Intrinsic → List Cell → Act Cell
-intrinsic_value p card Absolute (a ∷ []) = ranged p card (pos (unsigned_abs (num a)))
+intrinsic_value p card Absolute (a ∷ []) = ranged p card (absolute (num a))
 intrinsic_value p card Modulo (a ∷ b ∷ []) = do
   divisor card b
-  q ← ranged p card (int_div (num a) (num b))
-  give (Int (num a -ℤ num q *ℤ num b))
+  ranged p card (quotient (num a) (num b))
+  give (Int (remainder (num a) (num b)))
 intrinsic_value p card Greatest (a ∷ cs) = give (Int (folded greater (num a) cs))
 intrinsic_value p card Least (a ∷ cs) = give (Int (folded smaller (num a) cs))
 intrinsic_value p card i cs = give Undefined
@@ -105,7 +100,7 @@ numbers (c ∷ cs) = num c ∷ numbers cs
 -- each subscript must lie from 1 to its dimension; they are judged in order
 abbrev pub subscripts_in : ℕ → List ℤ → List ℤ → Act (Unit {0})
 subscripts_in card (s ∷ ss) (d ∷ ds) = do
-  check SubscriptCheck card (lies_in (pos 1) d s)
+  check SubscriptCheck card (is_between (pos 1) d s)
   subscripts_in card ss ds
 subscripts_in card _ _ = give tt
 

@@ -1,5 +1,5 @@
 -- What a walk meets, and what it comes to.
-use Rattle.std.specs.Prelude.{ℕ, suc, Bool, true, false, cond, nat_le, ◌==◌, List, [], ◌∷◌, ◌++◌, map}
+use Rattle.std.specs.Prelude.{ℕ, suc, Bool, true, false, cond, nat_le, ◌==◌, List, [], ◌∷◌}
 use Rattle.formula.specs.declared.value.Value.{Value}
 use Rattle.formula.specs.Values.{holds}
 use Rattle.fort_syntax.specs.declared.condition.Kind.{Kind}

@@ -1,5 +1,5 @@
 -- Storage that a unit may be run on: its names lie apart, and their cells have their names' sizes and types.
-use Rattle.std.specs.Prelude.{◌≡◌, ◌≢◌, ◌≤◌, ◌<◌, ℕ, ◌+◌, Bool, true, false, ℤ, pos, int_le, List, [], ◌∷◌, length, IsTrue}
+use Rattle.std.specs.Prelude.{◌≡◌, ◌≢◌, ◌≤◌, ◌<◌, ℕ, ◌+◌, Bool, true, false, pos, int_le, List, length, IsTrue}
 use Rattle.std.specs.List.{list_all}
 use Rattle.formula.specs.declared.value.Cell.{Cell}
 use Rattle.formula.specs.declared.value.Cell.TheVariants.{Int, Logical, Undefined}
@@ -49,12 +49,16 @@ pub record HasShape (env : Environment) (st : Storage) (d : DataName) : Type 0 w
   pub size : pos (env d.name).size ≡ stretch (dim_values env st d.dims)
   pub dims : IsTrue (list_all (is_good_dim env st) d.dims)
 
+-- each visible name of a unit has the shape that its dimensions say
+abbrev pub HaveShapes : Routine → Environment → Storage → Type 0
+HaveShapes u env st = (d : DataName) → IsVisible u d → HasShape env st d
+
 -- a cell is undefined, or has a type, and is in the processor's range
 abbrev pub has_sort : Processor → Sort → Cell → Bool
 has_sort p sort.Integer c = is_integer_cell p.least p.greatest c
 has_sort p sort.Logical c = is_logical_cell c
 
--- each visible name has the shape that its dimensions say, and cells of its type
+-- each visible name has its shape, and cells of its type
 pub record Fits (p : Processor) (u : Routine) (env : Environment) (st : Storage) : Type 0 where
-  pub shapes : (d : DataName) → IsVisible u d → HasShape env st d
+  pub shapes : HaveShapes u env st
   pub sorts : (d : DataName) → IsVisible u d → IsTrue (list_all (has_sort p d.sort) (contents st (env d.name).first (env d.name).size))

@@ -1,5 +1,6 @@
 -- What one statement does. It answers the choices that the values make, by which the flow goes on.
 use Rattle.std.specs.Prelude.{ℕ, suc, ◌+◌, Bool, true, false, cond, ◌&&◌, ℤ, pos, ◌+ℤ◌, ◌-ℤ◌, int_le, int_lt, List, [], ◌∷◌, length, Option, Some, None, slice_get}
+use Rattle.formula.specs.Values.{count, is_between}
 use Rattle.formula.specs.declared.value.Cell.{Cell}
 use Rattle.formula.specs.declared.value.Cell.TheVariants.{Int, Undefined}
 use Rattle.fort_syntax.specs.declared.name.Name.{Name}
@@ -15,7 +16,7 @@ use Rattle.fort_model.specs.Trees.{carried, row_of}
 use Rattle.fort_model.specs.Names.{is_function, subroutine}
 use Rattle.fort_model.specs.Sites.{calls_in}
 use Rattle.fort_model.specs.Flow.{target, Loop, loops_at, loops_around}
-use Rattle.fort_model.specs.Cells.{num, holds, is_defined, same_cell, count, lies_in}
+use Rattle.fort_model.specs.Cells.{num, holds, is_defined, same}
 use Rattle.fort_model.specs.Storage.{load, store}
 use Rattle.fort_model.specs.Outcome.{Act, ◌>>=◌, ◌>>◌, give, check, step, stuck, held, put}
 use Rattle.fort_model.specs.Passing.{Taken, Cells, Fresh, Caller}
@@ -102,16 +103,16 @@ begin SeventySeven s card last pc x m1 m2 m3 = do
 -- a computed GO TO with so many labels; under 77 a number that counts none of them goes on behind it
 abbrev pub select : Dialect → Scene → ℕ → ℕ → ℕ → ℤ → Act (List ℕ)
 select Common s card pc labels i = do
-  check ChoiceCheck card (lies_in (pos 1) (pos labels) i)
+  check ChoiceCheck card (is_between (pos 1) (pos labels) i)
   give (count i ∷ [])
 select SeventySeven s card pc labels i =
-    cond (lies_in (pos 1) (pos labels) i) (give (count i ∷ [])) do
+    cond (is_between (pos 1) (pos labels) i) (give (count i ∷ [])) do
       choices ← go_on s card pc
       give (suc labels ∷ choices)
 
 -- 1 for a negative value, 2 for zero, 3 for a positive one
 abbrev pub sign_choice : Cell → ℕ
-sign_choice v = cond (int_lt (num v) (pos 0)) 1 (cond (same_cell v (Int (pos 0))) 2 3)
+sign_choice v = cond (int_lt (num v) (pos 0)) 1 (cond (same v (Int (pos 0))) 2 3)
 
 abbrev pub truth_choice : Bool → ℕ
 truth_choice b = cond b 1 2

@@ -1,5 +1,5 @@
 -- Programs: the units of a deck with what their notes say, as the walks, the conditions and the theorem see them.
-use Rattle.std.specs.Prelude.{ℕ, suc, Bool, ◌&&◌, ◌==◌, not, cond, List, [], ◌∷◌, ◌++◌, map, Option, Some, None, slice_get}
+use Rattle.std.specs.Prelude.{ℕ, Bool, ◌==◌, cond, List, [], ◌∷◌, ◌++◌, map, Option, Some, None, slice_get}
 use Rattle.std.specs.List.{list_any, filter}
 use Rattle.formula.specs.Tree.{Tree}
 use Rattle.formula.specs.Worth.{Function}

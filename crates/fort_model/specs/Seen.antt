@@ -1,5 +1,5 @@
 -- What a part of a walk answers, and the symbols of calls.
-use Rattle.std.specs.Prelude.{ℕ, suc, List, [], ◌∷◌, ◌++◌}
+use Rattle.std.specs.Prelude.{ℕ, suc, List, [], ◌++◌}
 use Rattle.fort_syntax.specs.declared.name.Name.{Name}
 use Rattle.fort_model.specs.Events.{Event}
 use Rattle.fort_model.specs.Senses.{Sense}

@@ -2,7 +2,7 @@
 -- for. In the sense of values, names stand for values, and functions are computed: so the checks of a walk hold or
 -- fail. In the sense of terms, names stand for terms, and functions are only written: so the checks are the goals of
 -- conditions. In the sense of nothing, what names stand for is left out: so kinds and cards of checks remain.
-use Rattle.std.specs.Prelude.{ℕ, ℤ, pos, neg_ℤ, Bool, cond, List, [], ◌∷◌, codes}
+use Rattle.std.specs.Prelude.{ℕ, ℤ, pos, Bool, cond, List, [], ◌∷◌, codes}
 use Rattle.formula.specs.declared.function.BuiltIn.{BuiltIn as Builtin}
 use Rattle.formula.specs.declared.function.BuiltIn.TheVariants as f
 use Rattle.formula.specs.declared.function.Func.TheVariants.{BuiltIn}

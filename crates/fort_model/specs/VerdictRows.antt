@@ -6,12 +6,11 @@ use Rattle.formula.specs.declared.value.Value.TheVariants.{Int, Logical, Undefin
 use Rattle.formula.specs.Tree.{Tree, symbol, old}
 use Rattle.fort_syntax.specs.declared.dialect.Dialect.TheVariants.{Common}
 use Rattle.fort_syntax.specs.declared.expr.Expr.TheVariants.{Const, Var}
-use Rattle.fort_syntax.specs.declared.dialect.BinOp.TheVariants.{Add}
 use Rattle.fort_syntax.specs.declared.name.Name.{Name}
 use Rattle.fort_syntax.specs.declared.stmt.Stmt.TheVariants.{Assign, Call, Return}
 use Rattle.fort_syntax.specs.declared.unit.Role.TheVariants.{Dummy, Local}
 use Rattle.fort_syntax.specs.declared.unit.Unit.{Unit as Routine}
-use Rattle.fort_model.specs.Decks.{bin, applied_to, line, scalar, routine}
+use Rattle.fort_model.specs.Decks.{applied_to, line, scalar, routine}
 use Rattle.fort_model.specs.Rows.{F, I, J, K, M, inc, twice, swap, rotate, successor}
 use Rattle.fort_model.specs.Program.{Program, Notes}
 use Rattle.fort_model.specs.Senses.{of_values}
@@ -20,7 +19,8 @@ use Rattle.fort_model.specs.Names.{same_name}
 use Rattle.fort_model.specs.Events.{Verdict, Good, Fails, Off, verdict}
 use Rattle.fort_model.specs.Walk.{falls}
 use Rattle.fort_model.specs.Conditions.{sight, walked_by}
-use Rattle.fort_model.specs.WalkRows.{term, defined, plain_notes, inc_program, twice_program, the_path, from_assert}
+use Rattle.fort_model.specs.WalkRows.{term, defined, inc_program, the_path}
+use Rattle.fort_model.specs.CheckRows.{twice_program, from_assert}
 
 -- ---- values of symbols
 
@@ -65,7 +65,7 @@ WalksKeepTheBound =
 abbrev pub WalksPastLoops : Type 0
 WalksPastLoops =
     verdict (walked_by (twice_program Common) 0 twice (given ((AtStart I, int_value 2) ∷ (AtStart J, int_value 2) ∷ []))
-      (from_assert 1 ((2 ∷ 2 ∷ []) ∷ [] ∷ [] ∷ [])))
+    (from_assert 1 ((2 ∷ 2 ∷ []) ∷ [] ∷ [] ∷ [])))
     ≡ Fails 5
 
 -- ---- clocks
@@ -142,9 +142,9 @@ rotate_program = two_units swap swap_notes rotate rotate_notes (I ∷ J ∷ K �
 abbrev pub walk_of_rotate : ℕ → ℕ → ℕ → ℕ → Verdict
 walk_of_rotate i j j2 k2 =
     verdict (walked_by rotate_program 1 rotate
-      (given ((AtEntry I, int_value 1) ∷ (AtEntry J, int_value 2) ∷ (AtEntry K, int_value 3)
-      ∷ (AfterCall I 1, int_value i) ∷ (AfterCall J 1, int_value j) ∷ (AfterCall J 2, int_value j2) ∷ (AfterCall K 2, int_value k2) ∷ []))
-      (the_path ([] ∷ [] ∷ [] ∷ [])))
+    (given ((AtEntry I, int_value 1) ∷ (AtEntry J, int_value 2) ∷ (AtEntry K, int_value 3)
+    ∷ (AfterCall I 1, int_value i) ∷ (AfterCall J 1, int_value j) ∷ (AfterCall J 2, int_value j2) ∷ (AfterCall K 2, int_value k2) ∷ []))
+    (the_path ([] ∷ [] ∷ [] ∷ [])))
 
 -- OUTPUT of a called unit is no check: where it is false the walk goes off
 abbrev pub CallsTakeOutput : Type 0
@@ -171,8 +171,8 @@ function_program =
 abbrev pub walk_of_functions : Value → Value → Verdict
 walk_of_functions first second =
     verdict (walked_by function_program 1 adds_two
-      (given ((AtEntry I, int_value 5) ∷ (ResultOf F 1, first) ∷ (ResultOf F 2, second) ∷ []))
-      (the_path ([] ∷ [] ∷ [])))
+    (given ((AtEntry I, int_value 5) ∷ (ResultOf F 1, first) ∷ (ResultOf F 2, second) ∷ []))
+    (the_path ([] ∷ [] ∷ [])))
 
 -- the first value is the actual of the second call; a value that is undefined goes off
 abbrev pub FunctionsInOneAnother : Type 0

@@ -1,20 +1,18 @@
 -- The walk along a path: what holds at its start, the statements that it performs, and the checks at its end.
-use Rattle.std.specs.Prelude.{ℕ, zero, suc, ℤ, pos, neg_ℤ, Bool, cond, List, [], ◌∷◌, ◌++◌, map, Option, Some, None, slice_get}
+use Rattle.std.specs.Prelude.{ℕ, zero, suc, pos, neg_ℤ, Bool, cond, List, [], ◌∷◌, ◌++◌, map, Option, Some, None, slice_get}
 use Rattle.std.specs.List.{filter, list_any}
 use Rattle.formula.specs.declared.function.BuiltIn.TheVariants.{And, Or, Less, AtMost}
-use Rattle.formula.specs.Tree.{Tree}
 use Rattle.fort_syntax.specs.declared.name.Name.{Name}
 use Rattle.fort_syntax.specs.declared.condition.Kind.TheVariants.{AssertCheck, ClockCheck, FallCheck, OutputCheck}
 use Rattle.fort_syntax.specs.declared.stmt.Dim.{Dim}
 use Rattle.fort_syntax.specs.declared.stmt.Dim.TheVariants.{Fixed, Named as Adjustable}
-use Rattle.fort_syntax.specs.declared.unit.DataName.{DataName}
 use Rattle.fort_syntax.specs.declared.unit.Line.{Line}
 use Rattle.fort_syntax.specs.declared.unit.Unit.{Unit as Routine}
 use Rattle.fort_model.specs.Names.{same_name, data_name, is_own}
 use Rattle.fort_model.specs.Flow.{leads}
-use Rattle.fort_model.specs.Program.{Program, Assertion, Notes, notes_of, is_smashed, has_role, is_own_value, is_local, commons, names_with}
+use Rattle.fort_model.specs.Program.{Assertion, Notes, notes_of, is_smashed, has_role, is_own_value, is_local, commons, names_with}
 use Rattle.fort_model.specs.Symbols.{AtEntry, AtStart}
-use Rattle.fort_model.specs.Senses.{Sense, natural, make2, least_integer, greatest_integer, is_defined, note}
+use Rattle.fort_model.specs.Senses.{natural, make2, least_integer, greatest_integer, is_defined, note}
 use Rattle.fort_model.specs.Events.{Event, Check, checks, takes}
 use Rattle.fort_model.specs.Seen.{Named, Answers, symbols_of_calls}
 use Rattle.fort_model.specs.Paths.{Cut, NoCut, AtEnd, AtAssert, cut_at, Path}
@@ -46,11 +44,12 @@ module _ {V : Type 0} (w : Sight V) where
 
   -- ---- the start
 
-  -- what names stand for at the entry: a dummy and a COMMON entity for the symbol of its entry value, where it is one
-  -- cell or an array alike; any other name for new cells
+  -- the symbol of a name's entry value
   abbrev pub entry_symbol : Named V
   entry_symbol x = w.sense.named (AtEntry x)
 
+  -- what names stand for at the entry: dummies and COMMON entities for the symbols of their entry values, the other data
+  -- names for new cells
   abbrev pub at_entry : Named V
   at_entry x = cond (has_role is_own (data_name w.unit x)) (blank w.sense w.unit entry_symbol x) (entry_symbol x)
 

@@ -88,12 +88,12 @@ module _ {V : Type 0} (w : Sight V) where
   entered last pc now m1 m2 [] = see now
   entered last pc now m1 m2 (c ∷ cs) =
       cond (c == 1)
-          (do
-            taken (make2 w.sense AtMost m1 m2)
-            see now)
-          (do
-            taken (make2 w.sense Less m2 m1)
-            passed_over last pc now cs)
+      (do
+        taken (make2 w.sense AtMost m1 m2)
+        see now)
+      (do
+        taken (make2 w.sense Less m2 m1)
+        passed_over last pc now cs)
 
   -- a DO with its first value, last value and step
   abbrev pub begin : Dialect → ℕ → ℕ → ℕ → Named V → Name → V → V → V → List ℕ → See V (Named V)
@@ -117,12 +117,12 @@ module _ {V : Type 0} (w : Sight V) where
     see now
   select SeventySeven card pc now labels i c cs =
       cond (c == suc labels)
-          (do
-            taken (negated w.sense (counts_label labels i))
-            behind card pc now cs)
-          (do
-            taken (make2 w.sense Equal i (natural w.sense c))
-            see now)
+      (do
+        taken (negated w.sense (counts_label labels i))
+        behind card pc now cs)
+      (do
+        taken (make2 w.sense Equal i (natural w.sense c))
+        see now)
 
   abbrev pub selected : ℕ → ℕ → Named V → ℕ → V → List ℕ → See V (Named V)
   selected card pc now labels i [] = see now

@@ -1,47 +1,7 @@
-// What walks along paths of small decks meet.
-ghost use Rattle.fort_model.specs.WalkRows.{ConditionsOfInc, ChecksOfQuotients, ChecksOfSubscripts, ChecksOfLoop, ChecksOfTwice, ChecksOfNest, ChecksOfSign, ChecksOfPick, ChecksOfUpTo};
+// The conditions of a small deck, whole.
+ghost use Rattle.fort_model.specs.WalkRows.{ConditionsOfInc};
 
 /// The conditions of an assignment, each with all its hypotheses.
 pub fn conditions_of_inc()
     ensures { ConditionsOfInc }
-{}
-
-/// Divisors, quotients and negative numbers are checked where they stand.
-pub fn checks_of_quotients()
-    ensures { ChecksOfQuotients }
-{}
-
-/// Each subscript is checked against its dimension.
-pub fn checks_of_subscripts()
-    ensures { ChecksOfSubscripts }
-{}
-
-/// The three paths of a loop with an ASSERT.
-pub fn checks_of_loop()
-    ensures { ChecksOfLoop }
-{}
-
-/// The four paths of two DOs with one last statement.
-pub fn checks_of_twice()
-    ensures { ChecksOfTwice }
-{}
-
-/// The four paths of two loops, one in the other.
-pub fn checks_of_nest()
-    ensures { ChecksOfNest }
-{}
-
-/// The three paths of a block IF.
-pub fn checks_of_sign()
-    ensures { ChecksOfSign }
-{}
-
-/// A computed GO TO in both dialects.
-pub fn checks_of_pick()
-    ensures { ChecksOfPick }
-{}
-
-/// The four paths of a DO under 77.
-pub fn checks_of_up_to()
-    ensures { ChecksOfUpTo }
 {}
