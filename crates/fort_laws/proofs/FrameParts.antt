@@ -3,6 +3,7 @@ use Rattle.std.proofs.Common.{◌≡◌, ◌≢◌, ℕ, zero, suc, ◌+◌, ◌
 use Rattle.std.proofs.Math.IntN.{pos-+ℤ-pos, pos-*ℤ-pos}
 use Rattle.std.specs.List.{list_all}
 use Rattle.std.specs.Prelude.{◌==◌}
+use Rattle.formula.specs.Values.{count}
 use Rattle.formula.specs.declared.value.Cell.{Cell}
 use Rattle.formula.specs.declared.value.Cell.TheVariants.{Int, Logical, Undefined}
 use Rattle.fort_syntax.specs.declared.name.Name.{Name}
@@ -13,11 +14,11 @@ use Rattle.fort_syntax.specs.declared.stmt.Stmt.TheVariants.{Subroutine, Functio
 use Rattle.fort_syntax.specs.declared.unit.DataName.{DataName}
 use Rattle.fort_syntax.specs.declared.unit.Line.{Line}
 use Rattle.fort_syntax.specs.declared.unit.Unit.{Unit as Routine}
-use Rattle.fort_model.specs.Cells.{num, count}
+use Rattle.fort_model.specs.Cells.{num}
 use Rattle.fort_model.specs.Fits.{IsIn, HasShape, is_good_dim, is_positive}
 use Rattle.fort_model.specs.Flow.{target, Loop, loop_of, loops_from, loops_at}
 use Rattle.fort_model.specs.Lists.{IsAmong}
-use Rattle.fort_model.specs.Places.{dim_value, dim_values, stretch, stretch_on, size_of, place, place_on}
+use Rattle.fort_model.specs.Places.{dim_value, dim_values, stretch, stretch_from, size_of, place, place_from}
 use Rattle.fort_model.specs.Smashes.{Smashes, set_by}
 use Rattle.fort_model.specs.Storage.{Storage, Extent, Environment, load, store}
 use Rattle.fort_laws.specs.Frame.{IsAdjustable, IsSoundUnit, OthersKept}
@@ -31,27 +32,41 @@ ArePositive [] = Unit {0}
 ArePositive (d ∷ ds) = ((m : ℕ) × (d ≡ pos (suc m))) × ArePositive ds
 
 -- a place from 1 on, and a stretch that is not less
-stretch_from : (p q : ℕ) → 1 ≤ p → p ≤ q → (ds : List ℤ) → ArePositive ds → LiesIn (pos p) (stretch_on (pos q) ds)
-stretch_from p q low high [] h = record { at = p; size = q; place_is = refl; stretch_is = refl; low = low; high = high }
-stretch_from p q low high (d ∷ ds) h =
-    let rec = stretch_from p (q * suc h.0.0) low (grow p q h.0.0 high) ds h.1 in
+stretch_beyond : (p q : ℕ) → 1 ≤ p → p ≤ q → (ds : List ℤ) → ArePositive ds → LiesIn (pos p) (stretch_from (pos q) ds)
+stretch_beyond p q low high [] h = record { at = p; size = q; place_is = refl; stretch_is = refl; low = low; high = high }
+stretch_beyond p q low high (d ∷ ds) h =
+    let rec = stretch_beyond p (q * suc h.0.0) low (grow p q h.0.0 high) ds h.1 in
     let f : pos q *ℤ d ≡ pos (q * suc h.0.0) = ap (λ (z : ℤ). pos q *ℤ z) h.0.1 ∙ pos-*ℤ-pos q (suc h.0.0) in
-    subst (λ (w : ℤ). LiesIn (pos p) (stretch_on w ds)) (sym f) rec
+    subst (λ (w : ℤ). LiesIn (pos p) (stretch_from w ds)) (sym f) rec
   where
     grow : (p q m : ℕ) → p ≤ q → p ≤ q * suc m
     grow p q m h = grind arith
 
-part_on : (p q : ℕ) → 1 ≤ p → p ≤ q → (ss ds : List ℤ) → AreIn ss ds → ArePositive ds → LiesIn (place_on (pos p) (pos q) ss ds) (stretch_on (pos q) ds)
-part_on p q low high [] ds h good = stretch_from p q low high ds good
-part_on p q low high (s ∷ ss) [] h good = stretch_from p q low high [] good
+part_on : (p q : ℕ) → 1 ≤ p → p ≤ q → (ss ds : List ℤ) → AreIn ss ds → ArePositive ds → LiesIn (place_from (pos p) (pos q) ss ds) (stretch_from (pos q) ds)
+part_on p q low high [] ds h good = stretch_beyond p q low high ds good
+part_on p q low high (s ∷ ss) [] h good = stretch_beyond p q low high [] good
 part_on p q low high (s ∷ ss) (d ∷ ds) h good =
     let i : IsIndex s d = index_of s d h.0 in
     let rec = part_on (p + q * i.before) (q * i.size) (step_low p q i.before low) (step_high p q i.before i.size high i.less) ss ds h.1 good.1 in
     let e : pos p +ℤ pos q *ℤ (s -ℤ pos 1) ≡ pos (p + q * i.before) =
     ap (λ (z : ℤ). pos p +ℤ pos q *ℤ (z -ℤ pos 1)) i.subscript ∙ ap (λ (z : ℤ). pos p +ℤ pos q *ℤ z) (one_less i.before) ∙ ap (λ (z : ℤ). pos p +ℤ z) (pos-*ℤ-pos q i.before) ∙ pos-+ℤ-pos p (q * i.before) in
     let f : pos q *ℤ d ≡ pos (q * i.size) = ap (λ (z : ℤ). pos q *ℤ z) i.dimension ∙ pos-*ℤ-pos q i.size in
-    subst (λ (w : ℤ). LiesIn (place_on (pos p +ℤ pos q *ℤ (s -ℤ pos 1)) w ss ds) (stretch_on w ds)) (sym f)
-    (subst (λ (z : ℤ). LiesIn (place_on z (pos (q * i.size)) ss ds) (stretch_on (pos (q * i.size)) ds)) (sym e) rec)
+    subst (λ (w : ℤ). LiesIn (place_from (pos p +ℤ pos q *ℤ (s -ℤ pos 1)) w ss ds) (stretch_from w ds)) (sym f)
+    (subst (λ (z : ℤ). LiesIn (place_from z (pos (q * i.size)) ss ds) (stretch_from (pos (q * i.size)) ds)) (sym e) rec)
+
+-- the number of elements, and the place of an element
+whole : (ds : List ℤ) → ArePositive ds → LiesIn (pos 1) (stretch ds)
+whole [] good = record { at = 1; size = 1; place_is = refl; stretch_is = refl; low = omega arith; high = omega arith }
+whole (d ∷ ds) good =
+    subst (λ (w : ℤ). LiesIn (pos 1) (stretch_from w ds)) (sym good.0.1) (stretch_beyond 1 (suc good.0.0) (omega arith) (omega arith) ds good.1)
+
+part : (ss ds : List ℤ) → AreIn ss ds → ArePositive ds → LiesIn (place ss ds) (stretch ds)
+part [] ds h good = whole ds good
+part (s ∷ ss) [] h good = whole [] good
+part (s ∷ ss) (d ∷ ds) h good =
+    let i : IsIndex s d = index_of s d h.0 in
+    let rec = part_on (suc i.before) i.size (omega arith) (let l = i.less in omega arith) ss ds h.1 good.1 in
+    subst (λ (w : ℤ). LiesIn (place_from s w ss ds) (stretch_from w ds)) (sym i.dimension) (subst (λ (z : ℤ). LiesIn (place_from z (pos i.size) ss ds) (stretch_from (pos i.size) ds)) (sym i.subscript) rec)
 
 pub count_of : (z w : ℤ) (l : LiesIn z w) → suc (count (z -ℤ pos 1)) ≡ l.at
 count_of z w l = from l.at l.low l.place_is
@@ -67,7 +82,7 @@ same_pos m n e = cc
 pub element_within : (array : Extent) (ss ds : List ℤ) → pos array.size ≡ stretch ds → AreIn ss ds → ArePositive ds
     → (array.first ≤ (element_at array ss ds).first) × ((element_at array ss ds).first + 1 ≤ array.first + array.size)
 element_within array ss ds size h good =
-    let l = part_on 1 1 (omega arith) (omega arith) ss ds h good in
+    let l = part ss ds h good in
     let a : suc (count (place ss ds -ℤ pos 1)) ≡ l.at = count_of (place ss ds) (stretch ds) l in
     let b : array.size ≡ l.size = same_pos array.size l.size (size ∙ l.stretch_is) in
     let c = l.high in
@@ -75,7 +90,7 @@ element_within array ss ds size h good =
 
 pub size_positive : (size : ℕ) (ds : List ℤ) → pos size ≡ stretch ds → ArePositive ds → 1 ≤ size
 size_positive size ds e good =
-    let l = stretch_from 1 1 (omega arith) (omega arith) ds good in
+    let l = whole ds good in
     let b : size ≡ l.size = same_pos size l.size (e ∙ l.stretch_is) in
     let c = l.high in let d = l.low in omega arith
 
@@ -257,4 +272,4 @@ module _ (units : List Routine) (i : ℕ) (u : Routine) (sound : IsSoundUnit uni
 
 -- the number of cells that positive dimensions count
 pub size_of_stretch : (ds : List ℤ) → ArePositive ds → pos (size_of ds) ≡ stretch ds
-size_of_stretch ds good = let l = stretch_from 1 1 (omega arith) (omega arith) ds good in ap (λ (z : ℤ). pos (count z)) l.stretch_is ∙ sym l.stretch_is
+size_of_stretch ds good = let l = whole ds good in ap (λ (z : ℤ). pos (count z)) l.stretch_is ∙ sym l.stretch_is

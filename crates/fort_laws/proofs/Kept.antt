@@ -1,6 +1,7 @@
 -- Parts of runs that keep a property of storage, where parts of statements without calls do, and calls do.
 use Rattle.std.proofs.Common.{◌≡◌, ℕ, zero, suc, ◌+◌, Bool, true, false, cond, ℤ, pos, ◌-ℤ◌, List, [], ◌∷◌, ◌++◌, length, Option, Some, None, slice_get, nat_lt, refl, sym, ap, subst}
 use mathlib.Core.Former.{Count}
+use Rattle.formula.specs.Values.{count, is_between}
 use Rattle.formula.specs.declared.value.Cell.{Cell}
 use Rattle.formula.specs.declared.value.Cell.TheVariants.{Int}
 use Rattle.fort_syntax.specs.declared.name.Name.{Name}
@@ -23,7 +24,7 @@ use Rattle.fort_model.specs.Names.{Intrinsic, Absolute, Modulo, Greatest, Least,
 use Rattle.fort_model.specs.Sites.{calls_in}
 use Rattle.fort_model.specs.Flow.{target, Loop, loops_at, around}
 use Rattle.fort_model.specs.Calls.{CallSite, listed, own_site, sites_in, sites_in_row, sites_of, callee_of}
-use Rattle.fort_model.specs.Cells.{num, is_defined, lies_in, count}
+use Rattle.fort_model.specs.Cells.{num, is_defined}
 use Rattle.fort_model.specs.Storage.{Storage, Extent, Environment, load, store}
 use Rattle.fort_model.specs.Places.{dim_values, place}
 use Rattle.fort_model.specs.Processor.{Processor}
@@ -51,7 +52,7 @@ among_right a (x ∷ xs) ys h = let r = among_right a xs ys h in (suc r.0, r.1)
 abbrev pub AreIn : List ℤ → List ℤ → Type 0
 AreIn [] ds = Unit {0}
 AreIn (s ∷ ss) [] = Unit {0}
-AreIn (s ∷ ss) (d ∷ ds) = (lies_in (pos 1) d s ≡ true) × AreIn ss ds
+AreIn (s ∷ ss) (d ∷ ds) = (is_between (pos 1) d s ≡ true) × AreIn ss ds
 
 -- What an expression is taken as: a bare name as its cells; a constant as a fresh number; an element as a part of
 -- its array; every other expression as a fresh value.
@@ -218,7 +219,7 @@ module _ (Kept Late : Storage → Type 0) (late : (st : Storage) → Kept st →
   does_subscripts card [] ds = does_give (λ _. AreIn [] ds) tt tt
   does_subscripts card (s ∷ ss) [] = does_give (λ _. AreIn (s ∷ ss) []) tt tt
   does_subscripts card (s ∷ ss) (d ∷ ds) =
-      does_then (λ _. lies_in (pos 1) d s ≡ true) (λ _. AreIn (s ∷ ss) (d ∷ ds)) _ _ (does_check SubscriptCheck card (lies_in (pos 1) d s)) λ _ first.
+      does_then (λ _. is_between (pos 1) d s ≡ true) (λ _. AreIn (s ∷ ss) (d ∷ ds)) _ _ (does_check SubscriptCheck card (is_between (pos 1) d s)) λ _ first.
       does_also (λ _. AreIn ss ds) (λ _. AreIn (s ∷ ss) (d ∷ ds)) _ (λ _ rest. (first, rest)) (does_subscripts card ss ds)
 
   keeps_parameter : (s : Scene) (card : ℕ) (m : Param) → Keeps (parameter s card m)
