@@ -11,9 +11,9 @@ use Rattle.fort_model.specs.Passing.{Taken, Cells, Fresh, Passed, ByReference, B
 use Rattle.fort_model.specs.Processor.{Processor}
 use Rattle.fort_model.specs.Run.{run_within}
 use Rattle.fort_model.specs.Storage.{Storage, Extent, Environment, load}
-use Rattle.fort_laws.specs.Frame.{IsSoundUnit, IsSoundCall, AreSound, IsSmashedCell, OthersKept, Changes, RunsChangeOnlySmashed, RunsWithoutSmashingChangeNothing}
+use Rattle.fort_laws.specs.Frame.{IsPlaced, IsSoundUnit, IsSoundCall, AreSound, IsSmashedCell, OthersKept, Changes, RunsChangeOnlySmashed, RunsWithoutSmashingChangeNothing}
 use Rattle.fort_laws.proofs.FrameClaims.{IsPart, RunFrame, CallFrame}
-use Rattle.fort_laws.proofs.FrameParts.{IsOpen, IsPlaced}
+use Rattle.fort_laws.proofs.FrameParts.{IsOpen}
 use Rattle.fort_laws.proofs.FrameRuns.{run_frame}
 use Rattle.fort_laws.proofs.FrameSeats.{at_fit, ps, inner, begun, long, same_below, new_at, Seated, Place, old, new, place_of, old_of, old_within, Shared, Root, common, dummy, root, actual_open, smashed_open, shared_below, inside_by, callee_apart, callee_shapes}
 use Rattle.fort_laws.proofs.Kept.{AllMatch}

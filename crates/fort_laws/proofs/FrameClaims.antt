@@ -12,8 +12,8 @@ use Rattle.fort_model.specs.Passing.{Taken, passed, call}
 use Rattle.fort_model.specs.Processor.{Processor}
 use Rattle.fort_model.specs.Run.{run_within}
 use Rattle.fort_model.specs.Storage.{Storage, Extent, Environment}
-use Rattle.fort_laws.specs.Frame.{IsSmashedCell, Changes}
-use Rattle.fort_laws.proofs.FrameParts.{IsOpen, IsPlaced}
+use Rattle.fort_laws.specs.Frame.{IsPlaced, IsSmashedCell, Changes}
+use Rattle.fort_laws.proofs.FrameParts.{IsOpen}
 use Rattle.fort_laws.proofs.Kept.{AllMatch}
 
 -- one cell of a data name

@@ -19,8 +19,8 @@ use Rattle.fort_model.specs.Places.{dim_value, dim_values, stretch, size_of}
 use Rattle.fort_model.specs.Run.{own_sizes}
 use Rattle.fort_model.specs.Smashes.{Smashes}
 use Rattle.fort_model.specs.Storage.{Storage, Extent, Environment, load, with_extents, side_by_side}
-use Rattle.fort_laws.specs.Frame.{IsAdjustable, IsSoundUnit, IsSmashedCell, OthersKept}
-use Rattle.fort_laws.proofs.FrameParts.{good_dims, size_of_stretch, IsOpen, IsPlaced, Framed, Late, size_positive}
+use Rattle.fort_laws.specs.Frame.{IsPlaced, IsAdjustable, IsSoundUnit, IsSmashedCell, OthersKept}
+use Rattle.fort_laws.proofs.FrameParts.{good_dims, size_of_stretch, IsOpen, Framed, Late, size_positive}
 
 -- ---- equal names
 

@@ -21,7 +21,7 @@ use Rattle.fort_model.specs.Lists.{IsAmong}
 use Rattle.fort_model.specs.Places.{dim_value, dim_values, stretch, stretch_from, size_of, place, place_from}
 use Rattle.fort_model.specs.Smashes.{Smashes, set_by}
 use Rattle.fort_model.specs.Storage.{Storage, Extent, Environment, load, store}
-use Rattle.fort_laws.specs.Frame.{IsAdjustable, IsSoundUnit, OthersKept}
+use Rattle.fort_laws.specs.Frame.{IsPlaced, IsAdjustable, IsSoundUnit, OthersKept}
 use Rattle.fort_laws.proofs.PlaceBounds.{IsIndex, index_of, one_less, step_low, step_high, LiesIn}
 use Rattle.fort_laws.proofs.Kept.{AreIn, element_at}
 
@@ -188,12 +188,6 @@ pub record IsOpen (units : List Routine) (i : ℕ) (u : Routine) (env : Environm
   pub among : IsAmong its u.names
   pub smashed : Smashes units i its.name
   pub cell : IsIn k (env its.name)
-
--- the cells of all data names of the unit: they lie in the storage, as many as their dimensions say, and those of smashed
--- names lie apart from all others
-pub record IsPlaced (units : List Routine) (i : ℕ) (u : Routine) (env : Environment) (st : Storage) : Type 0 where
-  pub apart : (d e : DataName) → IsAmong d u.names → IsAmong e u.names → Smashes units i d.name → d.name ≢ e.name → (k : ℕ) → IsIn k (env d.name) → IsIn k (env e.name) → ⊥
-  pub shapes : (d : DataName) → IsAmong d u.names → HasShape env st d
 
 -- storage of the same length, or of at least that, in which all cells but some are as before
 abbrev pub Framed : (ℕ → Type 0) → Storage → Storage → Type 0

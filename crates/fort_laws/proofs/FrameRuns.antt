@@ -19,10 +19,10 @@ use Rattle.fort_model.specs.Run.{run, run_within, from_point, leave, go_to, at_l
 use Rattle.fort_model.specs.Sites.{calls_before}
 use Rattle.fort_model.specs.Smashes.{Smashes, set_by, sets}
 use Rattle.fort_model.specs.Storage.{Storage, Extent, Environment}
-use Rattle.fort_laws.specs.Frame.{HasName, IsSoundUnit, AreSound, IsSmashedCell, Changes}
+use Rattle.fort_laws.specs.Frame.{IsPlaced, HasName, IsSoundUnit, AreSound, IsSmashedCell, Changes}
 use Rattle.fort_laws.proofs.FrameClaims.{IsPart, IsCalled, RunFrame, CallFrame}
 use Rattle.fort_laws.proofs.FrameEnter.{SameOrNot, same, other, same_or_not, own_env, entered, entered_placed, seen_late, seen_left}
-use Rattle.fort_laws.proofs.FrameParts.{ArePositive, IsOpen, IsPlaced, Framed, Late, framed_late, framed_writes, first_in, element_within, positive, still_shaped, still_placed, loops_set}
+use Rattle.fort_laws.proofs.FrameParts.{ArePositive, IsOpen, Framed, Late, framed_late, framed_writes, first_in, element_within, positive, still_shaped, still_placed, loops_set}
 use Rattle.fort_laws.proofs.Kept.{AllMatch, AreIn, element_at, Comes, Keeps, does_stuck, keeps_give, keeps_step, keeps_then, keeps_before, keeps_perform}
 
 -- the data name that is an array before a bracket
@@ -55,7 +55,7 @@ module _ (May : ℕ → Type 0) (st0 : Storage) where
   comes_from st (Running after) f h = (let l = f.0 in let m = h.0 in omega arith, λ k lt unlike. h.1 k (let l = f.0 in omega arith) unlike ∙ f.1 k lt unlike)
 
 module _ (units : List Routine) (sound : AreSound units) (p : Processor) (calls : (fuel : ℕ) → RunFrame units p fuel → CallFrame units p fuel) where
-  abbrev FromFrame : ℕ → Type 0
+  abbrev pub FromFrame : ℕ → Type 0
   FromFrame fuel =
       (i : ℕ) (u : Routine) (env : Environment) (st0 : Storage) → slice_get units i ≡ Some u → IsPlaced units i u env st0 → (pc : ℕ)
       → Keeps (Framed (IsOpen units i u env) st0) (Late (IsOpen units i u env) st0) (framed_late (IsOpen units i u env) st0) (from_point p units fuel u env pc)
@@ -63,10 +63,10 @@ module _ (units : List Routine) (sound : AreSound units) (p : Processor) (calls 
   -- ---- the run of a unit from a point on
 
   module _ (fuel : ℕ) (runs : RunFrame units p fuel) (i : ℕ) (u : Routine) (env : Environment) (st0 : Storage) (is : slice_get units i ≡ Some u) (placed : IsPlaced units i u env st0) where
-    abbrev May : ℕ → Type 0
+    abbrev pub May : ℕ → Type 0
     May k = IsOpen units i u env k
 
-    abbrev Kept : Storage → Type 0
+    abbrev pub Kept : Storage → Type 0
     Kept st = Framed May st0 st
 
     abbrev After : Storage → Type 0
@@ -94,7 +94,7 @@ module _ (units : List Routine) (sound : AreSound units) (p : Processor) (calls 
     line_sets : (line : Line) → IsAmong line u.lines → (x : Name) → IsAmong x (set_by line.stmt) → Sets x
     line_sets line m x s = record { has = of_unit.sets line x m s; smashed = sets u line is m s }
 
-    parts_lie : (f : Name) (dims : List Dim) → applied u f ≡ Element dims → (st : Storage) → Kept st → (ss : List ℤ) → AreIn ss (dim_values env st dims)
+    pub parts_lie : (f : Name) (dims : List Dim) → applied u f ≡ Element dims → (st : Storage) → Kept st → (ss : List ℤ) → AreIn ss (dim_values env st dims)
         → IsPart u env f (element_at (env f) ss (dim_values env st dims))
     parts_lie f dims e st k ss within =
         let n = element_name u f dims e in
@@ -123,9 +123,9 @@ module _ (units : List Routine) (sound : AreSound units) (p : Processor) (calls 
     keeps_line : (line : Line) (pc : ℕ) → IsAmong line u.lines
         → Keeps Kept After after (perform (record { processor = p; units = units; unit = u; environment = env }) (run_within p units fuel) line.card pc (calls_before u pc) line.stmt)
     keeps_line line pc m =
-        keeps_perform Kept After after May (λ st j c may h. framed_writes May st0 st j c may h) (record { processor = p; units = units; unit = u; environment = env }) Sets sets_free
+        keeps_perform Kept After after (record { processor = p; units = units; unit = u; environment = env }) (run_within p units fuel) (IsPart u env) parts_lie (IsCalled u) calls_keep
+        May (λ st j c may h. framed_writes May st0 st j c may h) Sets sets_free parts_free
         (λ q d among. let s = loops_set u q d among in line_sets s.line s.among d.variable s.set)
-        (run_within p units fuel) (IsPart u env) parts_lie parts_free (IsCalled u) calls_keep
         line.card pc (calls_before u pc) line.stmt
         (λ site among. record { line = line; is_line = m; is_site = among }) (line_sets line m)
 
@@ -162,7 +162,7 @@ module _ (units : List Routine) (sound : AreSound units) (p : Processor) (calls 
         left_by (from_point p units fuel u (own_env units i u (sound.units_are i u is) env st apart shapes) 0 (entered units i u (sound.units_are i u is) env st apart shapes) n)
         ((points i u _ _ is (entered_placed units i u (sound.units_are i u is) env st apart shapes) 0).from _ n (refl, λ k lt unlike. refl))
 
-  frames : (fuel : ℕ) → RunFrame units p fuel × FromFrame fuel
+  pub frames : (fuel : ℕ) → RunFrame units p fuel × FromFrame fuel
   frames zero = (λ i u env st n is apart shapes. (omega arith, λ k lt unlike. refl), λ i u env st0 is placed pc. does_stuck _ _ _ (λ _. Unit {0}))
   frames (suc fuel) =
       let rec = frames fuel in (

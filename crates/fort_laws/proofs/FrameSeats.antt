@@ -23,10 +23,10 @@ use Rattle.fort_model.specs.Places.{dim_value, dim_values, stretch}
 use Rattle.fort_model.specs.Program.{has_common, has_role, is_in_common}
 use Rattle.fort_model.specs.Smashes.{Smashes, passes, shares}
 use Rattle.fort_model.specs.Storage.{Storage, Extent, Environment, load, with_extents}
-use Rattle.fort_laws.specs.Frame.{HasName, IsSoundUnit, IsDim, DimAgrees, DimsAgree, IsSoundCall}
+use Rattle.fort_laws.specs.Frame.{IsPlaced, HasName, IsSoundUnit, IsDim, DimAgrees, DimsAgree, IsSoundCall}
 use Rattle.fort_laws.proofs.FrameClaims.{IsPart}
 use Rattle.fort_laws.proofs.FrameEnter.{SameOrNot, same, other, same_or_not, fixed_good}
-use Rattle.fort_laws.proofs.FrameParts.{IsOpen, IsPlaced, one_cell}
+use Rattle.fort_laws.proofs.FrameParts.{IsOpen, one_cell}
 use Rattle.fort_laws.proofs.Kept.{Matches, AllMatch}
 use Rattle.fort_laws.proofs.Tied.{at_most_or}
 use Rattle.fort_laws.proofs.StorageLaws.{width, widths, seat, seat_at, widths_apart, length-new_cells, copy_holds, value_holds, passed_at}

@@ -238,168 +238,167 @@ module _ (Kept Late : Storage → Type 0) (late : (st : Storage) → Kept st →
   keeps_valued : (card : ℕ) (Q : Taken → Type 0) (a : Act Taken) → Does Q a → Keeps (valued card a)
   keeps_valued card Q a h = does_then Q (λ _. Unit {0}) a _ h (λ x _. keeps_value_of card x)
 
-  -- ---- parts that write, where some cells may be written to: those of names that may be set
+  -- ---- parts with calls, where each call in the text keeps the property
 
-  module _ (Open : ℕ → Type 0) (writes : (st : Storage) (i : ℕ) (c : Cell) → Open i → Kept st → Kept (store st i c))
-      (s : Scene) (Sets : Name → Type 0) (sets_open : (x : Name) → Sets x → Open (s.environment x).first)
-      (loops_set : (pc : ℕ) (d : Loop) → IsAmong d (loops_at s.unit pc) → Sets d.variable) where
-    keeps_write : (i : ℕ) (c : Cell) → Open i → Keeps (write_cell i c)
-    keeps_write i c free = does_then Kept (λ _. Unit {0}) held (λ st. put (store st i c)) does_held (λ st k. keeps_put _ (writes st i c free k))
+  module _ (s : Scene) (run : Caller) (Part : Name → Extent → Type 0)
+      (parts_lie : (f : Name) (dims : List Dim) → applied s.unit f ≡ Element dims → (st : Storage) → Kept st → (ss : List ℤ) → AreIn ss (dim_values s.environment st dims)
+      → Part f (element_at (s.environment f) ss (dim_values s.environment st dims)))
+      (Called : CallSite → Type 0)
+      (calls_keep : (site : CallSite) → Called site → (k : ℕ) (xs : List Taken) → AllMatch s.environment Part site.actuals xs
+      → Keeps (call run s.environment (unit_at s.units (callee_of s.units site)) (passed (s.processor.copies s.unit.name k) 1 xs))) where
+    abbrev Fit : Expr → Taken → Type 0
+    Fit e x = Matches s.environment Part e x
 
-    keeps_tests : (card : ℕ) (ds : List Loop) → ((d : Loop) → IsAmong d ds → Sets d.variable) → Keeps (tests s card ds)
-    keeps_tests card [] h = keeps_give _
-    keeps_tests card (d ∷ ds) h =
-        let free = sets_open d.variable (h d (0, refl)) in
-        keeps_before _ _ keeps_step
-        (keeps_then _ _ (keeps_read card _) λ i.
-        keeps_then _ _ (keeps_step_value s card d.step) λ by.
-        keeps_then _ _ (keeps_ranged s.processor card _) λ sum.
-        keeps_then _ _ (keeps_parameter s card d.last) λ last.
-        keeps_cond _ _ _
-        (keeps_before _ _ (keeps_write _ _ free) (keeps_give _))
-        (keeps_before _ _ (keeps_write _ _ free) (keeps_then _ _ (keeps_tests card ds (λ e m. h e (suc m.0, m.1))) λ choices. keeps_give _)))
+    abbrev AllFit : List Expr → List Taken → Type 0
+    AllFit es xs = AllMatch s.environment Part es xs
 
-    keeps_go_on : (card pc : ℕ) → Keeps (go_on s card pc)
-    keeps_go_on card pc = keeps_tests card _ (loops_set pc)
+    -- each call among some is one of the text
+    abbrev Sited : List CallSite → Type 0
+    Sited sites = (site : CallSite) → IsAmong site sites → Called site
 
-    among_more : (t : Bool) (d e : Loop) (ds fewer : List Loop) → (IsAmong d fewer → IsAmong d ds) → IsAmong d (cond t (e ∷ fewer) fewer) → IsAmong d (e ∷ ds)
-    among_more true d e ds fewer h (zero, q) = (0, q)
-    among_more true d e ds fewer h (suc j, q) = let r = h (j, q) in (suc r.0, r.1)
-    among_more false d e ds fewer h m = let r = h m in (suc r.0, r.1)
+    sited_left : (xs ys : List CallSite) → Sited (xs ++ ys) → Sited xs
+    sited_left xs ys h site m = h site (among_left site xs ys m)
 
-    around_among : (pc : ℕ) (ds : List Loop) (d : Loop) → IsAmong d (around pc ds) → IsAmong d ds
-    around_among pc [] d m = m
-    around_among pc (e ∷ ds) d m = among_more (nat_lt e.at pc) d e ds (around pc ds) (around_among pc ds d) m
+    sited_right : (xs ys : List CallSite) → Sited (xs ++ ys) → Sited ys
+    sited_right xs ys h site m = h site (among_right site xs ys m)
 
-    keeps_pass_over : (last pc : ℕ) → Keeps (pass_over s last pc)
-    keeps_pass_over last pc = keeps_tests _ _ (λ d m. loops_set last d (around_among pc (loops_at s.unit last) d m))
+    does_element : (Q : Taken → Type 0) (f : Name) (card : ℕ) (dims : List Dim) (cs : List Cell) → applied s.unit f ≡ Element dims → ((e : Extent) → Part f e → Q (Cells e))
+        → Does Q (element s.environment card (s.environment f) dims cs)
+    does_element Q f card dims cs is part =
+        does_then Kept Q held
+        (λ st. subscripts_in card (numbers cs) (dim_values s.environment st dims) >> give (Cells (element_at (s.environment f) (numbers cs) (dim_values s.environment st dims)))) does_held
+        (λ st k. does_then (λ _. AreIn (numbers cs) (dim_values s.environment st dims)) Q _ _ (does_subscripts card (numbers cs) (dim_values s.environment st dims))
+        (λ _ within. does_give Q _ (part _ (parts_lie f dims is st k (numbers cs) within))))
 
-    keeps_begin : (d : Dialect) (card last pc : ℕ) (x : Name) (m1 m2 m3 : ℤ) → Sets x → Keeps (begin d s card last pc x m1 m2 m3)
-    keeps_begin Common card last pc x m1 m2 m3 set =
-        keeps_before _ _ (keeps_check LoopCheck card _) (keeps_before _ _ (keeps_write _ _ (sets_open x set)) (keeps_give _))
-    keeps_begin SeventySeven card last pc x m1 m2 m3 set =
-        keeps_before _ _ (keeps_check LoopCheck card _)
-        (keeps_before _ _ (keeps_ranged s.processor card _)
-        (keeps_before _ _ (keeps_ranged s.processor card _)
-        (keeps_before _ _ (keeps_write _ _ (sets_open x set))
-        (keeps_cond _ _ _ (keeps_give _) (keeps_then _ _ (keeps_pass_over last pc) λ choices. keeps_give _)))))
+    does_fresh : (Q : Taken → Type 0) (R : Cell → Type 0) (a : Act Cell) → Does R a → ((c : Cell) → R c → Q (Fresh c)) → Does Q (fresh a)
+    does_fresh Q R a h q = does_then R Q a _ h (λ c r. does_give Q _ (q c r))
 
-    keeps_select : (d : Dialect) (card pc labels : ℕ) (i : ℤ) → Keeps (select d s card pc labels i)
-    keeps_select Common card pc labels i = keeps_before _ _ (keeps_check ChoiceCheck card _) (keeps_give _)
-    keeps_select SeventySeven card pc labels i =
-        keeps_cond _ _ _ (keeps_give _) (keeps_then _ _ (keeps_go_on card pc) λ choices. keeps_give _)
+    keeps_call_at : (site : CallSite) → Called site → (k : ℕ) (actuals : Act (List Taken)) → Does (AllFit site.actuals) actuals → Keeps (call_at s run k actuals (callee_of s.units site))
+    keeps_call_at site called k actuals h = does_then (AllFit site.actuals) (λ _. Unit {0}) actuals _ h (λ xs fit. calls_keep site called k xs fit)
 
-    -- ---- parts with calls, where each call in the text keeps the property
+    does_apply : (Q : Taken → Type 0) (f : Name) (es : List Expr) (card k : ℕ) (kind : Applied) (vs : Act (List Cell)) (xs : Act (List Taken)) → applied s.unit f ≡ kind
+        → ((e : Extent) → Part f e → Q (Cells e)) → ((c : Cell) → Q (Fresh c))
+        → Sited (own_site kind f es) → Keeps vs → Does (AllFit es) xs → Does Q (apply s run card k f kind vs xs)
+    does_apply Q f es card k (Element dims) vs xs is part value sited hv hx =
+        does_then (λ _. Unit {0}) Q vs _ hv (λ cs _. does_element Q f card dims cs is part)
+    does_apply Q f es card k (BuiltIn i) vs xs is part value sited hv hx =
+        does_then (λ _. Unit {0}) Q vs _ hv (λ cs _. does_fresh Q (λ _. Unit {0}) _ (keeps_intrinsic s.processor card i cs) (λ c _. value c))
+    does_apply Q f es card k Reference vs xs is part value sited hv hx =
+        let site : CallSite = record { reference = true; callee = f; actuals = es } in
+        does_fresh Q (λ _. Unit {0}) _ (keeps_call_at site (sited site (0, refl)) (suc k) xs hx) (λ c _. value c)
 
-    module _ (run : Caller) (Part : Name → Extent → Type 0)
-        (parts_lie : (f : Name) (dims : List Dim) → applied s.unit f ≡ Element dims → (st : Storage) → Kept st → (ss : List ℤ) → AreIn ss (dim_values s.environment st dims)
-        → Part f (element_at (s.environment f) ss (dim_values s.environment st dims)))
-        (parts_free : (f : Name) (e : Extent) → Sets f → Part f e → Open e.first)
-        (Called : CallSite → Type 0)
-        (calls_keep : (site : CallSite) → Called site → (k : ℕ) (xs : List Taken) → AllMatch s.environment Part site.actuals xs
-        → Keeps (call run s.environment (unit_at s.units (callee_of s.units site)) (passed (s.processor.copies s.unit.name k) 1 xs))) where
-      abbrev Fit : Expr → Taken → Type 0
-      Fit e x = Matches s.environment Part e x
+    mutual
+      does_taken : (card k : ℕ) (e : Expr) → Sited (sites_in s.unit e) → Does (Fit e) (taken s run card k e)
+      does_taken card k (Const c) h = does_fresh (Fit (Const c)) (λ v. v ≡ Int (pos c)) _ (does_constant s.processor card c) (λ v e. ap Fresh e)
+      does_taken card k (Truth b) h = does_give (Fit (Truth b)) _ tt
+      does_taken card k (Var x) h = does_give (Fit (Var x)) _ refl
+      does_taken card k (Apply' f shape args) h =
+          does_apply (Fit (Apply' f shape args)) f (listed args) card k (applied s.unit f) _ _ refl (λ e part. part) (λ c. tt)
+          (sited_left (own_site (applied s.unit f) f (listed args)) (sites_in_row s.unit args) h)
+          (keeps_values card k args (sited_right (own_site (applied s.unit f) f (listed args)) (sites_in_row s.unit args) h))
+          (does_actuals card (suc k) args (sited_right (own_site (applied s.unit f) f (listed args)) (sites_in_row s.unit args) h))
+      does_taken card k (Paren' shape (only a)) h = does_fresh (Fit (Paren' shape (only a))) (λ _. Unit {0}) _ (keeps_valued card (Fit a) _ (does_taken card k a h)) (λ _ _. tt)
+      does_taken card k (Pos' shape (only a)) h = does_fresh (Fit (Pos' shape (only a))) (λ _. Unit {0}) _ (keeps_valued card (Fit a) _ (does_taken card k a h)) (λ _ _. tt)
+      does_taken card k (Neg' shape (only a)) h =
+          does_then (λ _. Unit {0}) (Fit (Neg' shape (only a))) _ _ (keeps_valued card (Fit a) _ (does_taken card k a h))
+          (λ v _. does_fresh (Fit (Neg' shape (only a))) (λ _. Unit {0}) _ (keeps_ranged s.processor card _) (λ _ _. tt))
+      does_taken card k (Power' shape (only a) n) h =
+          does_then (λ _. Unit {0}) (Fit (Power' shape (only a) n)) _ _ (keeps_valued card (Fit a) _ (does_taken card k a h))
+          (λ v _. does_fresh (Fit (Power' shape (only a) n)) (λ _. Unit {0}) _ (keeps_power_on s.processor card _ _ _) (λ _ _. tt))
+      does_taken card k (Bin' o q (only a) r (only b)) h =
+          does_then (λ _. Unit {0}) (Fit (Bin' o q (only a) r (only b))) _ _ (keeps_valued card (Fit a) _ (does_taken card k a (sited_left (sites_in s.unit a) (sites_in s.unit b) h))) λ v _.
+          does_then (λ _. Unit {0}) (Fit (Bin' o q (only a) r (only b))) _ _ (keeps_valued card (Fit b) _ (does_taken card _ b (sited_right (sites_in s.unit a) (sites_in s.unit b) h))) λ w _.
+          does_fresh (Fit (Bin' o q (only a) r (only b))) (λ _. Unit {0}) _ (keeps_operate s.processor card o v w) (λ _ _. tt)
+      does_taken card k (Rel' o q (only a) r (only b)) h =
+          does_then (λ _. Unit {0}) (Fit (Rel' o q (only a) r (only b))) _ _ (keeps_valued card (Fit a) _ (does_taken card k a (sited_left (sites_in s.unit a) (sites_in s.unit b) h))) λ v _.
+          does_then (λ _. Unit {0}) (Fit (Rel' o q (only a) r (only b))) _ _ (keeps_valued card (Fit b) _ (does_taken card _ b (sited_right (sites_in s.unit a) (sites_in s.unit b) h))) λ w _.
+          does_give (Fit (Rel' o q (only a) r (only b))) _ tt
+      does_taken card k (Not' shape (only a)) h =
+          does_then (λ _. Unit {0}) (Fit (Not' shape (only a))) _ _ (keeps_valued card (Fit a) _ (does_taken card k a h)) (λ v _. does_give (Fit (Not' shape (only a))) _ tt)
+      does_taken card k (And' q (only a) r (only b)) h =
+          does_then (λ _. Unit {0}) (Fit (And' q (only a) r (only b))) _ _ (keeps_valued card (Fit a) _ (does_taken card k a (sited_left (sites_in s.unit a) (sites_in s.unit b) h))) λ v _.
+          does_cond (Fit (And' q (only a) r (only b))) _ _ _ (does_give (Fit (And' q (only a) r (only b))) _ tt)
+          (does_then (λ _. Unit {0}) (Fit (And' q (only a) r (only b))) _ _ (keeps_valued card (Fit b) _ (does_taken card _ b (sited_right (sites_in s.unit a) (sites_in s.unit b) h))) λ w _.
+          does_give (Fit (And' q (only a) r (only b))) _ tt)
+      does_taken card k (Or' q (only a) r (only b)) h =
+          does_then (λ _. Unit {0}) (Fit (Or' q (only a) r (only b))) _ _ (keeps_valued card (Fit a) _ (does_taken card k a (sited_left (sites_in s.unit a) (sites_in s.unit b) h))) λ v _.
+          does_cond (Fit (Or' q (only a) r (only b))) _ _ _ (does_give (Fit (Or' q (only a) r (only b))) _ tt)
+          (does_then (λ _. Unit {0}) (Fit (Or' q (only a) r (only b))) _ _ (keeps_valued card (Fit b) _ (does_taken card _ b (sited_right (sites_in s.unit a) (sites_in s.unit b) h))) λ w _.
+          does_give (Fit (Or' q (only a) r (only b))) _ tt)
 
-      abbrev AllFit : List Expr → List Taken → Type 0
-      AllFit es xs = AllMatch s.environment Part es xs
+      keeps_values : (card k : ℕ) {m : Count} (es : Row_of-Expr m) → Sited (sites_in_row s.unit es) → Keeps (values s run card k es)
+      keeps_values card k end_of-Expr h = keeps_give _
+      keeps_values card k (more_of-Expr e es) h =
+          keeps_then _ _ (keeps_valued card (Fit e) _ (does_taken card k e (sited_left (sites_in s.unit e) (sites_in_row s.unit es) h))) λ c.
+          keeps_then _ _ (keeps_values card _ es (sited_right (sites_in s.unit e) (sites_in_row s.unit es) h)) λ cs. keeps_give _
 
-      -- each call among some is one of the text
-      abbrev Sited : List CallSite → Type 0
-      Sited sites = (site : CallSite) → IsAmong site sites → Called site
+      does_actuals : (card k : ℕ) {m : Count} (es : Row_of-Expr m) → Sited (sites_in_row s.unit es) → Does (AllFit (listed es)) (actuals s run card k es)
+      does_actuals card k end_of-Expr h = does_give (AllFit []) _ tt
+      does_actuals card k (more_of-Expr e es) h =
+          does_then (Fit e) (AllFit (e ∷ listed es)) _ _ (does_taken card k e (sited_left (sites_in s.unit e) (sites_in_row s.unit es) h)) λ x fit.
+          does_then (AllFit (listed es)) (AllFit (e ∷ listed es)) _ _ (does_actuals card _ es (sited_right (sites_in s.unit e) (sites_in_row s.unit es) h)) λ xs fits.
+          does_give (AllFit (e ∷ listed es)) _ (fit, fits)
 
-      sited_left : (xs ys : List CallSite) → Sited (xs ++ ys) → Sited xs
-      sited_left xs ys h site m = h site (among_left site xs ys m)
+    pub keeps_evaluate : (card k : ℕ) (e : Expr) → Sited (sites_in s.unit e) → Keeps (evaluate s run card k e)
+    keeps_evaluate card k e h = keeps_valued card (Fit e) _ (does_taken card k e h)
 
-      sited_right : (xs ys : List CallSite) → Sited (xs ++ ys) → Sited ys
-      sited_right xs ys h site m = h site (among_right site xs ys m)
+    -- ---- parts that write, where some cells may be written to: those of names that may be set
 
-      does_element : (Q : Taken → Type 0) (f : Name) (card : ℕ) (dims : List Dim) (cs : List Cell) → applied s.unit f ≡ Element dims → ((e : Extent) → Part f e → Q (Cells e))
-          → Does Q (element s.environment card (s.environment f) dims cs)
-      does_element Q f card dims cs is part =
-          does_then Kept Q held
-          (λ st. subscripts_in card (numbers cs) (dim_values s.environment st dims) >> give (Cells (element_at (s.environment f) (numbers cs) (dim_values s.environment st dims)))) does_held
-          (λ st k. does_then (λ _. AreIn (numbers cs) (dim_values s.environment st dims)) Q _ _ (does_subscripts card (numbers cs) (dim_values s.environment st dims))
-          (λ _ within. does_give Q _ (part _ (parts_lie f dims is st k (numbers cs) within))))
+    module _ (Open : ℕ → Type 0) (writes : (st : Storage) (i : ℕ) (c : Cell) → Open i → Kept st → Kept (store st i c))
+        (Sets : Name → Type 0) (sets_free : (x : Name) → Sets x → Open (s.environment x).first) (parts_free : (f : Name) (e : Extent) → Sets f → Part f e → Open e.first)
+        (loops_set : (pc : ℕ) (d : Loop) → IsAmong d (loops_at s.unit pc) → Sets d.variable) where
+      keeps_write : (i : ℕ) (c : Cell) → Open i → Keeps (write_cell i c)
+      keeps_write i c free = does_then Kept (λ _. Unit {0}) held (λ st. put (store st i c)) does_held (λ st k. keeps_put _ (writes st i c free k))
 
-      does_fresh : (Q : Taken → Type 0) (R : Cell → Type 0) (a : Act Cell) → Does R a → ((c : Cell) → R c → Q (Fresh c)) → Does Q (fresh a)
-      does_fresh Q R a h q = does_then R Q a _ h (λ c r. does_give Q _ (q c r))
+      keeps_tests : (card : ℕ) (ds : List Loop) → ((d : Loop) → IsAmong d ds → Sets d.variable) → Keeps (tests s card ds)
+      keeps_tests card [] h = keeps_give _
+      keeps_tests card (d ∷ ds) h =
+          let free = sets_free d.variable (h d (0, refl)) in
+          keeps_before _ _ keeps_step
+          (keeps_then _ _ (keeps_read card _) λ i.
+          keeps_then _ _ (keeps_step_value s card d.step) λ by.
+          keeps_then _ _ (keeps_ranged s.processor card _) λ sum.
+          keeps_then _ _ (keeps_parameter s card d.last) λ last.
+          keeps_cond _ _ _
+          (keeps_before _ _ (keeps_write _ _ free) (keeps_give _))
+          (keeps_before _ _ (keeps_write _ _ free) (keeps_then _ _ (keeps_tests card ds (λ e m. h e (suc m.0, m.1))) λ choices. keeps_give _)))
 
-      keeps_call_at : (site : CallSite) → Called site → (k : ℕ) (actuals : Act (List Taken)) → Does (AllFit site.actuals) actuals → Keeps (call_at s run k actuals (callee_of s.units site))
-      keeps_call_at site called k actuals h = does_then (AllFit site.actuals) (λ _. Unit {0}) actuals _ h (λ xs fit. calls_keep site called k xs fit)
+      keeps_go_on : (card pc : ℕ) → Keeps (go_on s card pc)
+      keeps_go_on card pc = keeps_tests card _ (loops_set pc)
 
-      does_apply : (Q : Taken → Type 0) (f : Name) (es : List Expr) (card k : ℕ) (kind : Applied) (vs : Act (List Cell)) (xs : Act (List Taken)) → applied s.unit f ≡ kind
-          → ((e : Extent) → Part f e → Q (Cells e)) → ((c : Cell) → Q (Fresh c))
-          → Sited (own_site kind f es) → Keeps vs → Does (AllFit es) xs → Does Q (apply s run card k f kind vs xs)
-      does_apply Q f es card k (Element dims) vs xs is part value sited hv hx =
-          does_then (λ _. Unit {0}) Q vs _ hv (λ cs _. does_element Q f card dims cs is part)
-      does_apply Q f es card k (BuiltIn i) vs xs is part value sited hv hx =
-          does_then (λ _. Unit {0}) Q vs _ hv (λ cs _. does_fresh Q (λ _. Unit {0}) _ (keeps_intrinsic s.processor card i cs) (λ c _. value c))
-      does_apply Q f es card k Reference vs xs is part value sited hv hx =
-          let site : CallSite = record { reference = true; callee = f; actuals = es } in
-          does_fresh Q (λ _. Unit {0}) _ (keeps_call_at site (sited site (0, refl)) (suc k) xs hx) (λ c _. value c)
+      among_more : (t : Bool) (d e : Loop) (ds fewer : List Loop) → (IsAmong d fewer → IsAmong d ds) → IsAmong d (cond t (e ∷ fewer) fewer) → IsAmong d (e ∷ ds)
+      among_more true d e ds fewer h (zero, q) = (0, q)
+      among_more true d e ds fewer h (suc j, q) = let r = h (j, q) in (suc r.0, r.1)
+      among_more false d e ds fewer h m = let r = h m in (suc r.0, r.1)
 
-      mutual
-        does_taken : (card k : ℕ) (e : Expr) → Sited (sites_in s.unit e) → Does (Fit e) (taken s run card k e)
-        does_taken card k (Const c) h = does_fresh (Fit (Const c)) (λ v. v ≡ Int (pos c)) _ (does_constant s.processor card c) (λ v e. ap Fresh e)
-        does_taken card k (Truth b) h = does_give (Fit (Truth b)) _ tt
-        does_taken card k (Var x) h = does_give (Fit (Var x)) _ refl
-        does_taken card k (Apply' f shape args) h =
-            does_apply (Fit (Apply' f shape args)) f (listed args) card k (applied s.unit f) _ _ refl (λ e part. part) (λ c. tt)
-            (sited_left (own_site (applied s.unit f) f (listed args)) (sites_in_row s.unit args) h)
-            (keeps_values card k args (sited_right (own_site (applied s.unit f) f (listed args)) (sites_in_row s.unit args) h))
-            (does_actuals card (suc k) args (sited_right (own_site (applied s.unit f) f (listed args)) (sites_in_row s.unit args) h))
-        does_taken card k (Paren' shape (only a)) h = does_fresh (Fit (Paren' shape (only a))) (λ _. Unit {0}) _ (keeps_valued card (Fit a) _ (does_taken card k a h)) (λ _ _. tt)
-        does_taken card k (Pos' shape (only a)) h = does_fresh (Fit (Pos' shape (only a))) (λ _. Unit {0}) _ (keeps_valued card (Fit a) _ (does_taken card k a h)) (λ _ _. tt)
-        does_taken card k (Neg' shape (only a)) h =
-            does_then (λ _. Unit {0}) (Fit (Neg' shape (only a))) _ _ (keeps_valued card (Fit a) _ (does_taken card k a h))
-            (λ v _. does_fresh (Fit (Neg' shape (only a))) (λ _. Unit {0}) _ (keeps_ranged s.processor card _) (λ _ _. tt))
-        does_taken card k (Power' shape (only a) n) h =
-            does_then (λ _. Unit {0}) (Fit (Power' shape (only a) n)) _ _ (keeps_valued card (Fit a) _ (does_taken card k a h))
-            (λ v _. does_fresh (Fit (Power' shape (only a) n)) (λ _. Unit {0}) _ (keeps_power_on s.processor card _ _ _) (λ _ _. tt))
-        does_taken card k (Bin' o q (only a) r (only b)) h =
-            does_then (λ _. Unit {0}) (Fit (Bin' o q (only a) r (only b))) _ _ (keeps_valued card (Fit a) _ (does_taken card k a (sited_left (sites_in s.unit a) (sites_in s.unit b) h))) λ v _.
-            does_then (λ _. Unit {0}) (Fit (Bin' o q (only a) r (only b))) _ _ (keeps_valued card (Fit b) _ (does_taken card _ b (sited_right (sites_in s.unit a) (sites_in s.unit b) h))) λ w _.
-            does_fresh (Fit (Bin' o q (only a) r (only b))) (λ _. Unit {0}) _ (keeps_operate s.processor card o v w) (λ _ _. tt)
-        does_taken card k (Rel' o q (only a) r (only b)) h =
-            does_then (λ _. Unit {0}) (Fit (Rel' o q (only a) r (only b))) _ _ (keeps_valued card (Fit a) _ (does_taken card k a (sited_left (sites_in s.unit a) (sites_in s.unit b) h))) λ v _.
-            does_then (λ _. Unit {0}) (Fit (Rel' o q (only a) r (only b))) _ _ (keeps_valued card (Fit b) _ (does_taken card _ b (sited_right (sites_in s.unit a) (sites_in s.unit b) h))) λ w _.
-            does_give (Fit (Rel' o q (only a) r (only b))) _ tt
-        does_taken card k (Not' shape (only a)) h =
-            does_then (λ _. Unit {0}) (Fit (Not' shape (only a))) _ _ (keeps_valued card (Fit a) _ (does_taken card k a h)) (λ v _. does_give (Fit (Not' shape (only a))) _ tt)
-        does_taken card k (And' q (only a) r (only b)) h =
-            does_then (λ _. Unit {0}) (Fit (And' q (only a) r (only b))) _ _ (keeps_valued card (Fit a) _ (does_taken card k a (sited_left (sites_in s.unit a) (sites_in s.unit b) h))) λ v _.
-            does_cond (Fit (And' q (only a) r (only b))) _ _ _ (does_give (Fit (And' q (only a) r (only b))) _ tt)
-            (does_then (λ _. Unit {0}) (Fit (And' q (only a) r (only b))) _ _ (keeps_valued card (Fit b) _ (does_taken card _ b (sited_right (sites_in s.unit a) (sites_in s.unit b) h))) λ w _.
-            does_give (Fit (And' q (only a) r (only b))) _ tt)
-        does_taken card k (Or' q (only a) r (only b)) h =
-            does_then (λ _. Unit {0}) (Fit (Or' q (only a) r (only b))) _ _ (keeps_valued card (Fit a) _ (does_taken card k a (sited_left (sites_in s.unit a) (sites_in s.unit b) h))) λ v _.
-            does_cond (Fit (Or' q (only a) r (only b))) _ _ _ (does_give (Fit (Or' q (only a) r (only b))) _ tt)
-            (does_then (λ _. Unit {0}) (Fit (Or' q (only a) r (only b))) _ _ (keeps_valued card (Fit b) _ (does_taken card _ b (sited_right (sites_in s.unit a) (sites_in s.unit b) h))) λ w _.
-            does_give (Fit (Or' q (only a) r (only b))) _ tt)
+      around_among : (pc : ℕ) (ds : List Loop) (d : Loop) → IsAmong d (around pc ds) → IsAmong d ds
+      around_among pc [] d m = m
+      around_among pc (e ∷ ds) d m = among_more (nat_lt e.at pc) d e ds (around pc ds) (around_among pc ds d) m
 
-        keeps_values : (card k : ℕ) {m : Count} (es : Row_of-Expr m) → Sited (sites_in_row s.unit es) → Keeps (values s run card k es)
-        keeps_values card k end_of-Expr h = keeps_give _
-        keeps_values card k (more_of-Expr e es) h =
-            keeps_then _ _ (keeps_valued card (Fit e) _ (does_taken card k e (sited_left (sites_in s.unit e) (sites_in_row s.unit es) h))) λ c.
-            keeps_then _ _ (keeps_values card _ es (sited_right (sites_in s.unit e) (sites_in_row s.unit es) h)) λ cs. keeps_give _
+      keeps_pass_over : (last pc : ℕ) → Keeps (pass_over s last pc)
+      keeps_pass_over last pc = keeps_tests _ _ (λ d m. loops_set last d (around_among pc (loops_at s.unit last) d m))
 
-        does_actuals : (card k : ℕ) {m : Count} (es : Row_of-Expr m) → Sited (sites_in_row s.unit es) → Does (AllFit (listed es)) (actuals s run card k es)
-        does_actuals card k end_of-Expr h = does_give (AllFit []) _ tt
-        does_actuals card k (more_of-Expr e es) h =
-            does_then (Fit e) (AllFit (e ∷ listed es)) _ _ (does_taken card k e (sited_left (sites_in s.unit e) (sites_in_row s.unit es) h)) λ x fit.
-            does_then (AllFit (listed es)) (AllFit (e ∷ listed es)) _ _ (does_actuals card _ es (sited_right (sites_in s.unit e) (sites_in_row s.unit es) h)) λ xs fits.
-            does_give (AllFit (e ∷ listed es)) _ (fit, fits)
+      keeps_begin : (d : Dialect) (card last pc : ℕ) (x : Name) (m1 m2 m3 : ℤ) → Sets x → Keeps (begin d s card last pc x m1 m2 m3)
+      keeps_begin Common card last pc x m1 m2 m3 set =
+          keeps_before _ _ (keeps_check LoopCheck card _) (keeps_before _ _ (keeps_write _ _ (sets_free x set)) (keeps_give _))
+      keeps_begin SeventySeven card last pc x m1 m2 m3 set =
+          keeps_before _ _ (keeps_check LoopCheck card _)
+          (keeps_before _ _ (keeps_ranged s.processor card _)
+          (keeps_before _ _ (keeps_ranged s.processor card _)
+          (keeps_before _ _ (keeps_write _ _ (sets_free x set))
+          (keeps_cond _ _ _ (keeps_give _) (keeps_then _ _ (keeps_pass_over last pc) λ choices. keeps_give _)))))
 
-      keeps_evaluate : (card k : ℕ) (e : Expr) → Sited (sites_in s.unit e) → Keeps (evaluate s run card k e)
-      keeps_evaluate card k e h = keeps_valued card (Fit e) _ (does_taken card k e h)
+      keeps_select : (d : Dialect) (card pc labels : ℕ) (i : ℤ) → Keeps (select d s card pc labels i)
+      keeps_select Common card pc labels i = keeps_before _ _ (keeps_check ChoiceCheck card _) (keeps_give _)
+      keeps_select SeventySeven card pc labels i =
+          keeps_cond _ _ _ (keeps_give _) (keeps_then _ _ (keeps_go_on card pc) λ choices. keeps_give _)
 
       keeps_assign : (left : Expr) (x : Taken) (c : Cell) → ((y : Name) → IsAmong y (set_name left) → Sets y) → Fit left x → Keeps (assign x c)
       keeps_assign left (Fresh v) c sets fit = does_stuck (λ _. Unit {0})
       keeps_assign (Const n) (Cells e) c sets fit = absurd (cc)
       keeps_assign (Var y) (Cells e) c sets fit =
           let same : e ≡ s.environment y = cc in
-          keeps_write e.first c (subst (λ (z : Extent). Open z.first) (sym same) (sets_open y (sets y (0, refl))))
+          keeps_write e.first c (subst (λ (z : Extent). Open z.first) (sym same) (sets_free y (sets y (0, refl))))
       keeps_assign (Apply' f shape args) (Cells e) c sets fit = keeps_write e.first c (parts_free f e (sets f (0, refl)) fit)
       keeps_assign (Truth b) (Cells e) c sets fit = absurd fit
       keeps_assign (Paren' shape a) (Cells e) c sets fit = absurd fit

@@ -11,13 +11,15 @@ use Rattle.fort_syntax.specs.declared.unit.Line.{Line}
 use Rattle.fort_syntax.specs.declared.unit.Role.TheVariants.{Dummy, InCommon}
 use Rattle.fort_syntax.specs.declared.unit.Unit.{Unit as Routine}
 use Rattle.fort_model.specs.Arguments.{mentions, dims_of_actual}
-use Rattle.fort_model.specs.Calls.{Calls}
+use Rattle.fort_model.specs.Calls.{CallSite, Calls, sites_in, sites_of}
+use Rattle.fort_model.specs.Evaluate.{evaluate}
 use Rattle.fort_model.specs.Fits.{IsVisible, IsIn, IsApart, HasShape}
 use Rattle.fort_model.specs.Lists.{IsAmong}
+use Rattle.fort_model.specs.Names.{is_function}
 use Rattle.fort_model.specs.Outcome.{Outcome, Ended, Erred, Running}
 use Rattle.fort_model.specs.Processor.{Processor}
 use Rattle.fort_model.specs.Program.{has_common}
-use Rattle.fort_model.specs.Run.{run}
+use Rattle.fort_model.specs.Run.{run, run_within}
 use Rattle.fort_model.specs.Smashes.{Smashes, set_by}
 use Rattle.fort_model.specs.Storage.{Storage, Environment, load}
 
@@ -124,3 +126,24 @@ RunsWithoutSmashingChangeNothing =
     → (p : Processor) (i : ℕ) (u : Routine) (env : Environment) (st : Storage) (n : ℕ) → slice_get units i ≡ Some u
     → ((d : DataName) → IsVisible u d → HasShape env st d) → ((d : DataName) → IsVisible u d → Smashes units i d.name → ⊥)
     → (v : Cell) (after : Storage) (left : ℕ) → run p units u env st n ≡ Ended v after left → after ≡ st
+
+-- ---- expressions
+
+-- the cells of all data names of the unit: they lie in the storage, as many as their dimensions say, and those of smashed
+-- names lie apart from all others
+pub record IsPlaced (units : List Routine) (i : ℕ) (u : Routine) (env : Environment) (st : Storage) : Type 0 where
+  pub apart : (d e : DataName) → IsAmong d u.names → IsAmong e u.names → Smashes units i d.name → d.name ≢ e.name → (k : ℕ) → IsIn k (env d.name) → IsIn k (env e.name) → ⊥
+  pub shapes : (d : DataName) → IsAmong d u.names → HasShape env st d
+
+-- no FUNCTION smashes a dummy or a COMMON entity
+abbrev pub FunctionsSmashNothing : List Routine → Type 0
+FunctionsSmashNothing units = (j : ℕ) (g : Routine) (d : DataName) → slice_get units j ≡ Some g → is_function g ≡ true → IsVisible g d → Smashes units j d.name → ⊥
+
+-- evaluating an expression of a statement changes no cell, whatever the depth of the runs of the FUNCTIONs in it
+abbrev pub EvaluationChangesNothing : Type 0
+EvaluationChangesNothing =
+    (units : List Routine) → AreSound units → FunctionsSmashNothing units
+    → (p : Processor) (i : ℕ) (u : Routine) (env : Environment) (st : Storage) → slice_get units i ≡ Some u → IsPlaced units i u env st
+    → (line : Line) (e : Expr) → IsAmong line u.lines → ((site : CallSite) → IsAmong site (sites_in u e) → IsAmong site (sites_of u line.stmt))
+    → (depth card k n : ℕ) (v : Cell) (after : Storage) (left : ℕ)
+    → evaluate (record { processor = p; units = units; unit = u; environment = env }) (run_within p units depth) card k e st n ≡ Ended v after left → after ≡ st
