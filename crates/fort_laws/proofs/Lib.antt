@@ -6,6 +6,7 @@ pub mod FrameRuns
 pub mod FrameSeats
 pub mod Kept
 pub mod PlaceBounds
+pub mod References
 pub mod StorageLaws
 pub mod Tied
 pub mod TiedParts

@@ -1,5 +1,5 @@
 // What runs leave as it was.
-ghost use Rattle.fort_laws.specs.Frame.{RunsChangeOnlySmashed, RunsWithoutSmashingChangeNothing};
+ghost use Rattle.fort_laws.specs.Frame.{RunsChangeOnlySmashed, RunsWithoutSmashingChangeNothing, EvaluationChangesNothing};
 
 /// In a deck that keeps the rules on calls a run of a unit changes only cells of dummies and COMMON
 /// entities that the unit smashes, whether it ends, errs or needs a step more, and whichever
@@ -12,4 +12,10 @@ pub fn runs_change_only_smashed()
 /// storage as it was where it ends. It does nothing.
 pub fn runs_without_smashing_change_nothing()
     ensures { RunsWithoutSmashingChangeNothing }
+{}
+
+/// Evaluating an expression of a statement leaves the storage as it was where it ends, if no
+/// FUNCTION of the deck smashes a dummy or a COMMON entity. It does nothing.
+pub fn evaluation_changes_nothing()
+    ensures { EvaluationChangesNothing }
 {}
