@@ -358,7 +358,7 @@ module _ (units : List Routine) (i j : ℕ) (c : Calls units i j) (of_caller : I
 
   pub bare : (d : Name) (s : Seated d) → Smashes units j d → Bare d s
   bare d s h =
-      let b = of_call.bare s.at d s.actual s.dummy h s.is_actual in
+      let b = of_call.smashed.bare s.at d s.actual s.dummy h s.is_actual in
       let is_actual : slice_get c.site.actuals s.at ≡ Some (Var b.0) = s.is_actual ∙ ap Some b.1 in
       let has : HasName c.caller b.0 = of_call.names s.at b.0 is_actual in
       record { name = b.0; is = b.1; has = has; smashed = subst (λ (z : Name). Smashes units i z) (sym has.name) (passes c s.at s.dummy is_actual h) }
@@ -433,7 +433,7 @@ module _ (units : List Routine) (i j : ℕ) (c : Calls units i j) (of_caller : I
     shared_dummy s r t (new y q p) = let l = shared_below d s k a in let m = (inside_by k _ _ p b).0 in absurd (omega arith)
     shared_dummy s r t (old f q p) =
         let o : IsOld c.caller env t.actual f = old_of e.name t f q in
-        let not_there : mentions t.actual d.name ≡ false = of_call.no_common t.at d.name t.actual (is_common units j c.callee of_callee d v.among d.name refl r) h t.is_actual in
+        let not_there : mentions t.actual d.name ≡ false = of_call.smashed.no_common t.at d.name t.actual (is_common units j c.callee of_callee d v.among d.name refl r) h t.is_actual in
         placed.apart s.its o.its s.among o.among (shared_smashed d v.among r s h)
         (λ same_names. clash (mentions t.actual d.name) (subst (λ (z : Name). mentions t.actual z ≡ true) (sym same_names ∙ s.name) o.mentioned) not_there) k
         (shared_inside d s k a) (old_inside k t.actual f o (inside_by k _ _ p b))
@@ -445,7 +445,7 @@ module _ (units : List Routine) (i j : ℕ) (c : Calls units i j) (of_caller : I
         placed.apart x.has.its t.its x.has.among t.among x.smashed
         (λ same_names.
         let named : t.its.name ≡ x.name = sym same_names ∙ x.has.name in
-        of_call.not_shared s.at d.name x.name s.dummy h (s.is_actual ∙ ap Some x.is)
+        of_call.smashed.not_shared s.at d.name x.name s.dummy h (s.is_actual ∙ ap Some x.is)
         (is_common units i c.caller of_caller t.its t.among x.name named t.role) (is_common units j c.callee of_callee e w.among x.name (sym t.name ∙ named) r)) k
         (inside_by k _ _ (bare_cells d.name s x f q) (inside_by k _ _ p a)) (shared_inside e t k b)
 
@@ -468,7 +468,7 @@ module _ (units : List Routine) (i j : ℕ) (c : Calls units i j) (of_caller : I
         let x : Bare d.name s = bare d.name s h in
         let y : IsOld c.caller env t.actual g = old_of e.name t g r in
         let not_there : mentions t.actual x.name ≡ false =
-        of_call.once t.at s.at d.name x.name t.actual (λ same_at. other_seats d.name e.name s t unlike (sym same_at)) s.dummy h (s.is_actual ∙ ap Some x.is) t.is_actual in
+        of_call.smashed.once t.at s.at d.name x.name t.actual (λ same_at. other_seats d.name e.name s t unlike (sym same_at)) s.dummy h (s.is_actual ∙ ap Some x.is) t.is_actual in
         placed.apart x.has.its y.its x.has.among y.among x.smashed
         (λ same_names. clash (mentions t.actual x.name) (subst (λ (z : Name). mentions t.actual z ≡ true) (sym same_names ∙ x.has.name) y.mentioned) not_there) k
         (inside_by k _ _ (bare_cells d.name s x f q) (inside_by k _ _ p a)) (old_inside k t.actual g y (inside_by k _ _ o b))

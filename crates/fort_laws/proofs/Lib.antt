@@ -7,6 +7,7 @@ pub mod FrameSeats
 pub mod Kept
 pub mod PlaceBounds
 pub mod References
+pub mod RulesKept
 pub mod StorageLaws
 pub mod Tied
 pub mod TiedParts

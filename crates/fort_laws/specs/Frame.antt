@@ -18,9 +18,10 @@ use Rattle.fort_model.specs.Lists.{IsAmong}
 use Rattle.fort_model.specs.Names.{is_function}
 use Rattle.fort_model.specs.Outcome.{Outcome, Ended, Erred, Running}
 use Rattle.fort_model.specs.Processor.{Processor}
-use Rattle.fort_model.specs.Program.{has_common}
+use Rattle.fort_model.specs.Program.{Program, has_common, commons}
+use Rattle.fort_model.specs.Rules.{KeepsRules}
 use Rattle.fort_model.specs.Run.{run, run_within}
-use Rattle.fort_model.specs.Smashes.{Smashes, set_by}
+use Rattle.fort_model.specs.Smashes.{Smashes, HoldsSmashed, set_by}
 use Rattle.fort_model.specs.Storage.{Storage, Environment, load}
 
 -- ---- what the law needs of a deck: facts that follow from its rules
@@ -73,20 +74,24 @@ pub record HasActual {units : List Routine} {i j : ℕ} (c : Calls units i j) (d
   pub is : slice_get c.site.actuals n ≡ Some actual
   pub dims : DimsAgree c.callee c.site.actuals d.dims (dims_of_actual c.caller actual)
 
--- A call in a deck: the actuals match the dummies, and a bare name is a data name. The actual of a dummy that the called unit
--- smashes is a bare name, which stands in no other actual and is no COMMON entity of both units. No actual contains a COMMON
--- entity that the called unit smashes. Each COMMON entity of the called unit is one of the calling unit, of the same size.
-pub record IsSoundCall {units : List Routine} {i j : ℕ} (c : Calls units i j) : Type 0 where
-  pub matches : (d : DataName) (n : ℕ) → IsAmong d c.callee.names → slice_get c.callee.dummies n ≡ Some d.name → HasActual c d n
-  pub names : (n : ℕ) (x : Name) → slice_get c.site.actuals n ≡ Some (Var x) → HasName c.caller x
+-- How a call passes what the called unit smashes: the actual of a dummy that it smashes is a bare name, which stands in no other
+-- actual and is no COMMON entity of both units; no actual contains a COMMON entity that it smashes.
+pub record PassesSmashedAlone {units : List Routine} {i j : ℕ} (c : Calls units i j) : Type 0 where
   pub bare : (n : ℕ) (d : Name) (e : Expr) → slice_get c.callee.dummies n ≡ Some d → Smashes units j d → slice_get c.site.actuals n ≡ Some e → (x : Name) × (e ≡ Var x)
   pub once : (m n : ℕ) (d x : Name) (e : Expr) → m ≢ n → slice_get c.callee.dummies n ≡ Some d → Smashes units j d → slice_get c.site.actuals n ≡ Some (Var x)
       → slice_get c.site.actuals m ≡ Some e → mentions e x ≡ false
   pub not_shared : (n : ℕ) (d x : Name) → slice_get c.callee.dummies n ≡ Some d → Smashes units j d → slice_get c.site.actuals n ≡ Some (Var x)
       → has_common c.caller x ≡ true → has_common c.callee x ≡ true → ⊥
   pub no_common : (n : ℕ) (x : Name) (e : Expr) → has_common c.callee x ≡ true → Smashes units j x → slice_get c.site.actuals n ≡ Some e → mentions e x ≡ false
+
+-- A call in a deck: the actuals match the dummies, and a bare name is a data name; each COMMON entity of the called unit is one of
+-- the calling unit, of the same size; and the call passes what is smashed alone.
+pub record IsSoundCall {units : List Routine} {i j : ℕ} (c : Calls units i j) : Type 0 where
+  pub matches : (d : DataName) (n : ℕ) → IsAmong d c.callee.names → slice_get c.callee.dummies n ≡ Some d.name → HasActual c d n
+  pub names : (n : ℕ) (x : Name) → slice_get c.site.actuals n ≡ Some (Var x) → HasName c.caller x
   pub commons : (d : DataName) → IsAmong d c.callee.names → d.role ≡ InCommon
       → (e : DataName) × IsAmong e c.caller.names × (e.name ≡ d.name) × (e.role ≡ InCommon) × (e.dims ≡ d.dims)
+  pub smashed : PassesSmashedAlone c
 
 pub record AreSound (units : List Routine) : Type 0 where
   pub units_are : (i : ℕ) (u : Routine) → slice_get units i ≡ Some u → IsSoundUnit units i u
@@ -147,3 +152,15 @@ EvaluationChangesNothing =
     → (line : Line) (e : Expr) → IsAmong line u.lines → ((site : CallSite) → IsAmong site (sites_in u e) → IsAmong site (sites_of u line.stmt))
     → (depth card k n : ℕ) (v : Cell) (after : Storage) (left : ℕ)
     → evaluate (record { processor = p; units = units; unit = u; environment = env }) (run_within p units depth) card k e st n ≡ Ended v after left → after ≡ st
+
+-- ---- what the rules on smashed names give
+
+-- each COMMON entity of a called unit stands in a COMMON block of the calling one
+abbrev pub SharesBlocks : List Routine → Type 0
+SharesBlocks units = (i j : ℕ) (c : Calls units i j) (x : Name) → has_common c.callee x ≡ true → IsAmong x (commons c.caller)
+
+-- a program that keeps the rules passes what is smashed alone, and no FUNCTION in it smashes what its caller sees
+abbrev pub RulesPassSmashedAlone : Type 0
+RulesPassSmashedAlone =
+    (p : Program) → KeepsRules p → HoldsSmashed p → SharesBlocks p.units
+    → ((i j : ℕ) (c : Calls p.units i j) → PassesSmashedAlone c) × FunctionsSmashNothing p.units

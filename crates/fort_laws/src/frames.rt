@@ -1,5 +1,5 @@
 // What runs leave as it was.
-ghost use Rattle.fort_laws.specs.Frame.{RunsChangeOnlySmashed, RunsWithoutSmashingChangeNothing, EvaluationChangesNothing};
+ghost use Rattle.fort_laws.specs.Frame.{RunsChangeOnlySmashed, RunsWithoutSmashingChangeNothing, EvaluationChangesNothing, RulesPassSmashedAlone};
 
 /// In a deck that keeps the rules on calls a run of a unit changes only cells of dummies and COMMON
 /// entities that the unit smashes, whether it ends, errs or needs a step more, and whichever
@@ -18,4 +18,11 @@ pub fn runs_without_smashing_change_nothing()
 /// FUNCTION of the deck smashes a dummy or a COMMON entity. It does nothing.
 pub fn evaluation_changes_nothing()
     ensures { EvaluationChangesNothing }
+{}
+
+/// A program that keeps the rules on smashed names passes them alone: as bare names that stand in
+/// no other actual and are no COMMON entities of both units. No FUNCTION in it smashes a dummy or a
+/// COMMON entity. It does nothing.
+pub fn rules_pass_smashed_alone()
+    ensures { RulesPassSmashedAlone }
 {}
