@@ -2,6 +2,7 @@ pub mod FrameCalls
 pub mod FrameClaims
 pub mod FrameEnter
 pub mod FrameParts
+pub mod FrameReads
 pub mod FrameRuns
 pub mod FrameSeats
 pub mod Kept

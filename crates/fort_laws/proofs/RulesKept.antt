@@ -1,24 +1,21 @@
 -- What the rules on smashed names give, where they are kept.
-use Rattle.std.proofs.Common.{◌≡◌, ◌≢◌, ℕ, zero, suc, ◌+◌, Bool, true, false, cond, not, ◌&&◌, ◌||◌, List, [], ◌∷◌, Option, Some, None, slice_get, refl, sym, ap, ◌∙◌, subst, arith, rules}
+use Rattle.std.proofs.Common.{◌≡◌, ◌≢◌, ℕ, zero, suc, ◌+◌, Bool, true, false, cond, not, ◌&&◌, ◌||◌, List, [], ◌∷◌, Option, Some, slice_get, refl, sym, ap, ◌∙◌, subst, arith, rules}
 use Rattle.std.specs.Prelude.{◌==◌}
 use Rattle.std.specs.List.{list_any, filter}
 use Rattle.fort_syntax.specs.declared.name.Name.{Name}
 use Rattle.fort_syntax.specs.declared.expr.Expr.{Expr}
 use Rattle.fort_syntax.specs.declared.expr.Expr.TheVariants.{Const, Truth, Var, Apply', Paren', Pos', Neg', Power', Bin', Rel', Not', And', Or'}
-use Rattle.fort_syntax.specs.declared.rule.Rule.{Rule}
 use Rattle.fort_syntax.specs.declared.rule.Rule.TheVariants.{SmashedNotName, SmashedTwice, SmashedCommon, FunctionSmashes}
 use Rattle.fort_syntax.specs.declared.stmt.Stmt.{Stmt}
-use Rattle.fort_syntax.specs.declared.unit.DataName.{DataName}
 use Rattle.fort_syntax.specs.declared.unit.Line.{Line}
 use Rattle.fort_syntax.specs.declared.unit.Unit.{Unit as Routine}
 use Rattle.fort_model.specs.Arguments.{mentions}
 use Rattle.fort_model.specs.CallRules.{of_unit, some_smashed, stands_elsewhere, bare_elsewhere, is_bare, is_bare_common, smashed_commons, passes_no_name, passes_twice, passes_common, some_call}
 use Rattle.fort_model.specs.Calls.{CallSite, Calls, callee_of, sites_of}
-use Rattle.fort_model.specs.Fits.{IsVisible}
 use Rattle.fort_model.specs.Lists.{IsAmong}
 use Rattle.fort_model.specs.Names.{is_function, is_own}
 use Rattle.fort_model.specs.Program.{Program, has_common, commons, is_smashed}
-use Rattle.fort_model.specs.Rules.{KeepsRules, IsBroken, cards_of_lines, at_lines, at_head, function_smashes}
+use Rattle.fort_model.specs.Rules.{KeepsRules, cards_of_lines, at_lines, function_smashes}
 use Rattle.fort_model.specs.Smashes.{Smashes, HoldsSmashed}
 use Rattle.fort_laws.specs.Frame.{PassesSmashedAlone, SharesBlocks, FunctionsSmashNothing, RulesPassSmashedAlone}
 

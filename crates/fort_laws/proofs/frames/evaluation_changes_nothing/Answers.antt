@@ -1,4 +1,4 @@
-use Rattle.fort_laws.proofs.FrameCalls.{evaluation_changes_nothing as law}
+use Rattle.fort_laws.proofs.FrameReads.{evaluation_changes_nothing as law}
 use Rattle.fort_laws.proofs.frames.evaluation_changes_nothing.Goals as goal
 
 pub returns : goal.returns
