@@ -1,0 +1,170 @@
+-- What the rules on smashed names give, where they are kept.
+use Rattle.std.proofs.Common.{◌≡◌, ◌≢◌, ℕ, zero, suc, ◌+◌, Bool, true, false, cond, not, ◌&&◌, ◌||◌, List, [], ◌∷◌, Option, Some, slice_get, refl, sym, ap, ◌∙◌, subst, arith, rules}
+use Rattle.std.specs.Prelude.{◌==◌}
+use Rattle.std.specs.List.{list_any, filter}
+use Rattle.fort_syntax.specs.declared.name.Name.{Name}
+use Rattle.fort_syntax.specs.declared.expr.Expr.{Expr}
+use Rattle.fort_syntax.specs.declared.expr.Expr.TheVariants.{Const, Truth, Var, Apply', Paren', Pos', Neg', Power', Bin', Rel', Not', And', Or'}
+use Rattle.fort_syntax.specs.declared.rule.Rule.TheVariants.{SmashedNotName, SmashedTwice, SmashedCommon, FunctionSmashes}
+use Rattle.fort_syntax.specs.declared.stmt.Stmt.{Stmt}
+use Rattle.fort_syntax.specs.declared.unit.Line.{Line}
+use Rattle.fort_syntax.specs.declared.unit.Unit.{Unit as Routine}
+use Rattle.fort_model.specs.Arguments.{mentions}
+use Rattle.fort_model.specs.CallRules.{of_unit, some_smashed, stands_elsewhere, bare_elsewhere, is_bare, is_bare_common, smashed_commons, passes_no_name, passes_twice, passes_common, some_call}
+use Rattle.fort_model.specs.Calls.{CallSite, Calls, callee_of, sites_of}
+use Rattle.fort_model.specs.Lists.{IsAmong}
+use Rattle.fort_model.specs.Names.{is_function, is_own}
+use Rattle.fort_model.specs.Program.{Program, has_common, commons, is_smashed}
+use Rattle.fort_model.specs.Rules.{KeepsRules, cards_of_lines, at_lines, function_smashes}
+use Rattle.fort_model.specs.Smashes.{Smashes, HoldsSmashed}
+use Rattle.fort_laws.specs.Frame.{PassesSmashedAlone, SharesBlocks, FunctionsSmashNothing, RulesPassSmashedAlone}
+
+-- ---- tests that fail
+
+clash : (b : Bool) → b ≡ true → b ≡ false → ⊥
+clash b t f = cc
+
+neither : (a b : Bool) → (a || b) ≡ false → (a ≡ false) × (b ≡ false)
+neither true b h = absurd (cc)
+neither false b h = (refl, h)
+
+not_both : (a b : Bool) → (a && b) ≡ false → a ≡ true → b ≡ false
+not_both true b h e = h
+not_both false b h e = absurd (cc)
+
+both_are : (a b : Bool) → a ≡ true → b ≡ true → (a && b) ≡ true
+both_are true b e h = h
+both_are false b e h = absurd (cc)
+
+is_false : (b : Bool) → (b ≡ true → ⊥) → b ≡ false
+is_false true h = absurd (h refl)
+is_false false h = refl
+
+none_passes : {A : Type 0} (test : A → Bool) (xs : List A) (x : A) → list_any test xs ≡ false → IsAmong x xs → test x ≡ false
+none_passes test [] x h m = absurd (cc)
+none_passes test (y ∷ ys) x h (zero, e) = let f : y ≡ x = cc in ap test (sym f) ∙ (neither (test y) (list_any test ys) h).0
+none_passes test (y ∷ ys) x h (suc k, e) = none_passes test ys x (neither (test y) (list_any test ys) h).1 (k, e)
+
+more_among : {A : Type 0} (t : Bool) (x y : A) (fewer : List A) → IsAmong x fewer → IsAmong x (cond t (y ∷ fewer) fewer)
+more_among true x y fewer m = (suc m.0, m.1)
+more_among false x y fewer m = m
+
+passes_filter : {A : Type 0} (test : A → Bool) (xs : List A) (x : A) → IsAmong x xs → test x ≡ true → IsAmong x (filter test xs)
+passes_filter test [] x m t = absurd (cc)
+passes_filter test (y ∷ ys) x (zero, e) t =
+    let f : y ≡ x = cc in
+    subst (λ (b : Bool). IsAmong x (cond b (y ∷ filter test ys) (filter test ys))) (sym (ap test f ∙ t)) (0, ap Some f)
+passes_filter test (y ∷ ys) x (suc k, e) t = more_among (test y) x y (filter test ys) (passes_filter test ys x (k, e) t)
+
+-- ---- cards of broken rules
+
+card_found : (test : ℕ → Stmt → Bool) (pc : ℕ) (lines : List Line) (k : ℕ) (line : Line) → slice_get lines k ≡ Some line → test (pc + k) line.stmt ≡ true → IsAmong line.card (cards_of_lines test pc lines)
+card_found test pc [] k line e t = absurd (cc)
+card_found test pc (y ∷ ys) zero line e t =
+    let f : y ≡ line = cc in
+    let at : pc + 0 ≡ pc = omega arith in
+    let t2 : test pc y.stmt ≡ true = ap (λ (z : Line). test pc z.stmt) f ∙ (ap (λ (n : ℕ). test n line.stmt) (sym at) ∙ t) in
+    subst (λ (b : Bool). IsAmong line.card (cond b (y.card ∷ cards_of_lines test (suc pc) ys) (cards_of_lines test (suc pc) ys))) (sym t2) (0, ap (λ (z : Line). Some z.card) f)
+card_found test pc (y ∷ ys) (suc k) line e t =
+    let at : pc + suc k ≡ suc pc + k = omega arith in
+    more_among (test pc y.stmt) line.card y.card (cards_of_lines test (suc pc) ys) (card_found test (suc pc) ys k line e (ap (λ (n : ℕ). test n line.stmt) (sym at) ∙ t))
+
+-- a rule on calls that no line breaks is broken by no call
+unbroken : (p : Program) (breaks : CallSite → ℕ → Routine → Bool) {i j : ℕ} (c : Calls p.units i j) → ((card : ℕ) → IsAmong card (at_lines c.caller (λ pc s. some_call p c.caller s breaks)) → ⊥)
+    → breaks c.site j c.callee ≡ false
+unbroken p breaks {j = j} c none =
+    let line_ok : some_call p c.caller c.line.stmt breaks ≡ false =
+    is_false (some_call p c.caller c.line.stmt breaks) (λ t. none c.line.card (card_found (λ pc s. some_call p c.caller s breaks) 0 c.caller.lines c.is_line.0 c.line c.is_line.1 t)) in
+    let site_ok : of_unit p (callee_of p.units c.site) (breaks c.site) ≡ false =
+    none_passes (λ site. of_unit p (callee_of p.units site) (breaks site)) (sites_of c.caller c.line.stmt) c.site line_ok c.is_site in
+    ap (λ (o : Option Routine). Rattle.fort_model.specs.CallRules.in_unit o (breaks c.site j)) (sym c.is_callee) ∙ (ap (λ (o : Option ℕ). of_unit p o (breaks c.site)) (sym c.is_of) ∙ site_ok)
+
+-- ---- tests of smashed dummies
+
+smashed_passes : (smashed : Name → Bool) (test : ℕ → Expr → Bool) (n : ℕ) (ds : List Name) (es : List Expr) (k : ℕ) (d : Name) (e : Expr)
+    → some_smashed smashed test n ds es ≡ false → slice_get ds k ≡ Some d → smashed d ≡ true → slice_get es k ≡ Some e → test (n + k) e ≡ false
+smashed_passes smashed test n [] es k d e h a s b = absurd (cc)
+smashed_passes smashed test n (y ∷ ys) [] k d e h a s b = absurd (cc)
+smashed_passes smashed test n (y ∷ ys) (f ∷ fs) zero d e h a s b =
+    let q : y ≡ d = cc in let r : f ≡ e = cc in
+    let at : n + 0 ≡ n = omega arith in
+    let t : test n f ≡ false = not_both (smashed y) (test n f) (neither (smashed y && test n f) (some_smashed smashed test (suc n) ys fs) h).0 (ap smashed q ∙ s) in
+    ap (λ (m : ℕ). test m e) at ∙ (ap (test n) (sym r) ∙ t)
+smashed_passes smashed test n (y ∷ ys) (f ∷ fs) (suc k) d e h a s b =
+    let at : n + suc k ≡ suc n + k = omega arith in
+    ap (λ (m : ℕ). test m e) at ∙ smashed_passes smashed test (suc n) ys fs k d e (neither (smashed y && test n f) (some_smashed smashed test (suc n) ys fs) h).1 a s b
+
+bare_of : (e : Expr) → not (is_bare e) ≡ false → (x : Name) × (e ≡ Var x)
+bare_of (Var x) h = (x, refl)
+bare_of (Const n) h = absurd (cc)
+bare_of (Truth b) h = absurd (cc)
+bare_of (Apply' f shape args) h = absurd (cc)
+bare_of (Paren' shape a) h = absurd (cc)
+bare_of (Pos' shape a) h = absurd (cc)
+bare_of (Neg' shape a) h = absurd (cc)
+bare_of (Power' shape a n) h = absurd (cc)
+bare_of (Bin' o q a r b) h = absurd (cc)
+bare_of (Rel' o q a r b) h = absurd (cc)
+bare_of (Not' shape a) h = absurd (cc)
+bare_of (And' q a r b) h = absurd (cc)
+bare_of (Or' q a r b) h = absurd (cc)
+
+differ : (k n : ℕ) → k ≢ n → not (k == n) ≡ true
+differ k n h = ap not (is_false (k == n) (λ t. h (same_number t)))
+  where
+    same_number : (k == n) ≡ true → k ≡ n
+    same_number t = search rules
+
+elsewhere : (n : ℕ) (x : Name) (k : ℕ) (es : List Expr) (m : ℕ) (e : Expr) → stands_elsewhere n x k es ≡ false → slice_get es m ≡ Some e → k + m ≢ n → mentions e x ≡ false
+elsewhere n x k [] m e h a unlike = absurd (cc)
+elsewhere n x k (f ∷ fs) zero e h a unlike =
+    let r : f ≡ e = cc in
+    let at : k + 0 ≡ k = omega arith in
+    let t : mentions f x ≡ false = not_both (not (k == n)) (mentions f x) (neither (not (k == n) && mentions f x) (stands_elsewhere n x (suc k) fs) h).0 (differ k n (λ q. unlike (at ∙ q))) in
+    ap (λ (z : Expr). mentions z x) (sym r) ∙ t
+elsewhere n x k (f ∷ fs) (suc m) e h a unlike =
+    let at : k + suc m ≡ suc k + m = omega arith in
+    elsewhere n x (suc k) fs m e (neither (not (k == n) && mentions f x) (stands_elsewhere n x (suc k) fs) h).1 a (λ q. unlike (at ∙ q))
+
+module _ (p : Program) (keeps : KeepsRules p) (table : HoldsSmashed p) (shares : SharesBlocks p.units) where
+  listed : (j : ℕ) (x : Name) → Smashes p.units j x → is_smashed p j x ≡ true
+  listed j x s = (table j x).1 s
+
+  module _ (i j : ℕ) (c : Calls p.units i j) where
+    no_name : passes_no_name p c.site j c.callee ≡ false
+    no_name = unbroken p (passes_no_name p) c (λ card m. keeps SmashedNotName i card (record { unit = c.caller; is_unit = c.is_caller; breaks = m }))
+
+    twice : passes_twice p c.site j c.callee ≡ false
+    twice = unbroken p (passes_twice p) c (λ card m. keeps SmashedTwice i card (record { unit = c.caller; is_unit = c.is_caller; breaks = m }))
+
+    common : passes_common p c.caller c.site j c.callee ≡ false
+    common = unbroken p (passes_common p c.caller) c (λ card m. keeps SmashedCommon i card (record { unit = c.caller; is_unit = c.is_caller; breaks = m }))
+
+    common_parts : (list_any (λ x. list_any (λ e. mentions e x) c.site.actuals) (smashed_commons p c.caller j c.callee) ≡ false)
+        × (some_smashed (is_smashed p j) (λ n e. is_bare_common c.caller c.callee e) 0 c.callee.dummies c.site.actuals ≡ false)
+    common_parts = neither (list_any (λ x. list_any (λ e. mentions e x) c.site.actuals) (smashed_commons p c.caller j c.callee)) _ common
+
+    passes_alone : PassesSmashedAlone c
+    passes_alone = record {
+      bare = λ n d e a s b. bare_of e (smashed_passes (is_smashed p j) (λ n e. not (is_bare e)) 0 c.callee.dummies c.site.actuals n d e no_name a (listed j d s) b);
+      once = λ m n d x e unlike a s b q.
+          elsewhere (0 + n) x 0 c.site.actuals m e (smashed_passes (is_smashed p j) (bare_elsewhere c.site.actuals) 0 c.callee.dummies c.site.actuals n d (Var x) twice a (listed j d s) b) q (λ z. unlike (omega arith));
+      not_shared = λ n d x a s b caller callee.
+          clash (has_common c.caller x && has_common c.callee x) (both_are (has_common c.caller x) (has_common c.callee x) caller callee)
+          (smashed_passes (is_smashed p j) (λ n e. is_bare_common c.caller c.callee e) 0 c.callee.dummies c.site.actuals n d (Var x) common_parts.1 a (listed j d s) b);
+      no_common = λ n x e callee s b.
+          none_passes (λ f. mentions f x) c.site.actuals e
+          (none_passes (λ y. list_any (λ f. mentions f y) c.site.actuals) (smashed_commons p c.caller j c.callee) x common_parts.0
+          (passes_filter (λ y. has_common c.callee y && is_smashed p j y) (commons c.caller) x (shares i j c x callee) (both_are (has_common c.callee x) (is_smashed p j x) callee (listed j x s)))) (n, b);
+    }
+
+  harmless : FunctionsSmashNothing p.units
+  harmless j g d is function visible s =
+      let broken : function_smashes p j g ≡ false =
+      is_false (function_smashes p j g) (λ t. keeps FunctionSmashes j g.head (record { unit = g; is_unit = is; breaks = subst (λ (b : Bool). IsAmong g.head (cond b (g.head ∷ []) [])) (sym t) (0, refl) })) in
+      let none = not_both (is_function g) (list_any (λ e. not (is_own e.role) && is_smashed p j e.name) g.names) broken function in
+      let one = none_passes (λ e. not (is_own e.role) && is_smashed p j e.name) g.names d none visible.among in
+      clash (is_smashed p j d.name) (listed j d.name s) (not_both (not (is_own d.role)) (is_smashed p j d.name) one (ap not visible.not_own))
+
+pub rules_pass_smashed_alone : RulesPassSmashedAlone
+rules_pass_smashed_alone p keeps table shares = (λ i j c. passes_alone p keeps table shares i j c, harmless p keeps table shares)
