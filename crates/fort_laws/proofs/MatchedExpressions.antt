@@ -1,17 +1,15 @@
 -- Expressions: what a walk by values makes of them, and what a strict run makes of them where these values stand for cells.
-use Rattle.std.proofs.Common.{◌≡◌, ℕ, zero, suc, ◌+◌, ◌-◌, ◌<◌, ◌≤◌, Bool, true, false, cond, not, ◌&&◌, ◌||◌, ℤ, pos, negsuc, ◌+ℤ◌, ◌-ℤ◌, ◌*ℤ◌, List, [], ◌∷◌, ◌++◌, map, length, Option, Some, None, slice_get, refl, sym, ap, ◌∙◌, subst, arith}
-use Rattle.std.specs.Prelude.{int_le, int_lt, neg_ℤ, pred, nat_lt, slice_index_or}
-use Rattle.formula.specs.declared.function.BuiltIn.{BuiltIn as Builtin}
+use Rattle.std.proofs.Common.{◌≡◌, ℕ, zero, suc, Bool, true, false, cond, not, ◌&&◌, ℤ, pos, ◌+ℤ◌, ◌-ℤ◌, ◌*ℤ◌, List, [], ◌∷◌, refl, sym, ap, ◌∙◌, subst}
+use Rattle.std.specs.Prelude.{int_le, int_lt, nat_lt}
 use Rattle.formula.specs.declared.function.BuiltIn.TheVariants as f
 use Rattle.formula.specs.declared.value.Cell.{Cell}
 use Rattle.formula.specs.declared.value.Cell.TheVariants as cell
 use Rattle.formula.specs.declared.value.Value.{Value}
-use Rattle.formula.specs.declared.value.Value.TheVariants.{Int, Logical as Truth, Undefined, Cells as CellList}
+use Rattle.formula.specs.declared.value.Value.TheVariants.{Int, Logical as Truth}
 use Rattle.formula.specs.Values as value
 use Rattle.formula.specs.Values.{holds, of_cell, is_between, applied, cell_at, value_or_undefined}
 use Rattle.formula.specs.Worth.{Function}
-use Rattle.fort_syntax.specs.declared.name.Name.{Name}
-use Rattle.fort_syntax.specs.declared.condition.Kind.TheVariants.{DefinedCheck, RangeCheck, DivisorCheck, SubscriptCheck}
+use Rattle.fort_syntax.specs.declared.condition.Kind.TheVariants.{RangeCheck, DivisorCheck}
 use Rattle.fort_syntax.specs.declared.dialect.BinOp.{BinOp}
 use Rattle.fort_syntax.specs.declared.dialect.BinOp.TheVariants.{Add, Sub, Mul, Div}
 use Rattle.fort_syntax.specs.declared.dialect.RelOp.{RelOp}
@@ -19,22 +17,21 @@ use Rattle.fort_syntax.specs.declared.dialect.RelOp.TheVariants.{Lt, Le, Eq, Ne,
 use Rattle.fort_syntax.specs.declared.dialect.Sort.{Sort}
 use Rattle.fort_syntax.specs.declared.dialect.Sort.TheVariants.{Integer, Logical}
 use Rattle.fort_syntax.specs.declared.unit.Unit.{Unit as Routine}
-use Rattle.fort_model.specs.Cells.{num, is_defined, holds as run_holds, arithmetic, compares}
+use Rattle.fort_model.specs.Cells.{num, holds as run_holds, compares}
 use Rattle.fort_model.specs.Conditions.{sight}
 use Rattle.fort_model.specs.Evaluate as run
 use Rattle.fort_model.specs.Evaluate.{Scene}
-use Rattle.fort_model.specs.Events.{Check, Take}
-use Rattle.fort_model.specs.Outcome.{Act, give, check, held}
-use Rattle.fort_model.specs.Processor.{Processor}
+use Rattle.fort_model.specs.Events.{Check}
+use Rattle.fort_model.specs.Outcome.{give, check}
 use Rattle.fort_model.specs.Program.{Program}
-use Rattle.fort_model.specs.Seen.{Named, See, see, meet}
+use Rattle.fort_model.specs.Seen.{see, meet}
 use Rattle.fort_model.specs.Senses as sense
 use Rattle.fort_model.specs.Senses.{Sense, of_values}
-use Rattle.fort_model.specs.Storage.{Storage, Environment, load}
+use Rattle.fort_model.specs.Storage.{Storage}
 use Rattle.fort_model.specs.Symbols.{Symbol, LeastInteger, GreatestInteger}
 use Rattle.fort_model.specs.WalkCalls.{Sight}
 use Rattle.fort_model.specs.WalkExpr as walk
-use Rattle.fort_laws.proofs.Matching.{Matches, Same, stays_then, matches_see, matches_check, matches_as, followed}
+use Rattle.fort_laws.proofs.Matching.{Matches, Same, stays_then, matches_see, matches_check, matches_as}
 
 and_one : (b : Bool) → (b && true) ≡ b
 and_one true = refl

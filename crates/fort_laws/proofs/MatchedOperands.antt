@@ -1,58 +1,36 @@
 -- Expressions as a whole: where named values stand for cells, a walk and a strict run evaluate them alike, or the run
 -- errs where the walk's first false check is.
-use Rattle.std.proofs.Common.{◌≡◌, ℕ, zero, suc, ◌+◌, ◌-◌, ◌<◌, ◌≤◌, ◌⊎◌, inl, inr, Bool, true, false, cond, not, ◌&&◌, ◌||◌, ℤ, pos, ◌+ℤ◌, ◌-ℤ◌, List, [], ◌∷◌, map, length, Option, Some, None, refl, sym, ap, ◌∙◌, subst, arith}
-use Rattle.std.specs.Prelude.{nat_lt, pred, neg_ℤ, int_le}
-use mathlib.Core.Former.{Count}
-use Rattle.formula.specs.declared.function.BuiltIn.{BuiltIn as Builtin}
-use Rattle.formula.specs.declared.function.BuiltIn.TheVariants as f
+use Rattle.std.proofs.Common.{◌≡◌, ℕ, Bool, true, false, pos, List, refl}
+use Rattle.std.specs.Prelude.{nat_lt, int_le}
 use Rattle.formula.specs.declared.value.Cell.{Cell}
 use Rattle.formula.specs.declared.value.Cell.TheVariants as cell
 use Rattle.formula.specs.declared.value.Value.{Value}
-use Rattle.formula.specs.declared.value.Value.TheVariants.{Int, Logical as Truth, Undefined, Cells as CellList}
-use Rattle.formula.specs.Values as value
-use Rattle.formula.specs.Values.{holds, of_cell, count}
+use Rattle.formula.specs.declared.value.Value.TheVariants.{Int, Logical as Truth}
+use Rattle.formula.specs.Values.{of_cell}
 use Rattle.formula.specs.Worth.{Function}
-use Rattle.fort_syntax.specs.declared.name.Name.{Name}
 use Rattle.fort_syntax.specs.declared.dialect.Sort.{Sort}
 use Rattle.fort_syntax.specs.declared.dialect.Sort.TheVariants.{Integer, Logical}
-use Rattle.fort_syntax.specs.declared.expr.Expr.{Expr, Row_of-Expr, end_of-Expr, more_of-Expr}
-use Rattle.fort_syntax.specs.declared.expr.Expr.TheVariants.{Const, Truth as TruthConstant, Var, Apply', Paren', Pos', Neg', Power', Bin', Rel', Not', And', Or'}
-use Rattle.fort_syntax.specs.declared.stmt.Dim.{Dim}
-use Rattle.fort_syntax.specs.declared.unit.DataName.{DataName}
-use Rattle.fort_syntax.specs.declared.unit.Unit.{Unit as Routine}
-use Rattle.fort_model.specs.Cells.{num, is_defined, holds as run_holds, compares}
 use Rattle.fort_model.specs.Conditions.{sight}
-use Rattle.fort_model.specs.Correct.{held_in}
 use Rattle.fort_model.specs.Evaluate as run
 use Rattle.fort_model.specs.Evaluate.{Scene}
-use Rattle.fort_model.specs.Names.{Applied, Element, BuiltIn, Reference, Intrinsic, Absolute, Modulo, Greatest, Least, applied, data_name, function, unit_at}
-use Rattle.fort_model.specs.Outcome.{Act, give, check, held}
-use Rattle.fort_model.specs.Passing.{Taken, Cells, Fresh, Caller, call, passed}
-use Rattle.fort_model.specs.Places.{dim_values, place, stretch}
+use Rattle.fort_model.specs.Outcome.{Act, give}
+use Rattle.fort_model.specs.Passing.{Taken, Cells, Fresh, Caller}
 use Rattle.fort_model.specs.Program.{Program}
-use Rattle.fort_model.specs.Seen.{Named, See, see, meet}
-use Rattle.fort_model.specs.Senses as sense
-use Rattle.fort_model.specs.Senses.{Sense, of_values}
-use Rattle.fort_model.specs.Sites.{calls_in}
-use Rattle.fort_model.specs.Storage.{Storage, Environment, Extent, load, contents}
+use Rattle.fort_model.specs.Seen.{Named, See, see}
+use Rattle.fort_model.specs.Senses.{of_values}
+use Rattle.fort_model.specs.Storage.{Storage, load}
 use Rattle.fort_model.specs.Symbols.{Symbol, LeastInteger, GreatestInteger}
-use Rattle.fort_model.specs.Trees.{only}
 use Rattle.fort_model.specs.WalkCalls.{Sight, Operand, Bare, Part, Computed}
-use Rattle.fort_model.specs.WalkCalls as walk_call
 use Rattle.fort_model.specs.WalkExpr as walk
-use Rattle.fort_model.specs.WalkPlaces as places
-use Rattle.fort_laws.specs.Places.{AreWithin}
-use Rattle.fort_laws.proofs.Matching.{Matches, Same, stays_then, matches_see, matches_check, matches_as, matches_held, followed}
-use Rattle.fort_laws.proofs.MatchedExpressions.{IsOf, IsSort, Of, integer_is, logical_is, matches_ranged, matches_constant, matches_large, matches_operate, matches_power_from, matches_divisor, relation_is, matches_truth, and_two}
-use Rattle.fort_laws.proofs.MatchedPlaces.{MayBe, Standing, IsScalar, AreDims, scalar_stands, scalar_sort, matches_read, AreOf, AreAsMany, matches_subscripts, place_is, cell_of_place}
+use Rattle.fort_laws.proofs.Matching.{Matches, Same, stays_then, matches_see}
+use Rattle.fort_laws.proofs.MatchedExpressions.{IsOf, Of, matches_constant, matches_large}
+use Rattle.fort_laws.proofs.MatchedPlaces.{MayBe, Standing, matches_read}
 use Rattle.fort_laws.proofs.Near.{known}
-use Rattle.fort_laws.proofs.PlaceBounds.{LiesIn, lies_in_array}
 
 module _ (fs : List Function) (values : Symbol → Value) (program : Program) (i : ℕ) (s : Scene) (caller : Caller)
     (least : values LeastInteger ≡ Int s.processor.least) (greatest : values GreatestInteger ≡ Int s.processor.greatest)
     (strict : s.processor.lazy ≡ false) (bounded : (n : ℕ) → nat_lt program.bound n ≡ false → int_le (pos n) s.processor.greatest ≡ true)
     (st : Storage) (now : Named Value) (standing : Standing s.unit s.environment st now) where
-
   abbrev w : Sight Value
   w = sight (of_values fs values) program i s.unit
 

@@ -1,11 +1,9 @@
 -- Names and elements: where named values stand for cells, what a walk reads is what the cells hold.
-use Rattle.std.proofs.Common.{◌≡◌, ℕ, zero, suc, ◌+◌, ◌-◌, ◌<◌, ◌≤◌, Bool, true, false, cond, ◌&&◌, ℤ, pos, ◌+ℤ◌, ◌-ℤ◌, ◌*ℤ◌, List, [], ◌∷◌, map, length, Option, Some, None, slice_get, refl, sym, ap, ◌∙◌, subst, arith}
+use Rattle.std.proofs.Common.{◌≡◌, ℕ, zero, suc, ◌+◌, ◌<◌, ◌≤◌, true, ◌&&◌, ℤ, pos, ◌+ℤ◌, ◌-ℤ◌, ◌*ℤ◌, List, [], ◌∷◌, Some, slice_get, refl, sym, ap, ◌∙◌, subst, arith}
 use Rattle.std.specs.Prelude.{int_le}
-use Rattle.formula.specs.declared.function.BuiltIn.TheVariants as f
 use Rattle.formula.specs.declared.value.Cell.{Cell}
 use Rattle.formula.specs.declared.value.Cell.TheVariants as cell
 use Rattle.formula.specs.declared.value.Value.{Value}
-use Rattle.formula.specs.declared.value.Value.TheVariants.{Int, Logical as Truth, Undefined, Cells as CellList}
 use Rattle.formula.specs.Values as value
 use Rattle.formula.specs.Values.{holds, of_cell, is_between, cell_at, value_or_undefined, count}
 use Rattle.formula.specs.Worth.{Function}
@@ -22,15 +20,13 @@ use Rattle.fort_model.specs.Conditions.{sight}
 use Rattle.fort_model.specs.Correct.{held_in}
 use Rattle.fort_model.specs.Evaluate as run
 use Rattle.fort_model.specs.Evaluate.{Scene}
-use Rattle.fort_model.specs.Events.{Check, checks}
+use Rattle.fort_model.specs.Events.{checks}
 use Rattle.fort_model.specs.Names.{data_name}
-use Rattle.fort_model.specs.Outcome.{Act, give, check, held}
-use Rattle.fort_model.specs.Passing.{Taken, Cells, Fresh}
+use Rattle.fort_model.specs.Outcome.{give, check}
 use Rattle.fort_model.specs.Places.{dim_value, dim_values, place, place_from, stretch}
 use Rattle.fort_model.specs.Program.{Program}
-use Rattle.fort_model.specs.Seen.{Named, See, see, meet}
-use Rattle.fort_model.specs.Senses as sense
-use Rattle.fort_model.specs.Senses.{Sense, of_values}
+use Rattle.fort_model.specs.Seen.{Named, meet}
+use Rattle.fort_model.specs.Senses.{of_values}
 use Rattle.fort_model.specs.Storage.{Storage, Environment, load, contents}
 use Rattle.fort_model.specs.Symbols.{Symbol}
 use Rattle.fort_model.specs.WalkCalls.{Sight}
@@ -39,7 +35,7 @@ use Rattle.fort_model.specs.WalkPlaces as places
 use Rattle.fort_laws.specs.Places.{AreWithin}
 use Rattle.fort_laws.proofs.Matching.{Matches, Same, stays_then, matches_see, matches_check, matches_as, matches_held, followed}
 use Rattle.fort_laws.proofs.MatchedExpressions.{IsOf, IsSort, Of, and_two}
-use Rattle.fort_laws.proofs.PlaceBounds.{LiesIn, lies_in_array, one_less}
+use Rattle.fort_laws.proofs.PlaceBounds.{LiesIn, one_less}
 
 -- a cell is undefined or holds a value of a type
 abbrev pub MayBe : Sort → Cell → Type 0

@@ -13,11 +13,7 @@ pub record IsIndex (s d : ℤ) : Type 0 where
   pub dimension : d ≡ pos size
   pub less : before < size
 
-<<<<<<< HEAD
-index_of : (s d : ℤ) → is_between (pos 1) d s ≡ true → IsIndex s d
-=======
 pub index_of : (s d : ℤ) → is_between (pos 1) d s ≡ true → IsIndex s d
->>>>>>> f41663d5970a8fb26fbb276a4abaf8c0556f9f4f
 index_of (pos zero) d h = search rules
 index_of (negsuc n) d h = search rules
 index_of (pos (suc n)) (negsuc k) h = search rules
@@ -61,15 +57,10 @@ lies_in_array [] (d ∷ ds) h = absurd h
 lies_in_array (s ∷ ss) [] h = absurd h
 lies_in_array (s ∷ ss) (d ∷ ds) h =
     let i : IsIndex s d = index_of s d h.0 in
-<<<<<<< HEAD
     let less = i.less in
     subst (λ (w : ℤ). LiesIn (place_from s w ss ds) (stretch_from w ds)) (sym i.dimension)
     (subst (λ (z : ℤ). LiesIn (place_from z (pos i.size) ss ds) (stretch_from (pos i.size) ds)) (sym i.subscript)
     (on (suc i.before) i.size (omega arith) (omega arith) ss ds h.1))
-=======
-    let rec = on (suc i.before) i.size (omega arith) (let l = i.less in omega arith) ss ds h.1 in
-    subst (λ (w : ℤ). LiesIn (place_from s w ss ds) (stretch_from w ds)) (sym i.dimension) (subst (λ (z : ℤ). LiesIn (place_from z (pos i.size) ss ds) (stretch_from (pos i.size) ds)) (sym i.subscript) rec)
->>>>>>> f41663d5970a8fb26fbb276a4abaf8c0556f9f4f
 
 as_test : (z w : ℤ) → LiesIn z w → is_between (pos 1) w z ≡ true
 as_test z w h =

@@ -1,25 +1,19 @@
 //! Laws of runs and walks: what holds of every deck.
 #![tactic(auto)]
 
-<<<<<<< HEAD
 mod clocks;
 mod exactness;
-=======
 mod frames;
->>>>>>> f41663d5970a8fb26fbb276a4abaf8c0556f9f4f
 mod places;
 mod steps;
 mod ways;
 
-<<<<<<< HEAD
 pub use clocks::clocks_fall_only_so_often;
 pub use exactness::{checks_do_not_depend_on_values, conditions_are_exact};
-=======
 pub use frames::{
     evaluation_changes_nothing, rules_pass_smashed_alone, runs_change_only_smashed,
     runs_without_smashing_change_nothing,
 };
->>>>>>> f41663d5970a8fb26fbb276a4abaf8c0556f9f4f
 pub use places::elements_lie_in_arrays;
 pub use steps::{
     fewer_steps_are_not_enough, fuel_does_not_matter, more_steps_change_nothing, runs_unfold,
