@@ -12,7 +12,6 @@ use Rattle.fort_syntax.specs.declared.expr.Expr.{Expr, Row_of-Expr, end_of-Expr,
 use Rattle.fort_syntax.specs.declared.expr.Expr.TheVariants.{Const, Truth, Var, Apply', Paren', Pos', Neg', Power', Bin', Rel', Not', And', Or'}
 
 infixr 1 ◌⨾◌
-
 -- ---- texts
 
 -- which texts spell something
