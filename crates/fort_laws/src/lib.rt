@@ -6,7 +6,7 @@ mod places;
 mod steps;
 
 pub use frames::{
-    evaluation_changes_nothing, rules_pass_smashed_alone, runs_change_only_smashed,
+    evaluation_changes_nothing, rules_make_sound, rules_pass_smashed_alone, runs_change_only_smashed,
     runs_without_smashing_change_nothing,
 };
 pub use places::elements_lie_in_arrays;
