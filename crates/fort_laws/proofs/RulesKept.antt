@@ -1,4 +1,4 @@
--- What the rules on smashed names give, where they are kept.
+-- What the rules on calls and smashed names give, where they are kept.
 use Rattle.std.proofs.Common.{◌≡◌, ◌≢◌, ℕ, zero, suc, ◌+◌, Bool, true, false, cond, not, ◌&&◌, ◌||◌, List, [], ◌∷◌, Option, Some, None, slice_get, refl, sym, ap, ◌∙◌, subst, arith, rules}
 use Rattle.std.specs.Prelude.{◌==◌}
 use Rattle.std.specs.List.{list_any, filter}
@@ -11,7 +11,7 @@ use Rattle.fort_syntax.specs.declared.unit.DataName.{DataName}
 use Rattle.fort_syntax.specs.declared.unit.Line.{Line}
 use Rattle.fort_syntax.specs.declared.unit.Unit.{Unit as Routine}
 use Rattle.fort_model.specs.Arguments.{mentions, actual_for, gives_dim, dim_agrees, dims_agree, all_fit, fits_dummy, actuals_fit, reference_fits, same_sort_as, sort_of_expr, dims_of_actual}
-use Rattle.fort_model.specs.CallRules.{of_unit, some_smashed, stands_elsewhere, bare_elsewhere, is_bare, is_bare_common, smashed_commons, passes_no_name, passes_twice, passes_common, some_call, mismatches}
+use Rattle.fort_model.specs.CallRules.{in_unit, of_unit, some_smashed, stands_elsewhere, bare_elsewhere, is_bare, is_bare_common, smashed_commons, passes_no_name, passes_twice, passes_common, some_call, mismatches}
 use Rattle.fort_model.specs.Calls.{CallSite, Calls, callee_of, sites_of}
 use Rattle.fort_model.specs.Lists.{IsAmong}
 use Rattle.fort_model.specs.Names.{is_function, is_own, same_name, data_name}
@@ -23,7 +23,7 @@ use Rattle.fort_syntax.specs.declared.stmt.Dim.TheVariants.{Fixed, Named}
 use Rattle.fort_model.specs.Walk.{is_dim, is_some_dim}
 use Rattle.std.specs.Cmp.Lexicographic.{same_text}
 use Rattle.fort_laws.specs.Declared.{IsDimension, IsDeclared, AreDeclared, RulesMakeSound}
-use Rattle.fort_laws.specs.Frame.{PassesSmashedAlone, SharesBlocks, FunctionsSmashNothing, RulesPassSmashedAlone, IsDim, DimAgrees, DimsAgree, HasActual, IsSoundUnit, IsSoundCall, AreSound}
+use Rattle.fort_laws.specs.Frame.{PassesSmashedAlone, SharesBlocks, FunctionsSmashNothing, RulesPassSmashedAlone, IsDim, DimAgrees, DimsAgree, HasActual, IsSoundUnit, AreSound}
 use Rattle.fort_laws.proofs.FrameEnter.{SameOrNot, same, other, same_or_not}
 use Rattle.fort_laws.proofs.FrameSeats.{same_self, found}
 
@@ -85,7 +85,7 @@ unbroken p breaks {j = j} c none =
     is_false (some_call p c.caller c.line.stmt breaks) (λ t. none c.line.card (card_found (λ pc s. some_call p c.caller s breaks) 0 c.caller.lines c.is_line.0 c.line c.is_line.1 t)) in
     let site_ok : of_unit p (callee_of p.units c.site) (breaks c.site) ≡ false =
     none_passes (λ site. of_unit p (callee_of p.units site) (breaks site)) (sites_of c.caller c.line.stmt) c.site line_ok c.is_site in
-    ap (λ (o : Option Routine). Rattle.fort_model.specs.CallRules.in_unit o (breaks c.site j)) (sym c.is_callee) ∙ (ap (λ (o : Option ℕ). of_unit p o (breaks c.site)) (sym c.is_of) ∙ site_ok)
+    ap (λ (o : Option Routine). in_unit o (breaks c.site j)) (sym c.is_callee) ∙ (ap (λ (o : Option ℕ). of_unit p o (breaks c.site)) (sym c.is_of) ∙ site_ok)
 
 -- ---- tests of smashed dummies
 
@@ -270,7 +270,12 @@ module _ (p : Program) (keeps : KeepsRules p) (table : HoldsSmashed p) (declared
   sound_unit i u is =
       let w : IsDeclared u = declared.units_are i u is in
       record {
-        one_name = w.one_name; one_dummy = w.one_dummy; dummies = w.dummies; roles = w.roles; sets = w.sets; constants = w.constants;
+        one_name = w.one_name;
+        one_dummy = w.one_dummy;
+        dummies = w.dummies;
+        roles = w.roles;
+        sets = w.sets;
+        constants = w.constants;
         adjustables = λ d x m k.
             let a : IsDimension u d x = w.dimensions d x m k in
             record { array_is_dummy = a.array_is_dummy; has = a.has; is_dummy = a.is_dummy; is_scalar = a.is_scalar; not_smashed = not_smashed i u is d a.has.its x m k a.has.among a.has.name };
@@ -285,7 +290,8 @@ module _ (p : Program) (keeps : KeepsRules p) (table : HoldsSmashed p) (declared
       let data_is : data_name c.callee d.name ≡ Some d = found p.units j c.callee (sound_unit j c.callee c.is_callee) d m d.name refl in
       let one = ap (λ (o : Option DataName). fits_dummy c.callee c.site.actuals c.caller o r.0) (sym data_is) ∙ r.2 in
       record {
-        actual = r.0; is = r.1;
+        actual = r.0;
+        is = r.1;
         dims = all_agree c.callee c.site.actuals d.dims (dims_of_actual c.caller r.0) (split (same_sort_as d.sort (sort_of_expr c.caller r.0)) (dims_agree c.callee c.site.actuals d.dims (dims_of_actual c.caller r.0)) one).1;
       }
 

@@ -1,5 +1,5 @@
 -- What declarations give, and that the rules then give all that the laws of runs need of a deck.
-use Rattle.std.specs.Prelude.{◌≡◌, ◌≤◌, ℕ, true, List, [], Some, slice_get}
+use Rattle.std.specs.Prelude.{◌≡◌, ◌≤◌, ℕ, List, [], Some, slice_get}
 use Rattle.fort_syntax.specs.declared.name.Name.{Name}
 use Rattle.fort_syntax.specs.declared.expr.Expr.TheVariants.{Var}
 use Rattle.fort_syntax.specs.declared.stmt.Dim.TheVariants.{Fixed, Named}
