@@ -8,7 +8,7 @@ use Rattle.fort_model.specs.Calls.{Calls, callee_of}
 use Rattle.fort_model.specs.Fits.{IsIn, IsVisible}
 use Rattle.fort_model.specs.Names.{unit_at}
 use Rattle.fort_model.specs.Outcome.{Outcome, Ended, Erred, Running, and_then}
-use Rattle.fort_model.specs.Passing.{Taken, Cells, Fresh, Passed, ByReference, ByCopy, ByValue, passed_by, passed, written_back, call}
+use Rattle.fort_model.specs.Passing.{new_cells, Taken, Cells, Fresh, Passed, ByCopy, passed_by, passed, written_back, call}
 use Rattle.fort_model.specs.Processor.{Processor}
 use Rattle.fort_model.specs.Run.{run_within}
 use Rattle.fort_model.specs.Smashes.{Smashes}
@@ -17,7 +17,7 @@ use Rattle.fort_laws.specs.Frame.{IsPlaced, IsSoundUnit, IsSoundCall, AreSound, 
 use Rattle.fort_laws.proofs.FrameClaims.{IsPart, RunFrame, CallFrame}
 use Rattle.fort_laws.proofs.FrameParts.{IsOpen}
 use Rattle.fort_laws.proofs.FrameRuns.{run_frame}
-use Rattle.fort_laws.proofs.FrameSeats.{at_fit, ps, inner, begun, long, same_below, new_at, Seated, Place, old, new, place_of, old_of, old_within, Shared, Root, common, dummy, root, actual_open, smashed_open, shared_below, inside_by, callee_apart, callee_shapes}
+use Rattle.fort_laws.proofs.FrameSeats.{old_cells, at_fit, inner, begun, long, same_below, new_at, Seated, Place, old, new, place_of, old_of, old_within, Root, common, dummy, root, actual_open, smashed_open, shared_below, inside_by, callee_apart, callee_shapes}
 use Rattle.fort_laws.proofs.Kept.{AllMatch}
 use Rattle.fort_laws.proofs.StorageLaws.{width, widths, widths_apart, length-new_cells, copy_holds, at_passed, length-written_back, load-written_back, copies_hold}
 use Rattle.fort_laws.proofs.Tied.{at_most_or}
@@ -50,7 +50,7 @@ module _ (units : List Routine) (i j : ℕ) (c : Calls units i j) (of_caller : I
   abbrev pub MayChange : ℕ → Type 0
   MayChange k = IsOpen units i c.caller env k × SmashesSome units j c.callee
 
-  start_long : length start ≡ length st + length (Rattle.fort_model.specs.Passing.new_cells st passes)
+  start_long : length start ≡ length st + length (new_cells st passes)
   start_long = long units i j c of_caller of_callee of_call env st placed copies xs fit
 
   module _ (after : Storage) (kept : OthersKept (IsSmashedCell units j c.callee seats_in) start after) (k : ℕ) (lt : k < length st) (closed : MayChange k → ⊥) where
@@ -115,7 +115,7 @@ module _ (units : List Routine) (i j : ℕ) (c : Calls units i j) (of_caller : I
         let cells : slice_get xs n ≡ Some (Cells e) = p.1 ∙ ap Some (copy_of (copies (1 + n)) p.0 e p.2) in
         let a = at_fit env (IsPart c.caller env) c.site.actuals xs n (Cells e) fit cells in
         old_within units i j c of_caller of_callee of_call env st placed copies xs fit a.0 e
-        (Rattle.fort_laws.proofs.FrameSeats.old_cells c.caller env a.0 e (λ x q. of_call.names n x (a.1 ∙ ap Some q)) a.2)
+        (old_cells c.caller env a.0 e (λ x q. of_call.names n x (a.1 ∙ ap Some q)) a.2)
 
     back_same : length after ≡ length start → load (written_back passes (length st) after) k ≡ load st k
     back_same same_long =

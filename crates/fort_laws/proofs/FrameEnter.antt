@@ -1,5 +1,5 @@
 -- Entering and leaving a unit: its names have their places, and leaving drops the new cells.
-use Rattle.std.proofs.Common.{◌≡◌, ◌≢◌, ℕ, zero, suc, ◌+◌, ◌<◌, ◌≤◌, ◌⊎◌, inl, inr, Bool, true, false, cond, ℤ, pos, List, [], ◌∷◌, ◌++◌, map, sum, length, take, replicate, Option, Some, None, slice_get, refl, sym, ap, ◌∙◌, subst, arith, length-append, length-take-le, get_or-take}
+use Rattle.std.proofs.Common.{◌≡◌, ◌≢◌, ℕ, zero, suc, ◌+◌, ◌<◌, ◌≤◌, ◌⊎◌, inl, inr, Bool, true, false, cond, ◌&&◌, ℤ, pos, List, [], ◌∷◌, ◌++◌, map, sum, length, take, replicate, Some, refl, sym, ap, ◌∙◌, subst, arith, length-append, length-take-le, get_or-take}
 use Rattle.std.proofs.lemmas.List.{get_or_append_left}
 use Rattle.std.specs.Cmp.Lexicographic.{same_text, other_text}
 use Rattle.std.specs.List.{fold, list_all}
@@ -217,8 +217,8 @@ module _ (units : List Routine) (i : ℕ) (u : Routine) (sound : IsSoundUnit uni
     where
       mapped : (ds : List Dim) → ((dim : Dim) → IsAmong dim ds → is_good_dim own_env entered dim ≡ is_good_dim env st dim) → list_all (is_good_dim own_env entered) ds ≡ list_all (is_good_dim env st) ds
       mapped [] h = refl
-      mapped (e ∷ ds) h = ap (λ (b : Bool). Rattle.std.proofs.Common.◌&&◌ b (list_all (is_good_dim own_env entered) ds)) (h e (0, refl))
-          ∙ ap (λ (b : Bool). Rattle.std.proofs.Common.◌&&◌ (is_good_dim env st e) b) (mapped ds (λ f n. h f (suc n.0, n.1)))
+      mapped (e ∷ ds) h = ap (λ (b : Bool). b && list_all (is_good_dim own_env entered) ds) (h e (0, refl))
+          ∙ ap (λ (b : Bool). is_good_dim env st e && b) (mapped ds (λ f n. h f (suc n.0, n.1)))
 
   dummy_not_own : (r : Role) → r ≡ Dummy → is_own r ≡ true → ⊥
   dummy_not_own r e o = clash (is_own r) o (ap is_own e)

@@ -112,7 +112,6 @@ pub record IsOld (u : Routine) (env : Environment) (actual : Expr) (e : Extent) 
   pub mentioned : mentions actual its.name ≡ true
   pub low : (env its.name).first ≤ e.first
   pub high : e.first + e.size ≤ (env its.name).first + (env its.name).size
-  pub size : pos e.size ≡ pos (env its.name).size ⊎ (pos e.size ≡ pos 1)
 
 either : (a b : Bool) → a ≡ true → (a || b) ≡ true
 either true b h = refl
@@ -130,7 +129,6 @@ old_cells u env (Var y) e named fit =
       mentioned = same_is y h.its.name (sym h.name);
       low = subst (λ (z : Extent). z.first ≤ e.first) r (omega arith);
       high = subst (λ (z : Extent). e.first + e.size ≤ z.first + z.size) r (omega arith);
-      size = inl (ap (λ (z : Extent). pos z.size) r);
     }
 old_cells u env (Apply' f shape args) e named fit =
     record {
@@ -139,7 +137,6 @@ old_cells u env (Apply' f shape args) e named fit =
       mentioned = either (same_name f fit.its.name) (row_mentions args fit.its.name) (same_is f fit.its.name (sym fit.name));
       low = subst (λ (z : Name). (env z).first ≤ e.first) (sym fit.name) fit.low;
       high = subst (λ (z : Name). e.first + e.size ≤ (env z).first + (env z).size) (sym fit.name) fit.high;
-      size = inr (ap pos fit.one);
     }
 old_cells u env (Truth b) e named fit = absurd fit
 old_cells u env (Paren' shape a) e named fit = absurd fit
@@ -154,20 +151,21 @@ old_cells u env (Or' q a r b) e named fit = absurd fit
 
 -- ---- dimensions of actuals
 
-pub whole_or_not : (u : Routine) (e : Expr) → ((y : Name) × (e ≡ Var y)) ⊎ (dims_of_actual u e ≡ [])
+-- an actual is a bare name, or it is none and has no dimensions
+whole_or_not : (u : Routine) (e : Expr) → ((y : Name) × (e ≡ Var y)) ⊎ ((dims_of_actual u e ≡ []) × ((y : Name) → e ≡ Var y → ⊥))
 whole_or_not u (Var y) = inl (y, refl)
-whole_or_not u (Const n) = inr refl
-whole_or_not u (Truth b) = inr refl
-whole_or_not u (Apply' f shape args) = inr refl
-whole_or_not u (Paren' shape a) = inr refl
-whole_or_not u (Pos' shape a) = inr refl
-whole_or_not u (Neg' shape a) = inr refl
-whole_or_not u (Power' shape a n) = inr refl
-whole_or_not u (Bin' o q a r b) = inr refl
-whole_or_not u (Rel' o q a r b) = inr refl
-whole_or_not u (Not' shape a) = inr refl
-whole_or_not u (And' q a r b) = inr refl
-whole_or_not u (Or' q a r b) = inr refl
+whole_or_not u (Const n) = inr (refl, λ y is. cc)
+whole_or_not u (Truth b) = inr (refl, λ y is. cc)
+whole_or_not u (Apply' f shape args) = inr (refl, λ y is. cc)
+whole_or_not u (Paren' shape a) = inr (refl, λ y is. cc)
+whole_or_not u (Pos' shape a) = inr (refl, λ y is. cc)
+whole_or_not u (Neg' shape a) = inr (refl, λ y is. cc)
+whole_or_not u (Power' shape a n) = inr (refl, λ y is. cc)
+whole_or_not u (Bin' o q a r b) = inr (refl, λ y is. cc)
+whole_or_not u (Rel' o q a r b) = inr (refl, λ y is. cc)
+whole_or_not u (Not' shape a) = inr (refl, λ y is. cc)
+whole_or_not u (And' q a r b) = inr (refl, λ y is. cc)
+whole_or_not u (Or' q a r b) = inr (refl, λ y is. cc)
 
 pub data DimCase (e : Expr) (d : Dim) : Type 0 where
   constant : (n : ℕ) → e ≡ Const n → d ≡ Fixed n → DimCase e d
@@ -573,35 +571,13 @@ module _ (units : List Routine) (i j : ℕ) (c : Calls units i j) (of_caller : I
   }
 
   actual_shape : (d : Name) (s : Seated d) → ActualShape s.actual s.taken
-  actual_shape d s = by_kind s.actual refl (whole_or_not c.caller s.actual)
+  actual_shape d s = by_kind (whole_or_not c.caller s.actual)
     where
-      whole : (y : Name) → s.actual ≡ Var y → ActualShape s.actual s.taken
-      whole y q =
-          subst (λ (f : Expr). ActualShape f s.taken) (sym q)
-          (whole_shape y s.taken (of_call.names s.at y (s.is_actual ∙ ap Some q)) (subst (λ (f : Expr). Matches env (IsPart c.caller env) f s.taken) q s.fits))
-
-      is_whole : (f : Expr) → ((y : Name) × (f ≡ Var y)) ⊎ ((y : Name) → f ≡ Var y → ⊥)
-      is_whole (Var y) = inl (y, refl)
-      is_whole (Const n) = inr (λ y q. cc)
-      is_whole (Truth b) = inr (λ y q. cc)
-      is_whole (Apply' g shape args) = inr (λ y q. cc)
-      is_whole (Paren' shape a) = inr (λ y q. cc)
-      is_whole (Pos' shape a) = inr (λ y q. cc)
-      is_whole (Neg' shape a) = inr (λ y q. cc)
-      is_whole (Power' shape a n) = inr (λ y q. cc)
-      is_whole (Bin' o p a r b) = inr (λ y q. cc)
-      is_whole (Rel' o p a r b) = inr (λ y q. cc)
-      is_whole (Not' shape a) = inr (λ y q. cc)
-      is_whole (And' p a r b) = inr (λ y q. cc)
-      is_whole (Or' p a r b) = inr (λ y q. cc)
-
-      by_whole : dims_of_actual c.caller s.actual ≡ [] → ((y : Name) × (s.actual ≡ Var y)) ⊎ ((y : Name) → s.actual ≡ Var y → ⊥) → ActualShape s.actual s.taken
-      by_whole q (inl w) = whole w.0 w.1
-      by_whole q (inr unlike) = part_shape s.actual s.taken q (part_size c.caller env s.actual s.taken q unlike s.fits)
-
-      by_kind : (e : Expr) → s.actual ≡ e → ((y : Name) × (s.actual ≡ Var y)) ⊎ (dims_of_actual c.caller s.actual ≡ []) → ActualShape s.actual s.taken
-      by_kind e q (inl w) = whole w.0 w.1
-      by_kind e q (inr z) = by_whole z (is_whole s.actual)
+      by_kind : ((y : Name) × (s.actual ≡ Var y)) ⊎ ((dims_of_actual c.caller s.actual ≡ []) × ((y : Name) → s.actual ≡ Var y → ⊥)) → ActualShape s.actual s.taken
+      by_kind (inl w) =
+          subst (λ (f : Expr). ActualShape f s.taken) (sym w.1)
+          (whole_shape w.0 s.taken (of_call.names s.at w.0 (s.is_actual ∙ ap Some w.1)) (subst (λ (f : Expr). Matches env (IsPart c.caller env) f s.taken) w.1 s.fits))
+      by_kind (inr w) = part_shape s.actual s.taken w.0 (part_size c.caller env s.actual s.taken w.0 w.1 s.fits)
 
   dummy_within : (d : Name) (s : Seated d) → Place d s → (inner d).first + (inner d).size ≤ length begun
   dummy_within d s (old e q p) = subst (λ (f : Extent). f.first + f.size ≤ length begun) (sym p) (let w = old_within s.actual e (old_of d s e q) in let l = long in omega arith)

@@ -1,23 +1,31 @@
--- What the rules on smashed names give, where they are kept.
-use Rattle.std.proofs.Common.{◌≡◌, ◌≢◌, ℕ, zero, suc, ◌+◌, Bool, true, false, cond, not, ◌&&◌, ◌||◌, List, [], ◌∷◌, Option, Some, slice_get, refl, sym, ap, ◌∙◌, subst, arith, rules}
+-- What the rules on calls and smashed names give, where they are kept.
+use Rattle.std.proofs.Common.{◌≡◌, ◌≢◌, ℕ, zero, suc, ◌+◌, Bool, true, false, cond, not, ◌&&◌, ◌||◌, List, [], ◌∷◌, Option, Some, None, slice_get, refl, sym, ap, ◌∙◌, subst, arith, rules}
 use Rattle.std.specs.Prelude.{◌==◌}
 use Rattle.std.specs.List.{list_any, filter}
 use Rattle.fort_syntax.specs.declared.name.Name.{Name}
 use Rattle.fort_syntax.specs.declared.expr.Expr.{Expr}
 use Rattle.fort_syntax.specs.declared.expr.Expr.TheVariants.{Const, Truth, Var, Apply', Paren', Pos', Neg', Power', Bin', Rel', Not', And', Or'}
-use Rattle.fort_syntax.specs.declared.rule.Rule.TheVariants.{SmashedNotName, SmashedTwice, SmashedCommon, FunctionSmashes}
+use Rattle.fort_syntax.specs.declared.rule.Rule.TheVariants.{SmashedNotName, SmashedTwice, SmashedCommon, FunctionSmashes, BadArguments, DimensionSmashed}
 use Rattle.fort_syntax.specs.declared.stmt.Stmt.{Stmt}
+use Rattle.fort_syntax.specs.declared.unit.DataName.{DataName}
 use Rattle.fort_syntax.specs.declared.unit.Line.{Line}
 use Rattle.fort_syntax.specs.declared.unit.Unit.{Unit as Routine}
-use Rattle.fort_model.specs.Arguments.{mentions}
-use Rattle.fort_model.specs.CallRules.{of_unit, some_smashed, stands_elsewhere, bare_elsewhere, is_bare, is_bare_common, smashed_commons, passes_no_name, passes_twice, passes_common, some_call}
+use Rattle.fort_model.specs.Arguments.{mentions, actual_for, gives_dim, dim_agrees, dims_agree, all_fit, fits_dummy, actuals_fit, reference_fits, same_sort_as, sort_of_expr, dims_of_actual}
+use Rattle.fort_model.specs.CallRules.{in_unit, of_unit, some_smashed, stands_elsewhere, bare_elsewhere, is_bare, is_bare_common, smashed_commons, passes_no_name, passes_twice, passes_common, some_call, mismatches}
 use Rattle.fort_model.specs.Calls.{CallSite, Calls, callee_of, sites_of}
 use Rattle.fort_model.specs.Lists.{IsAmong}
-use Rattle.fort_model.specs.Names.{is_function, is_own}
+use Rattle.fort_model.specs.Names.{is_function, is_own, same_name, data_name}
 use Rattle.fort_model.specs.Program.{Program, has_common, commons, is_smashed}
-use Rattle.fort_model.specs.Rules.{KeepsRules, cards_of_lines, at_lines, function_smashes}
+use Rattle.fort_model.specs.Rules.{KeepsRules, cards_of_lines, at_lines, function_smashes, dim_smashed}
 use Rattle.fort_model.specs.Smashes.{Smashes, HoldsSmashed}
-use Rattle.fort_laws.specs.Frame.{PassesSmashedAlone, SharesBlocks, FunctionsSmashNothing, RulesPassSmashedAlone}
+use Rattle.fort_syntax.specs.declared.stmt.Dim.{Dim}
+use Rattle.fort_syntax.specs.declared.stmt.Dim.TheVariants.{Fixed, Named}
+use Rattle.fort_model.specs.Walk.{is_dim, is_some_dim}
+use Rattle.std.specs.Cmp.Lexicographic.{same_text}
+use Rattle.fort_laws.specs.Declared.{IsDimension, IsDeclared, AreDeclared, RulesMakeSound}
+use Rattle.fort_laws.specs.Frame.{PassesSmashedAlone, SharesBlocks, FunctionsSmashNothing, RulesPassSmashedAlone, IsDim, DimAgrees, DimsAgree, HasActual, IsSoundUnit, AreSound}
+use Rattle.fort_laws.proofs.FrameEnter.{SameOrNot, same, other, same_or_not}
+use Rattle.fort_laws.proofs.FrameSeats.{same_self, found}
 
 -- ---- tests that fail
 
@@ -77,7 +85,7 @@ unbroken p breaks {j = j} c none =
     is_false (some_call p c.caller c.line.stmt breaks) (λ t. none c.line.card (card_found (λ pc s. some_call p c.caller s breaks) 0 c.caller.lines c.is_line.0 c.line c.is_line.1 t)) in
     let site_ok : of_unit p (callee_of p.units c.site) (breaks c.site) ≡ false =
     none_passes (λ site. of_unit p (callee_of p.units site) (breaks site)) (sites_of c.caller c.line.stmt) c.site line_ok c.is_site in
-    ap (λ (o : Option Routine). Rattle.fort_model.specs.CallRules.in_unit o (breaks c.site j)) (sym c.is_callee) ∙ (ap (λ (o : Option ℕ). of_unit p o (breaks c.site)) (sym c.is_of) ∙ site_ok)
+    ap (λ (o : Option Routine). in_unit o (breaks c.site j)) (sym c.is_callee) ∙ (ap (λ (o : Option ℕ). of_unit p o (breaks c.site)) (sym c.is_of) ∙ site_ok)
 
 -- ---- tests of smashed dummies
 
@@ -168,3 +176,130 @@ module _ (p : Program) (keeps : KeepsRules p) (table : HoldsSmashed p) (shares :
 
 pub rules_pass_smashed_alone : RulesPassSmashedAlone
 rules_pass_smashed_alone p keeps table shares = (λ i j c. passes_alone p keeps table shares i j c, harmless p keeps table shares)
+
+-- ---- actuals match
+
+split : (a b : Bool) → (a && b) ≡ true → (a ≡ true) × (b ≡ true)
+split true b h = (refl, h)
+split false b h = absurd (cc)
+
+same_number : (k n : ℕ) → (k == n) ≡ true → k ≡ n
+same_number k n t = search rules
+
+not_not : (b : Bool) → not b ≡ false → b ≡ true
+not_not true h = refl
+not_not false h = absurd (cc)
+
+found_actual : (ys : List Name) (es : List Expr) (x : Name) (e : Expr) → actual_for ys es x ≡ Some e → (n : ℕ) × (slice_get ys n ≡ Some x) × (slice_get es n ≡ Some e)
+found_actual [] es x e h = absurd (cc)
+found_actual (y ∷ ys) [] x e h = absurd (cc)
+found_actual (y ∷ ys) (f ∷ fs) x e h = by_name (same_or_not y x) (found_actual ys fs x e)
+  where
+    at_head : (t : Bool) → same_name y x ≡ t → cond t (Some f) (actual_for ys fs x) ≡ Some e
+    at_head t q = ap (λ (b : Bool). cond b (Some f) (actual_for ys fs x)) (sym q) ∙ h
+
+    by_name : SameOrNot y x → (actual_for ys fs x ≡ Some e → (n : ℕ) × (slice_get ys n ≡ Some x) × (slice_get fs n ≡ Some e)) → (n : ℕ) × (slice_get (y ∷ ys) n ≡ Some x) × (slice_get (f ∷ fs) n ≡ Some e)
+    by_name (same q t) rec = (0, ap Some q, at_head true t)
+    by_name (other q t) rec = let r = rec (at_head false t) in (suc r.0, r.1, r.2)
+
+gives : (e : Expr) (d : Dim) → gives_dim (Some e) d ≡ true → IsDim e d
+gives (Const c) (Fixed n) h = same_number c n h
+gives (Const c) (Named x) h = absurd (cc)
+gives (Var y) (Named x) h = same_text y x (sym h)
+gives (Var y) (Fixed n) h = absurd (cc)
+gives (Truth b) d h = absurd (cc)
+gives (Apply' f shape args) d h = absurd (cc)
+gives (Paren' shape a) d h = absurd (cc)
+gives (Pos' shape a) d h = absurd (cc)
+gives (Neg' shape a) d h = absurd (cc)
+gives (Power' shape a n) d h = absurd (cc)
+gives (Bin' o q a r b) d h = absurd (cc)
+gives (Rel' o q a r b) d h = absurd (cc)
+gives (Not' shape a) d h = absurd (cc)
+gives (And' q a r b) d h = absurd (cc)
+gives (Or' q a r b) d h = absurd (cc)
+
+agrees : (g : Routine) (es : List Expr) (a b : Dim) → dim_agrees g es a b ≡ true → DimAgrees g es a b
+agrees g es (Fixed n) (Fixed m) h = ap Fixed (sym (same_number n m h))
+agrees g es (Fixed n) (Named x) h = absurd (cc)
+agrees g es (Named x) d h = by_actual (actual_for g.dummies es x) refl
+  where
+    by_actual : (o : Option Expr) → actual_for g.dummies es x ≡ o → DimAgrees g es (Named x) d
+    by_actual None q = absurd (clash (gives_dim None d) (ap (λ (o : Option Expr). gives_dim o d) (sym q) ∙ h) refl)
+    by_actual (Some e) q = let r = found_actual g.dummies es x e q in (r.0, e, r.1, r.2, gives e d (ap (λ (o : Option Expr). gives_dim o d) (sym q) ∙ h))
+
+all_agree : (g : Routine) (es : List Expr) (ds bs : List Dim) → dims_agree g es ds bs ≡ true → DimsAgree g es ds bs
+all_agree g es [] [] h = tt
+all_agree g es [] (b ∷ bs) h = absurd (cc)
+all_agree g es (a ∷ ds) [] h = absurd (cc)
+all_agree g es (a ∷ ds) (b ∷ bs) h = let s = split (dim_agrees g es a b) (dims_agree g es ds bs) h in (agrees g es a b s.0, all_agree g es ds bs s.1)
+
+fits_at : (g : Routine) (all : List Expr) (u : Routine) (ds : List Name) (es : List Expr) (n : ℕ) (d : Name) → all_fit g all u ds es ≡ true → slice_get ds n ≡ Some d
+    → (e : Expr) × (slice_get es n ≡ Some e) × (fits_dummy g all u (data_name g d) e ≡ true)
+fits_at g all u [] es n d h a = absurd (cc)
+fits_at g all u (y ∷ ys) [] n d h a = absurd (cc)
+fits_at g all u (y ∷ ys) (f ∷ fs) zero d h a =
+    let q : y ≡ d = cc in (f, refl, ap (λ (z : Name). fits_dummy g all u (data_name g z) f) (sym q) ∙ (split (fits_dummy g all u (data_name g y) f) (all_fit g all u ys fs) h).0)
+fits_at g all u (y ∷ ys) (f ∷ fs) (suc n) d h a = fits_at g all u ys fs n d (split (fits_dummy g all u (data_name g y) f) (all_fit g all u ys fs) h).1 a
+
+some_dim : (x : Name) (ds : List Dim) → IsAmong (Named x) ds → list_any (is_dim x) ds ≡ true
+some_dim x [] m = absurd (cc)
+some_dim x (d ∷ ds) (zero, e) =
+    let q : d ≡ Named x = cc in
+    ap (λ (z : Dim). is_dim x z || list_any (is_dim x) ds) q ∙ ap (λ (b : Bool). b || list_any (is_dim x) ds) (same_self x)
+some_dim x (d ∷ ds) (suc k, e) = either (is_dim x d) (list_any (is_dim x) ds) (some_dim x ds (k, e))
+  where
+    either : (a b : Bool) → b ≡ true → (a || b) ≡ true
+    either true b h = refl
+    either false b h = h
+
+passes_any : {A : Type 0} (test : A → Bool) (xs : List A) (x : A) → IsAmong x xs → test x ≡ true → list_any test xs ≡ true
+passes_any test xs x m t = not_not (list_any test xs) (is_false (not (list_any test xs)) (λ n. clash (test x) t (none_passes test xs x (is_false (list_any test xs) (λ y. clash (not (list_any test xs)) n (ap not y))) m)))
+
+module _ (p : Program) (keeps : KeepsRules p) (table : HoldsSmashed p) (declared : AreDeclared p.units) where
+  not_smashed : (i : ℕ) (u : Routine) → slice_get p.units i ≡ Some u → (d e : DataName) (x : Name) → IsAmong d u.names → IsAmong (Named x) d.dims → IsAmong e u.names → e.name ≡ x → Smashes p.units i x → ⊥
+  not_smashed i u is d e x m k n q s =
+      let broken : dim_smashed p i u ≡ false =
+      is_false (dim_smashed p i u) (λ t. keeps DimensionSmashed i u.head (record { unit = u; is_unit = is; breaks = subst (λ (b : Bool). IsAmong u.head (cond b (u.head ∷ []) [])) (sym t) (0, refl) })) in
+      let one = none_passes (λ f. is_some_dim u f.name && is_smashed p i f.name) u.names e broken n in
+      let dim : is_some_dim u e.name ≡ true =
+      ap (is_some_dim u) q ∙ passes_any (λ f. list_any (is_dim x) f.dims) u.names d m (some_dim x d.dims k) in
+      clash (is_smashed p i e.name) (ap (is_smashed p i) q ∙ (table i x).1 s) (not_both (is_some_dim u e.name) (is_smashed p i e.name) one dim)
+
+  sound_unit : (i : ℕ) (u : Routine) → slice_get p.units i ≡ Some u → IsSoundUnit p.units i u
+  sound_unit i u is =
+      let w : IsDeclared u = declared.units_are i u is in
+      record {
+        one_name = w.one_name;
+        one_dummy = w.one_dummy;
+        dummies = w.dummies;
+        roles = w.roles;
+        sets = w.sets;
+        constants = w.constants;
+        adjustables = λ d x m k.
+            let a : IsDimension u d x = w.dimensions d x m k in
+            record { array_is_dummy = a.array_is_dummy; has = a.has; is_dummy = a.is_dummy; is_scalar = a.is_scalar; not_smashed = not_smashed i u is d a.has.its x m k a.has.among a.has.name };
+      }
+
+  matches : (i j : ℕ) (c : Calls p.units i j) (d : DataName) (n : ℕ) → IsAmong d c.callee.names → slice_get c.callee.dummies n ≡ Some d.name → HasActual c d n
+  matches i j c d n m a =
+      let kept : mismatches c.caller c.site j c.callee ≡ false = unbroken p (mismatches c.caller) c (λ card k. keeps BadArguments i card (record { unit = c.caller; is_unit = c.is_caller; breaks = k })) in
+      let fit : actuals_fit c.caller c.callee c.site.actuals ≡ true =
+      not_not (actuals_fit c.caller c.callee c.site.actuals) (neither (not (actuals_fit c.caller c.callee c.site.actuals)) (not (reference_fits c.caller c.callee c.site.reference)) kept).0 in
+      let r = fits_at c.callee c.site.actuals c.caller c.callee.dummies c.site.actuals n d.name fit a in
+      let data_is : data_name c.callee d.name ≡ Some d = found p.units j c.callee (sound_unit j c.callee c.is_callee) d m d.name refl in
+      let one = ap (λ (o : Option DataName). fits_dummy c.callee c.site.actuals c.caller o r.0) (sym data_is) ∙ r.2 in
+      record {
+        actual = r.0;
+        is = r.1;
+        dims = all_agree c.callee c.site.actuals d.dims (dims_of_actual c.caller r.0) (split (same_sort_as d.sort (sort_of_expr c.caller r.0)) (dims_agree c.callee c.site.actuals d.dims (dims_of_actual c.caller r.0)) one).1;
+      }
+
+  are_sound : AreSound p.units
+  are_sound = record {
+    units_are = sound_unit;
+    calls_are = λ i j c. record { matches = matches i j c; names = declared.actuals i j c; commons = declared.commons i j c; smashed = passes_alone p keeps table declared.blocks i j c };
+  }
+
+pub rules_make_sound : RulesMakeSound
+rules_make_sound p keeps table declared = are_sound p keeps table declared

@@ -1,4 +1,5 @@
 // What runs leave as it was.
+ghost use Rattle.fort_laws.specs.Declared.{RulesMakeSound};
 ghost use Rattle.fort_laws.specs.Frame.{RunsChangeOnlySmashed, RunsWithoutSmashingChangeNothing, EvaluationChangesNothing, RulesPassSmashedAlone};
 
 /// In a deck that keeps the rules on calls a run of a unit changes only cells of dummies and COMMON
@@ -25,4 +26,10 @@ pub fn evaluation_changes_nothing()
 /// COMMON entity. It does nothing.
 pub fn rules_pass_smashed_alone()
     ensures { RulesPassSmashedAlone }
+{}
+
+/// A program that keeps the rules on calls has all that the laws of runs need, where its
+/// declarations are in order. It does nothing.
+pub fn rules_make_sound()
+    ensures { RulesMakeSound }
 {}

@@ -11,8 +11,8 @@ mod ways;
 pub use clocks::clocks_fall_only_so_often;
 pub use exactness::{checks_do_not_depend_on_values, conditions_are_exact};
 pub use frames::{
-    evaluation_changes_nothing, rules_pass_smashed_alone, runs_change_only_smashed,
-    runs_without_smashing_change_nothing,
+    evaluation_changes_nothing, rules_make_sound, rules_pass_smashed_alone,
+    runs_change_only_smashed, runs_without_smashing_change_nothing,
 };
 pub use places::elements_lie_in_arrays;
 pub use steps::{
