@@ -1,5 +1,5 @@
 -- What functions make of values, as an answer.
-use Rattle.std.proofs.Common.{◌≡◌, ℕ, ℤ, Bool, true, false, if◌then◌else◌, List, [], ◌∷◌, length, ◌≤◌, arith, refl, sym, ap, ◌∙◌, subst, Option, Some, None}
+use Rattle.std.proofs.Common.{◌≡◌, ℤ, Bool, true, false, if◌then◌else◌, List, [], ◌∷◌, length, ◌≤◌, arith, refl, sym, ap, ◌∙◌, subst, Some, None}
 use Rattle.std.specs.Prelude.{◌≢◌, ◌+ℤ◌, ◌-ℤ◌, ◌*ℤ◌, ◌&&◌, ◌||◌}
 use Rattle.std.specs.List.{list_all, list_any}
 use Rattle.formula.specs.declared.function.BuiltIn.{BuiltIn as Builtin}
@@ -57,10 +57,9 @@ module _ (sheet : List (Word × Value)) (made : List (List Cell)) where
   pub cells_answer : (g : Builtin) (a b c d : Held) (r : Answer) (t : Bool) → g ≡ f.IntegerCells → t ≡ are_cells (is_integer_cell (held_num c) (held_num d)) (held_num b) (value_of sheet made a)
       → r ≡ answer.Held (held.Logical t) → Answers sheet made (applied g (value_of sheet made a ∷ value_of sheet made b ∷ value_of sheet made c ∷ value_of sheet made d ∷ [])) r
   cells_answer g a b c d r t e is same =
-      subst (Answers sheet made (applied g (value_of sheet made a ∷ value_of sheet made b ∷ value_of sheet made c ∷ value_of sheet made d ∷ []))) (sym same)
-      (
+      subst (Answers sheet made (applied g (value_of sheet made a ∷ value_of sheet made b ∷ value_of sheet made c ∷ value_of sheet made d ∷ []))) (sym same) (
         ap Logical is ∙ sym (λ i. Logical (are_cells (is_integer_cell (num_held sheet made c i) (num_held sheet made d i)) (num_held sheet made b i) (value_of sheet made a)))
-        ∙ sym (ap (λ k. applied k (value_of sheet made a ∷ value_of sheet made b ∷ value_of sheet made c ∷ value_of sheet made d ∷ [])) e),
+            ∙ sym (ap (λ k. applied k (value_of sheet made a ∷ value_of sheet made b ∷ value_of sheet made c ∷ value_of sheet made d ∷ [])) e),
         (ap (λ k. is_in_range (applied k (value_of sheet made a ∷ value_of sheet made b ∷ value_of sheet made c ∷ value_of sheet made d ∷ []))) e, tt),
       )
 

@@ -1,36 +1,33 @@
 -- What is left when a task was done.
-use Rattle.std.proofs.Common.{◌≡◌, ℕ, zero, suc, ◌+◌, ◌-◌, ◌*◌, ◌<◌, ◌≤◌, Bool, true, false, if◌then◌else◌, List, [], ◌∷◌, ◌++◌, length, map, take, drop, max, refl, sym, ap, ◌∙◌, arith, subst, length-append, Option, Some, None}
+use Rattle.std.proofs.Common.{◌≡◌, ℕ, suc, ◌+◌, ◌*◌, ◌≤◌, Bool, true, false, if◌then◌else◌, List, [], ◌∷◌, ◌++◌, length, map, refl, sym, ap, ◌∙◌, arith, subst, length-append, Option, Some, None}
 use Rattle.formula.specs.declared.function.BuiltIn.{BuiltIn as Builtin}
 use Rattle.formula.specs.declared.function.BuiltIn.TheVariants.{If}
 use Rattle.formula.specs.declared.function.Func.{Func}
 use Rattle.formula.specs.declared.function.Func.TheVariants.{BuiltIn, Defined}
-use Rattle.formula.specs.declared.definition.Body.{Body}
-use Rattle.formula.specs.declared.definition.Body.TheVariants.{Plain, Counting}
 use Rattle.formula.specs.declared.definition.Definition.{Definition}
 use Rattle.formula.specs.declared.machine.Held.{Held}
 use Rattle.formula.specs.declared.machine.Held.TheVariants as held
 use Rattle.formula.specs.declared.machine.Scope.{Scope}
-use Rattle.formula.specs.declared.machine.Scope.TheVariants.{Sheet, Arguments}
-use Rattle.formula.specs.declared.machine.Task.{Task}
+use Rattle.formula.specs.declared.machine.Scope.TheVariants.{Arguments}
 use Rattle.formula.specs.declared.machine.Task.TheVariants.{Eval, Branch, Combine, Leave}
 use Rattle.formula.specs.declared.machine.Machine.{Machine}
 use Rattle.formula.specs.declared.node.Node.{Node}
 use Rattle.formula.specs.declared.node.TermId.{TermId}
 use Rattle.formula.specs.declared.value.Cell.{Cell}
 use Rattle.formula.specs.declared.value.Value.{Value}
-use Rattle.formula.specs.declared.value.Value.TheVariants.{Int, Logical, Undefined, Cells}
+use Rattle.formula.specs.declared.value.Value.TheVariants.{Cells}
 use Rattle.formula.specs.declared.word.Word.{Word}
-use Rattle.formula.specs.Adding.{definition_at, IsBodyIn, AreBodiesIn}
-use Rattle.formula.specs.Bounded.{Outcome, got, beyond, spent, and_then, ranged, Calls, function_bounded, bounded_by, body_bounded, chosen, function_at, bounded}
-use Rattle.formula.specs.Machine.{Job, eval, branch, combine, leave, newest, all_but, finish, calls_of, size, row_size, cost, body_size, greatest, work, value_of, values_of, params_of, symbols_of, jobs_of, IsHeld, AreHeld, IsScope, AreTasks, IsWhole, meaning, meaning_with, work_of, Does}
+use Rattle.formula.specs.Adding.{definition_at}
+use Rattle.formula.specs.Bounded.{Outcome, got, beyond, spent, and_then, ranged, function_bounded, bounded_by, body_bounded, chosen, function_at}
+use Rattle.formula.specs.Machine.{Job, eval, combine, newest, all_but, finish, calls_of, size, row_size, cost, greatest, value_of, values_of, params_of, symbols_of, jobs_of, IsHeld, AreHeld, IsScope, IsWhole, meaning, meaning_with, Does}
 use Rattle.formula.specs.Pool.{AllBelow, IsIn, tree_of, trees, row_in}
-use Rattle.formula.specs.Tree.{Tree, num, truth, symbol, old, apply, Row, none, more, row_count}
+use Rattle.formula.specs.Tree.{Tree, apply, row_count}
 use Rattle.formula.specs.Values.{holds, applied}
-use Rattle.formula.specs.Worth.{Valuation, Function, FunctionBody, plain, counting, functions_of, body_of, bound_to, first_of, nothing_known, assigned}
-use Rattle.formula.proofs.Depth.{bounded-calls, calls_of-suc}
-use Rattle.formula.proofs.Steps.{is_branch, evals, finish-apply, finish-branch, cost-append, cost-evals, size_pos, then_got, newest-append}
+use Rattle.formula.specs.Worth.{Valuation, Function, functions_of, bound_to, first_of, nothing_known}
+use Rattle.formula.proofs.Depth.{calls_of-suc}
+use Rattle.formula.proofs.Steps.{is_branch, evals, finish-apply, finish-branch, cost-append, cost-evals, size_pos, then_got}
 use Rattle.formula.proofs.Turns.{row_count-row_in}
-use Rattle.formula.proofs.Held.{symbols_of-append, values_of-append, jobs_of-append, value_of-made, IsHeld-more, AreHeld-more, IsScope-more, AreTasks-more, AreHeld-append, AreHeld-take, AreHeld-drop, values_of-put, values_of-newest, values_of-all_but, jobs_of-evals, AreTasks-evals}
+use Rattle.formula.proofs.Held.{symbols_of-append, values_of-append, jobs_of-append, value_of-made, AreHeld-more, IsScope-more, AreTasks-more, AreHeld-append, AreHeld-take, AreHeld-drop, values_of-put, values_of-newest, values_of-all_but, jobs_of-evals, AreTasks-evals}
 
 module _ (pool : List Node) (ds : List Definition) (sheet : List (Word × Value)) (m : Machine) where
   fs : List Function
@@ -77,23 +74,23 @@ module _ (pool : List Node) (ds : List Definition) (sheet : List (Word × Value)
   pub does-apply : (m' : Machine) (id : TermId) (f : Func) (args : List TermId) → tree_of pool id ≡ apply f (row_in (trees pool) args) → is_branch f (row_in (trees pool) args) ≡ false
       → AllBelow (length pool) args → IsWhole pool m → m' ≡ record m { tasks = map Eval args ++ Combine f (length args) ∷ m.tasks } → Does pool ds sheet (Eval id) m m'
   does-apply m' id f args e b below w same = subst (Does pool ds sheet (Eval id) m) (sym same) (
-    let row = row_in (trees pool) args in
-    let c = row_count-row_in (trees pool) args in
-    let jobs : jobs_of pool ds sheet m.made (map Eval args ++ Combine f (length args) ∷ m.tasks) ≡ evals row ++ combine f (row_count row) ∷ js =
-    jobs_of-evals pool ds sheet m.made args (Combine f (length args) ∷ m.tasks) ∙ ap (λ k. evals row ++ combine f k ∷ js) (sym c) in
-    record {
-      same =
-          ap (λ l. finish (calls_of (functions_of pool ds)) s l vs m.turns) jobs
-          ∙ finish-apply (calls_of (functions_of pool ds)) s f row js vs m.turns b
-          ∙ ap (λ t. finish (calls_of (functions_of pool ds)) s (eval t ∷ js) vs m.turns) (sym e);
-      smaller =
-          let a : cost (jobs_of pool ds sheet m.made (map Eval args ++ Combine f (length args) ∷ m.tasks)) ≡ cost (evals row) + (1 + cost js) =
-          ap cost jobs ∙ cost-append (evals row) (combine f (row_count row) ∷ js) in
-          let r = cost-evals row in
-          let t : size (tree_of pool id) ≡ row_size row + 3 = ap size e in
-          omega arith;
-      whole = record { scope = w.scope; tasks = AreTasks-evals pool (length m.made) args (Combine f (length args) ∷ m.tasks) below (tt, w.tasks); values = w.values };
-    })
+      let row = row_in (trees pool) args in
+      let c = row_count-row_in (trees pool) args in
+      let jobs : jobs_of pool ds sheet m.made (map Eval args ++ Combine f (length args) ∷ m.tasks) ≡ evals row ++ combine f (row_count row) ∷ js =
+      jobs_of-evals pool ds sheet m.made args (Combine f (length args) ∷ m.tasks) ∙ ap (λ k. evals row ++ combine f k ∷ js) (sym c) in
+      record {
+        same =
+            ap (λ l. finish (calls_of (functions_of pool ds)) s l vs m.turns) jobs
+            ∙ finish-apply (calls_of (functions_of pool ds)) s f row js vs m.turns b
+            ∙ ap (λ t. finish (calls_of (functions_of pool ds)) s (eval t ∷ js) vs m.turns) (sym e);
+        smaller =
+            let a : cost (jobs_of pool ds sheet m.made (map Eval args ++ Combine f (length args) ∷ m.tasks)) ≡ cost (evals row) + (1 + cost js) =
+            ap cost jobs ∙ cost-append (evals row) (combine f (row_count row) ∷ js) in
+            let r = cost-evals row in
+            let t : size (tree_of pool id) ≡ row_size row + 3 = ap size e in
+            omega arith;
+        whole = record { scope = w.scope; tasks = AreTasks-evals pool (length m.made) args (Combine f (length args) ∷ m.tasks) below (tt, w.tasks); values = w.values };
+      })
 
   -- a condition comes before its branches
   pub does-branching : (m' : Machine) (id c a b : TermId) → tree_of pool id ≡ apply (BuiltIn If) (row_in (trees pool) (c ∷ a ∷ b ∷ [])) → AllBelow (length pool) (c ∷ a ∷ b ∷ [])
@@ -121,7 +118,7 @@ module _ (pool : List Node) (ds : List Definition) (sheet : List (Word × Value)
           let test : holds (first_of (newest 1 vs)) ≡ t = ap (λ l. holds (first_of l)) (sym (values_of-newest sheet m.made 1 m.values)) ∙ was in
           let there : id ≡ (if t then a else b) = e ∙ ap (λ u. if u then a else b) was in
           let worths : bounded_by calls s nothing_known (tree_of pool id) m.turns
-            ≡ (if t then bounded_by calls s nothing_known (tree_of pool a) m.turns else bounded_by calls s nothing_known (tree_of pool b) m.turns) = which t there in
+          ≡ (if t then bounded_by calls s nothing_known (tree_of pool a) m.turns else bounded_by calls s nothing_known (tree_of pool b) m.turns) = which t there in
           record {
             same =
                 ap (λ l. and_then (bounded_by calls s nothing_known (tree_of pool id) m.turns) (λ v n. finish calls s js (l ++ v ∷ []) n)) (values_of-all_but sheet m.made 1 m.values)
@@ -172,25 +169,25 @@ module _ (pool : List Node) (ds : List Definition) (sheet : List (Word × Value)
   pub does-Making : (m' : Machine) (f : Builtin) (c : ℕ) (cs : List Cell) → ranged (applied f (values_here c)) m.turns ≡ got (Cells cs) m.turns → IsWhole pool m
       → m' ≡ record m { values = all_but c m.values ++ held.Made (length m.made) ∷ []; made = m.made ++ cs ∷ [] } → Does pool ds sheet (Combine (BuiltIn f) c) m m'
   does-Making m' f c cs e w same = subst (Does pool ds sheet (Combine (BuiltIn f) c) m) (sym same) (
-    let calls = calls_of (functions_of pool ds) in
-    let made = m.made ++ cs ∷ [] in
-    let long : length made ≡ length m.made + 1 = simp length-append (omega arith) in
-    let rest : AreHeld (length m.made) (all_but c m.values) = AreHeld-take (length m.made) _ m.values w.values in
-    let jobs : jobs_of pool ds sheet made m.tasks ≡ js = jobs_of-append sheet m.made (cs ∷ []) ds pool m.tasks w.tasks in
-    let values : values_of sheet made (all_but c m.values ++ held.Made (length m.made) ∷ []) ≡ all_but c vs ++ Cells cs ∷ [] =
-    values_of-put sheet made (all_but c m.values) (held.Made (length m.made))
-    ∙ (λ i. (values_of-append sheet m.made (cs ∷ []) (all_but c m.values) rest ∙ values_of-all_but sheet m.made c m.values) i ++ value_of-made sheet m.made cs i ∷ []) in
-    record {
-      same =
-          (λ i. finish calls (symbols_of-append sheet m.made (cs ∷ []) ds m.scope w.scope i) (jobs i) (values i) m.turns)
-          ∙ sym (combined (BuiltIn f) c _ e);
-      smaller = let z : cost (jobs_of pool ds sheet made m.tasks) ≡ cost js = ap cost jobs in omega arith;
-      whole = record {
-        scope = IsScope-more (length m.made) (length made) m.scope (omega arith) w.scope;
-        tasks = AreTasks-more pool (length m.made) (length made) m.tasks (omega arith) w.tasks;
-        values = AreHeld-append (length made) (all_but c m.values) (held.Made (length m.made) ∷ []) (AreHeld-more (length m.made) (length made) (all_but c m.values) (omega arith) rest) (omega arith, tt);
-      };
-    })
+      let calls = calls_of (functions_of pool ds) in
+      let made = m.made ++ cs ∷ [] in
+      let long : length made ≡ length m.made + 1 = simp length-append (omega arith) in
+      let rest : AreHeld (length m.made) (all_but c m.values) = AreHeld-take (length m.made) _ m.values w.values in
+      let jobs : jobs_of pool ds sheet made m.tasks ≡ js = jobs_of-append sheet m.made (cs ∷ []) ds pool m.tasks w.tasks in
+      let values : values_of sheet made (all_but c m.values ++ held.Made (length m.made) ∷ []) ≡ all_but c vs ++ Cells cs ∷ [] =
+      values_of-put sheet made (all_but c m.values) (held.Made (length m.made))
+      ∙ (λ i. (values_of-append sheet m.made (cs ∷ []) (all_but c m.values) rest ∙ values_of-all_but sheet m.made c m.values) i ++ value_of-made sheet m.made cs i ∷ []) in
+      record {
+        same =
+            (λ i. finish calls (symbols_of-append sheet m.made (cs ∷ []) ds m.scope w.scope i) (jobs i) (values i) m.turns)
+            ∙ sym (combined (BuiltIn f) c _ e);
+        smaller = let z : cost (jobs_of pool ds sheet made m.tasks) ≡ cost js = ap cost jobs in omega arith;
+        whole = record {
+          scope = IsScope-more (length m.made) (length made) m.scope (omega arith) w.scope;
+          tasks = AreTasks-more pool (length m.made) (length made) m.tasks (omega arith) w.tasks;
+          values = AreHeld-append (length made) (all_but c m.values) (held.Made (length m.made) ∷ []) (AreHeld-more (length m.made) (length made) (all_but c m.values) (omega arith) rest) (omega arith, tt);
+        };
+      })
 
   -- ---- uses of definitions
 
@@ -220,20 +217,20 @@ module _ (pool : List Node) (ds : List Definition) (sheet : List (Word × Value)
       → m' ≡ record m { scope = Arguments k (newest c m.values); turns = j; tasks = Eval id ∷ Leave m.scope ∷ m.tasks; values = all_but c m.values }
       → Does pool ds sheet (Combine (Defined k) c) m m'
   does-Use m' k c j id f e at params tree small within w same = subst (Does pool ds sheet (Combine (Defined k) c) m) (sym same) (
-    let calls = calls_of (functions_of pool ds) in
-    record {
-      same =
-          (λ i. and_then (bounded_by calls (bound_to (params i) (values_here c)) nothing_known (tree i) j) (λ v n. finish calls s js (values_of-all_but sheet m.made c m.values i ++ v ∷ []) n))
-          ∙ sym (combined (Defined k) c _ (used k c j (Some f) e at));
-      smaller =
-          let t : m.turns * greatest (functions_of pool ds) ≡ suc j * greatest (functions_of pool ds) = ap (λ n. n * greatest (functions_of pool ds)) e in
-          omega arith;
-      whole = record {
-        scope = AreHeld-drop (length m.made) _ m.values w.values;
-        tasks = (within, (w.scope, w.tasks));
-        values = AreHeld-take (length m.made) _ m.values w.values;
-      };
-    })
+      let calls = calls_of (functions_of pool ds) in
+      record {
+        same =
+            (λ i. and_then (bounded_by calls (bound_to (params i) (values_here c)) nothing_known (tree i) j) (λ v n. finish calls s js (values_of-all_but sheet m.made c m.values i ++ v ∷ []) n))
+            ∙ sym (combined (Defined k) c _ (used k c j (Some f) e at));
+        smaller =
+            let t : m.turns * greatest (functions_of pool ds) ≡ suc j * greatest (functions_of pool ds) = ap (λ n. n * greatest (functions_of pool ds)) e in
+            omega arith;
+        whole = record {
+          scope = AreHeld-drop (length m.made) _ m.values w.values;
+          tasks = (within, (w.scope, w.tasks));
+          values = AreHeld-take (length m.made) _ m.values w.values;
+        };
+      })
 
   -- ---- the end
 

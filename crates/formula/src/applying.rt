@@ -12,9 +12,7 @@ use crate::cells::{
     are_integer_cells, are_logical_cells, blank, cell_at, is_integer_cell, is_logical_cell,
     put_cell, same_cell, same_cells,
 };
-use crate::held_values::{
-    Answer, cell_of, cells_of, counts_as_true, held_of, is_list, number_of,
-};
+use crate::held_values::{Answer, cell_of, cells_of, counts_as_true, held_of, is_list, number_of};
 use crate::machine::Held;
 use crate::numbers::{absolute, combine, negate, ranged};
 use crate::{BuiltIn, Cell, Value, Word};
@@ -122,13 +120,7 @@ fn of_one(
 }
 
 /// What a built-in function makes of two values.
-fn of_two(
-    entries: &[(Word, Value)],
-    made: &[List<Cell>],
-    f: BuiltIn,
-    a: Held,
-    b: Held,
-) -> Answer
+fn of_two(entries: &[(Word, Value)], made: &[List<Cell>], f: BuiltIn, a: Held, b: Held) -> Answer
     requires not_and { f ≢ And }
     requires not_or { f ≢ Or }
     ensures { Answers entries.now made.now (applied f (value_of entries.now made.now a ∷ value_of entries.now made.now b ∷ [])) result }

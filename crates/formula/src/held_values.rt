@@ -76,11 +76,7 @@ pub fn held_of(cell: Cell) -> Held
 }
 
 /// The cells of a value; none where it is no list.
-pub fn cells_of<'a>(
-    entries: &'a [(Word, Value)],
-    made: &'a [List<Cell>],
-    held: Held,
-) -> &'a [Cell]
+pub fn cells_of<'a>(entries: &'a [(Word, Value)], made: &'a [List<Cell>], held: Held) -> &'a [Cell]
     ensures { result.now ≡ cells_of (value_of entries.now made.now held) }
 {
     match held {

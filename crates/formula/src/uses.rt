@@ -34,13 +34,7 @@ fn chosen(body: Body, first: Held) -> TermId
     match body {
         Body::Plain(term) => term,
         Body::Counting(base, step) => match first {
-            Held::Int(n) => {
-                if n <= 0 {
-                    base
-                } else {
-                    step
-                }
-            }
+            Held::Int(n) => { if n <= 0 { base } else { step } }
             _ => base,
         },
     }
