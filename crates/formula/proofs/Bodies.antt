@@ -129,3 +129,6 @@ AreBodiesIn-Grows old new (d ∷ ds) g h = (IsBodyIn-Grows old new d.body g h.0,
 pub AreBodiesIn-append : (pool : List Node) (ds : List Definition) (d : Definition) → AreBodiesIn pool ds → IsBodyIn pool d.body → AreBodiesIn pool (ds ++ d ∷ [])
 AreBodiesIn-append pool [] d h b = (b, tt)
 AreBodiesIn-append pool (x ∷ ds) d h b = (h.0, AreBodiesIn-append pool ds d h.1 b)
+
+pub AreBodiesIn-added : (pool : List Node) (old new : List Definition) (d : Definition) → new ≡ old ++ d ∷ [] → AreBodiesIn pool old → IsBodyIn pool d.body → AreBodiesIn pool new
+AreBodiesIn-added pool old new d e h b = subst (AreBodiesIn pool) (sym e) (AreBodiesIn-append pool old d h b)

@@ -46,6 +46,8 @@ mod value;
 #[cfg(test)]
 mod value_tests;
 mod word;
+#[cfg(test)]
+mod worth_tests;
 
 pub use atoms::{
     is_digit, is_digits, is_function_name, is_letter, is_long, is_number, is_same, is_symbol,
