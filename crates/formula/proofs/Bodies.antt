@@ -1,7 +1,6 @@
 -- The bodies of definitions.
-use Rattle.std.proofs.Common.{◌≡◌, ℕ, zero, suc, ◌+◌, ◌-◌, ◌<◌, ◌≤◌, ℤ, pos, Bool, true, false, if◌then◌else◌, List, [], ◌∷◌, ◌++◌, length, max, refl, sym, ap, ◌∙◌, arith, subst, Option, Some, None}
-use Rattle.std.specs.Prelude.{int_le, slice_get}
-use Rattle.std.proofs.lemmas.Option.{slice_get-map}
+use Rattle.std.proofs.Common.{◌≡◌, ℕ, zero, suc, ◌+◌, ◌-◌, ◌<◌, ◌≤◌, ℤ, pos, Bool, true, false, if◌then◌else◌, List, [], ◌∷◌, ◌++◌, max, refl, sym, ap, ◌∙◌, arith, subst, Some, None}
+use Rattle.std.specs.Prelude.{int_le}
 use Rattle.formula.specs.declared.definition.Body.{Body}
 use Rattle.formula.specs.declared.definition.Body.TheVariants.{Plain, Counting}
 use Rattle.formula.specs.declared.definition.Definition.{Definition}
@@ -9,21 +8,20 @@ use Rattle.formula.specs.declared.function.Func.TheVariants.{Defined}
 use Rattle.formula.specs.declared.machine.Held.{Held}
 use Rattle.formula.specs.declared.machine.Held.TheVariants as held
 use Rattle.formula.specs.declared.machine.Machine.{Machine}
-use Rattle.formula.specs.declared.machine.Scope.TheVariants.{Sheet, Arguments}
-use Rattle.formula.specs.declared.machine.Task.TheVariants.{Eval, Branch, Combine, Leave}
+use Rattle.formula.specs.declared.machine.Scope.TheVariants.{Arguments}
+use Rattle.formula.specs.declared.machine.Task.TheVariants.{Eval, Combine, Leave}
 use Rattle.formula.specs.declared.node.Node.{Node}
-use Rattle.formula.specs.declared.node.TermId.{TermId}
 use Rattle.formula.specs.declared.value.Cell.{Cell}
 use Rattle.formula.specs.declared.value.Value.{Value}
 use Rattle.formula.specs.declared.word.Word.{Word}
 use Rattle.formula.specs.Adding.{definition_at, IsBodyIn, AreBodiesIn}
-use Rattle.formula.specs.Bounded.{spent, chosen, function_at}
-use Rattle.formula.specs.Machine.{newest, all_but, size, body_size, greatest, value_of, values_of, params_of, first_held, held_num, chosen_id, IsWhole, Does, meaning_with}
+use Rattle.formula.specs.Bounded.{chosen, function_at}
+use Rattle.formula.specs.Machine.{newest, all_but, size, body_size, greatest, value_of, values_of, params_of, first_held, held_num, chosen_id, IsWhole, Does}
 use Rattle.formula.specs.Pool.{Grows, IsIn, tree_of}
 use Rattle.formula.specs.Values.{num}
-use Rattle.formula.specs.Worth.{Function, FunctionBody, plain, counting, functions_of, body_of, first_of}
+use Rattle.formula.specs.Worth.{Function, functions_of, body_of, first_of}
 use Rattle.formula.proofs.Added.{IsBodyIn-Grows}
-use Rattle.formula.proofs.Doing.{does-Unknown, does-Use, spent-Use}
+use Rattle.formula.proofs.Doing.{does-Unknown, does-Use}
 
 -- ---- the function of a number
 
@@ -131,3 +129,6 @@ AreBodiesIn-Grows old new (d ∷ ds) g h = (IsBodyIn-Grows old new d.body g h.0,
 pub AreBodiesIn-append : (pool : List Node) (ds : List Definition) (d : Definition) → AreBodiesIn pool ds → IsBodyIn pool d.body → AreBodiesIn pool (ds ++ d ∷ [])
 AreBodiesIn-append pool [] d h b = (b, tt)
 AreBodiesIn-append pool (x ∷ ds) d h b = (h.0, AreBodiesIn-append pool ds d h.1 b)
+
+pub AreBodiesIn-added : (pool : List Node) (old new : List Definition) (d : Definition) → new ≡ old ++ d ∷ [] → AreBodiesIn pool old → IsBodyIn pool d.body → AreBodiesIn pool new
+AreBodiesIn-added pool old new d e h b = subst (AreBodiesIn pool) (sym e) (AreBodiesIn-append pool old d h b)

@@ -1,11 +1,10 @@
 -- Uses that may stand one in another: as many as there are turns do, and more make no difference.
-use Rattle.std.proofs.Common.{◌≡◌, ℕ, zero, suc, ◌+◌, ◌<◌, ◌≤◌, Bool, true, false, if◌then◌else◌, List, [], ◌∷◌, refl, sym, ap, ◌∙◌, arith, Option, Some, None}
-use Rattle.formula.specs.declared.function.BuiltIn.{BuiltIn as Builtin}
+use Rattle.std.proofs.Common.{◌≡◌, ℕ, zero, suc, ◌≤◌, Bool, true, false, if◌then◌else◌, List, refl, ap, ◌∙◌, arith, Option, Some, None}
 use Rattle.formula.specs.declared.function.BuiltIn.TheVariants.{If}
 use Rattle.formula.specs.declared.function.Func.{Func}
 use Rattle.formula.specs.declared.function.Func.TheVariants.{BuiltIn, Defined}
 use Rattle.formula.specs.declared.value.Value.{Value}
-use Rattle.formula.specs.declared.value.Value.TheVariants.{Int, Logical, Undefined}
+use Rattle.formula.specs.declared.value.Value.TheVariants.{Int}
 use Rattle.formula.specs.Bounded.{Outcome, got, beyond, spent, and_then, is_in_range, ranged, Calls, function_bounded, bounded_by, arguments_bounded_by, chosen, function_at, body_bounded, calls_within, bounded}
 use Rattle.formula.specs.Machine.{calls_of}
 use Rattle.formula.specs.Tree.{Tree, num, truth, symbol, old, apply, Row, none, more}

@@ -1,36 +1,33 @@
 -- What is left when a task was done.
-use Rattle.std.proofs.Common.{◌≡◌, ℕ, zero, suc, ◌+◌, ◌-◌, ◌*◌, ◌<◌, ◌≤◌, Bool, true, false, if◌then◌else◌, List, [], ◌∷◌, ◌++◌, length, map, take, drop, max, refl, sym, ap, ◌∙◌, arith, subst, length-append, Option, Some, None}
+use Rattle.std.proofs.Common.{◌≡◌, ℕ, suc, ◌+◌, ◌*◌, ◌≤◌, Bool, true, false, if◌then◌else◌, List, [], ◌∷◌, ◌++◌, length, map, refl, sym, ap, ◌∙◌, arith, subst, length-append, Option, Some, None}
 use Rattle.formula.specs.declared.function.BuiltIn.{BuiltIn as Builtin}
 use Rattle.formula.specs.declared.function.BuiltIn.TheVariants.{If}
 use Rattle.formula.specs.declared.function.Func.{Func}
 use Rattle.formula.specs.declared.function.Func.TheVariants.{BuiltIn, Defined}
-use Rattle.formula.specs.declared.definition.Body.{Body}
-use Rattle.formula.specs.declared.definition.Body.TheVariants.{Plain, Counting}
 use Rattle.formula.specs.declared.definition.Definition.{Definition}
 use Rattle.formula.specs.declared.machine.Held.{Held}
 use Rattle.formula.specs.declared.machine.Held.TheVariants as held
 use Rattle.formula.specs.declared.machine.Scope.{Scope}
-use Rattle.formula.specs.declared.machine.Scope.TheVariants.{Sheet, Arguments}
-use Rattle.formula.specs.declared.machine.Task.{Task}
+use Rattle.formula.specs.declared.machine.Scope.TheVariants.{Arguments}
 use Rattle.formula.specs.declared.machine.Task.TheVariants.{Eval, Branch, Combine, Leave}
 use Rattle.formula.specs.declared.machine.Machine.{Machine}
 use Rattle.formula.specs.declared.node.Node.{Node}
 use Rattle.formula.specs.declared.node.TermId.{TermId}
 use Rattle.formula.specs.declared.value.Cell.{Cell}
 use Rattle.formula.specs.declared.value.Value.{Value}
-use Rattle.formula.specs.declared.value.Value.TheVariants.{Int, Logical, Undefined, Cells}
+use Rattle.formula.specs.declared.value.Value.TheVariants.{Cells}
 use Rattle.formula.specs.declared.word.Word.{Word}
-use Rattle.formula.specs.Adding.{definition_at, IsBodyIn, AreBodiesIn}
-use Rattle.formula.specs.Bounded.{Outcome, got, beyond, spent, and_then, ranged, Calls, function_bounded, bounded_by, body_bounded, chosen, function_at, bounded}
-use Rattle.formula.specs.Machine.{Job, eval, branch, combine, leave, newest, all_but, finish, calls_of, size, row_size, cost, body_size, greatest, work, value_of, values_of, params_of, symbols_of, jobs_of, IsHeld, AreHeld, IsScope, AreTasks, IsWhole, meaning, meaning_with, work_of, Does}
+use Rattle.formula.specs.Adding.{definition_at}
+use Rattle.formula.specs.Bounded.{Outcome, got, beyond, spent, and_then, ranged, function_bounded, bounded_by, body_bounded, chosen, function_at}
+use Rattle.formula.specs.Machine.{Job, eval, combine, newest, all_but, finish, calls_of, size, row_size, cost, greatest, value_of, values_of, params_of, symbols_of, jobs_of, IsHeld, AreHeld, IsScope, IsWhole, meaning, meaning_with, Does}
 use Rattle.formula.specs.Pool.{AllBelow, IsIn, tree_of, trees, row_in}
-use Rattle.formula.specs.Tree.{Tree, num, truth, symbol, old, apply, Row, none, more, row_count}
+use Rattle.formula.specs.Tree.{Tree, apply, row_count}
 use Rattle.formula.specs.Values.{holds, applied}
-use Rattle.formula.specs.Worth.{Valuation, Function, FunctionBody, plain, counting, functions_of, body_of, bound_to, first_of, nothing_known, assigned}
-use Rattle.formula.proofs.Depth.{bounded-calls, calls_of-suc}
-use Rattle.formula.proofs.Steps.{is_branch, evals, finish-apply, finish-branch, cost-append, cost-evals, size_pos, then_got, newest-append}
+use Rattle.formula.specs.Worth.{Valuation, Function, functions_of, bound_to, first_of, nothing_known}
+use Rattle.formula.proofs.Depth.{calls_of-suc}
+use Rattle.formula.proofs.Steps.{is_branch, evals, finish-apply, finish-branch, cost-append, cost-evals, size_pos, then_got}
 use Rattle.formula.proofs.Turns.{row_count-row_in}
-use Rattle.formula.proofs.Held.{symbols_of-append, values_of-append, jobs_of-append, value_of-made, IsHeld-more, AreHeld-more, IsScope-more, AreTasks-more, AreHeld-append, AreHeld-take, AreHeld-drop, values_of-put, values_of-newest, values_of-all_but, jobs_of-evals, AreTasks-evals}
+use Rattle.formula.proofs.Held.{symbols_of-append, values_of-append, jobs_of-append, value_of-made, AreHeld-more, IsScope-more, AreTasks-more, AreHeld-append, AreHeld-take, AreHeld-drop, values_of-put, values_of-newest, values_of-all_but, jobs_of-evals, AreTasks-evals}
 
 module _ (pool : List Node) (ds : List Definition) (sheet : List (Word × Value)) (m : Machine) where
   fs : List Function

@@ -1,5 +1,5 @@
 -- What is held keeps its value while more lists of cells are made.
-use Rattle.std.proofs.Common.{◌≡◌, ℕ, zero, suc, ◌+◌, ◌-◌, ◌<◌, ◌≤◌, List, [], ◌∷◌, ◌++◌, length, map, take, drop, refl, sym, ap, ◌∙◌, arith, length-append}
+use Rattle.std.proofs.Common.{◌≡◌, ℕ, zero, suc, ◌-◌, ◌<◌, ◌≤◌, List, [], ◌∷◌, ◌++◌, length, map, take, drop, refl, sym, ap, ◌∙◌, arith}
 use Rattle.std.proofs.lemmas.Grind.{common_steps}
 use Rattle.std.proofs.lemmas.List.{map-append, take-map, drop-map, length-map}
 use Rattle.std.specs.Prelude.{slice_index_or}
@@ -12,16 +12,14 @@ use Rattle.formula.specs.declared.machine.Task.{Task}
 use Rattle.formula.specs.declared.machine.Task.TheVariants.{Eval, Branch, Combine, Leave}
 use Rattle.formula.specs.declared.node.Node.{Node}
 use Rattle.formula.specs.declared.node.TermId.{TermId}
-use Rattle.formula.specs.declared.function.Func.{Func}
 use Rattle.formula.specs.declared.value.Cell.{Cell}
 use Rattle.formula.specs.declared.value.Value.{Value}
-use Rattle.formula.specs.declared.value.Value.TheVariants.{Int, Logical, Undefined, Cells}
+use Rattle.formula.specs.declared.value.Value.TheVariants.{Cells}
 use Rattle.formula.specs.declared.word.Word.{Word}
 use Rattle.formula.specs.Adding.{definition_at}
-use Rattle.formula.specs.Machine.{Job, eval, leave, newest, all_but, cells_of, entry_at, value_of, values_of, params_of, symbols_of, job_of, jobs_of, IsHeld, AreHeld, IsScope, IsTask, AreTasks}
-use Rattle.formula.specs.Pool.{AllBelow, IsIn, tree_at, tree_of, trees, row_in}
-use Rattle.formula.specs.Tree.{Tree, Row}
-use Rattle.formula.specs.Worth.{Valuation, bound_to}
+use Rattle.formula.specs.Machine.{eval, leave, newest, all_but, value_of, values_of, params_of, symbols_of, job_of, jobs_of, IsHeld, AreHeld, IsScope, IsTask, AreTasks}
+use Rattle.formula.specs.Pool.{AllBelow, tree_of, trees, row_in}
+use Rattle.formula.specs.Worth.{bound_to}
 use Rattle.formula.proofs.Steps.{evals}
 
 -- ---- a list of cells more

@@ -1,16 +1,13 @@
 -- What each job leaves to be done.
-use Rattle.std.proofs.Common.{◌≡◌, ℕ, zero, suc, ◌+◌, ◌-◌, ◌*◌, ◌<◌, ◌≤◌, Bool, true, false, if◌then◌else◌, List, [], ◌∷◌, ◌++◌, length, take, drop, max, refl, sym, ap, ◌∙◌, arith, subst, append_assoc, length-append, Option, Some, None}
-use Rattle.std.proofs.lemmas.Grind.{common_steps}
-use Rattle.formula.specs.declared.function.BuiltIn.{BuiltIn as Builtin}
+use Rattle.std.proofs.Common.{◌≡◌, ℕ, ◌+◌, ◌-◌, ◌≤◌, Bool, true, false, if◌then◌else◌, List, [], ◌∷◌, ◌++◌, length, take, drop, refl, sym, ap, ◌∙◌, arith, append_assoc, length-append}
 use Rattle.formula.specs.declared.function.BuiltIn.TheVariants.{If}
 use Rattle.formula.specs.declared.function.Func.{Func}
-use Rattle.formula.specs.declared.function.Func.TheVariants.{BuiltIn, Defined}
+use Rattle.formula.specs.declared.function.Func.TheVariants.{BuiltIn}
 use Rattle.formula.specs.declared.value.Value.{Value}
-use Rattle.formula.specs.declared.value.Value.TheVariants.{Int, Logical, Undefined}
-use Rattle.formula.specs.Bounded.{Outcome, got, beyond, spent, and_then, ranged, Calls, function_bounded, bounded_by, arguments_bounded_by}
+use Rattle.formula.specs.Bounded.{Outcome, got, beyond, spent, and_then, Calls, function_bounded, bounded_by, arguments_bounded_by}
 use Rattle.formula.specs.Machine.{Job, eval, branch, combine, leave, newest, all_but, finish, size, row_size, cost}
 use Rattle.formula.specs.Tree.{Tree, num, truth, symbol, old, apply, Row, none, more, row_count}
-use Rattle.formula.specs.Values.{holds, applied}
+use Rattle.formula.specs.Values.{holds}
 use Rattle.formula.specs.Worth.{Valuation, first_of, nothing_known}
 
 -- ---- the newest values

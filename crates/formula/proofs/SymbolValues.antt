@@ -1,11 +1,11 @@
 -- Values of symbols, held.
-use Rattle.std.proofs.Common.{◌≡◌, ℕ, zero, suc, ◌+◌, ◌<◌, ◌≤◌, Bool, true, false, if◌then◌else◌, List, [], ◌∷◌, length, drop, get_or, refl, sym, ap, ◌∙◌, arith, subst, Option, Some, None}
+use Rattle.std.proofs.Common.{◌≡◌, ℕ, zero, suc, ◌<◌, ◌≤◌, Bool, true, false, if◌then◌else◌, List, [], ◌∷◌, length, drop, get_or, refl, sym, ap, ◌∙◌, arith, subst, Some, None}
 use Rattle.std.specs.Prelude.{slice_get}
 use Rattle.formula.specs.declared.definition.Definition.{Definition}
 use Rattle.formula.specs.declared.machine.Held.{Held}
 use Rattle.formula.specs.declared.machine.Held.TheVariants as held
 use Rattle.formula.specs.declared.machine.Scope.{Scope}
-use Rattle.formula.specs.declared.machine.Scope.TheVariants.{Sheet, Arguments}
+use Rattle.formula.specs.declared.machine.Scope.TheVariants.{Arguments}
 use Rattle.formula.specs.declared.value.Cell.{Cell}
 use Rattle.formula.specs.declared.value.Value.{Value}
 use Rattle.formula.specs.declared.value.Value.TheVariants.{Int, Logical, Undefined, Cells}

@@ -1,5 +1,5 @@
 -- The work still to do in an evaluation, and what it comes to.
-use Rattle.std.specs.Prelude.{ℕ, zero, suc, ◌≡◌, ◌+◌, ◌*◌, ◌-◌, ◌<◌, ◌++◌, max, Bool, true, false, if◌then◌else◌, List, [], ◌∷◌, length, map, take, drop, Option, Some, None, slice_get, slice_index_or, ℤ, pos, int_le, ◌+ℤ◌, ◌-ℤ◌, ◌*ℤ◌}
+use Rattle.std.specs.Prelude.{ℕ, ◌≡◌, ◌+◌, ◌*◌, ◌-◌, ◌<◌, ◌++◌, max, Bool, true, false, if◌then◌else◌, List, [], ◌∷◌, length, map, take, drop, Option, Some, None, slice_get, slice_index_or, ℤ, pos, int_le, ◌+ℤ◌, ◌-ℤ◌, ◌*ℤ◌}
 use Rattle.formula.specs.declared.function.Func.{Func}
 use Rattle.formula.specs.declared.function.Func.TheVariants.{BuiltIn}
 use Rattle.formula.specs.declared.function.BuiltIn.{BuiltIn as Builtin}
@@ -25,7 +25,7 @@ use Rattle.formula.specs.declared.value.Value.TheVariants.{Int, Logical, Undefin
 use Rattle.formula.specs.declared.word.Word.{Word}
 use Rattle.formula.specs.Adding.{definition_at}
 use Rattle.formula.specs.Atoms.{same_bytes}
-use Rattle.formula.specs.Bounded.{Outcome, got, beyond, spent, and_then, Calls, function_bounded, bounded_by, calls_within, is_in_range}
+use Rattle.formula.specs.Bounded.{Outcome, got, and_then, Calls, function_bounded, bounded_by, calls_within, is_in_range}
 use Rattle.formula.specs.Pool.{IsIn, tree_of}
 use Rattle.formula.specs.Tree.{Tree, num, truth, symbol, old, apply, Row, none, more}
 use Rattle.formula.specs.Ranges.{in_range}

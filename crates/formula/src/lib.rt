@@ -47,6 +47,8 @@ mod value;
 mod value_tests;
 mod word;
 mod worth_laws;
+#[cfg(test)]
+mod worth_tests;
 
 pub use atoms::{
     is_digit, is_digits, is_function_name, is_letter, is_long, is_number, is_same, is_symbol,

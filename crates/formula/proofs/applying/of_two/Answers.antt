@@ -1,5 +1,5 @@
 use Rattle.std.proofs.Common.{sym, subst, ◌∷◌, []}
-use Rattle.formula.specs.Machine.{value_of, Answers, numbers_answer}
+use Rattle.formula.specs.Machine.{value_of, Answers}
 use Rattle.formula.specs.Values.{applied}
 use Rattle.formula.proofs.Applied.{numbers_answers}
 use Rattle.formula.proofs.Bodies.{num_held}

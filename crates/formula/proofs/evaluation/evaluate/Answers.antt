@@ -1,4 +1,4 @@
-use Rattle.std.proofs.Common.{◌≡◌, ◌≤◌, refl, ap, ◌∙◌, sym, subst, arith, length, rules, to_z, of_z}
+use Rattle.std.proofs.Common.{◌≤◌, refl, ap, ◌∙◌, subst, arith, length, rules, to_z, of_z}
 use Rattle.std.proofs.lemmas.Int.{to_z-of_z}
 use mir.Syntax.{w128}
 use mir.Val.{SFits}

@@ -1,4 +1,4 @@
-use Rattle.std.proofs.Common.{◌≡◌, [], ◌∷◌, ap, ◌∙◌, sym}
+use Rattle.std.proofs.Common.{◌≡◌, ◌∷◌, ap, ◌∙◌}
 use Rattle.formula.specs.declared.machine.Task.TheVariants.{Eval}
 use Rattle.formula.specs.Machine.{value_of, first_held, newest}
 use Rattle.formula.specs.Pool.{tree_of}

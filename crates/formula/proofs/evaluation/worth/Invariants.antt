@@ -1,4 +1,4 @@
-use Rattle.std.proofs.Common.{◌≡◌, length}
+use Rattle.std.proofs.Common.{◌≡◌}
 use Rattle.formula.specs.Bounded.{and_then, got, bounded}
 use Rattle.formula.specs.Machine.{IsWhole, meaning, work_of}
 use Rattle.formula.specs.Pool.{tree_of}

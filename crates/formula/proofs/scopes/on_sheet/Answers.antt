@@ -1,4 +1,4 @@
-use Rattle.std.proofs.Common.{◌≡◌, ap, ◌∙◌, sym, subst}
+use Rattle.std.proofs.Common.{ap, ◌∙◌, sym, subst}
 use Rattle.formula.specs.Machine.{value_of, held_at, entry_at, IsHeld}
 use Rattle.formula.proofs.SymbolValues.{value_entry, entry_is_held}
 use Rattle.formula.proofs.scopes.on_sheet.Goals as goal

@@ -1,5 +1,5 @@
 use Rattle.std.proofs.Common.{◌≡◌, ap, ◌∙◌, sym, subst}
-use Rattle.formula.specs.Machine.{value_of, argument_of, symbols_of, IsHeld}
+use Rattle.formula.specs.Machine.{value_of, argument_of, IsHeld}
 use Rattle.formula.proofs.SymbolValues.{value_in_use, held_in_use}
 use Rattle.formula.proofs.scopes.value_in.Goals as goal
 

@@ -1,4 +1,4 @@
-use Rattle.std.proofs.Common.{arith, ◌∙◌}
+use Rattle.std.proofs.Common.{arith}
 use Rattle.formula.proofs.Bodies.{used_none, used_some}
 use Rattle.formula.proofs.uses.use_definition.Goals as goal
 

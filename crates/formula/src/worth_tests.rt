@@ -1,0 +1,85 @@
+// What terms are worth, with some turns.
+ghost use Rattle.formula.specs.Adding.{AreBodiesIn};
+
+use crate::{Cell, Definitions, Sheet, TermPool, Value, Word, Worth, read_term, worth};
+use edge_io::List;
+use std::alloc::Global;
+use std::test::Fail;
+
+// The word of these bytes.
+fn word(bytes: &[u8]) -> Result<Word, Fail> {
+    match Word::new(bytes) {
+        Some(word) => Ok(word),
+        None => Err("no word".into()),
+    }
+}
+
+// What the term of a text is worth.
+fn worth_of(
+    alloc: Global,
+    pool: &mut TermPool,
+    definitions: &Definitions,
+    sheet: &Sheet,
+    text: &[u8],
+    turns: u64,
+) -> Result<Result<Value, Worth>, Fail>
+    requires { AreBodiesIn pool.old definitions.now }
+    ensures { AreBodiesIn pool.new definitions.now }
+{
+    let Ok((id, _)) = read_term(alloc, pool, definitions, None, text) else {
+        return Err("no term".into());
+    };
+    Ok(worth(alloc, pool, definitions, id, sheet, turns))
+}
+
+#[test]
+fn terms_have_worths(rt: HostRuntime) -> Result<(), Fail> {
+    let cases = [
+        (b"(ZREM -7 2)".as_slice(), Ok(Value::Int(-1))),
+        (b"(ZQUO 7 0)", Ok(Value::Int(0))),
+        (b"(ZREM 7 0)", Ok(Value::Int(7))),
+        (b"(ELT (BLANK 2) 3)", Ok(Value::Undefined)),
+        (b"(SIZE (PUT (BLANK 2) 1 5))", Ok(Value::Int(2))),
+        (b"(ELT (PUT (BLANK 2) 1 5) 1)", Ok(Value::Int(5))),
+        (b"(DEFINED X)", Ok(Value::Logical(false))),
+        (b"(IF (UNDEF) 1 2)", Ok(Value::Int(1))),
+        (b"(AND T (UNDEF) 0)", Ok(Value::Logical(true))),
+        (b"(OR F F (NOT T))", Ok(Value::Logical(false))),
+        (b"(ZDIFF (ZPLUS 1 2) (ZTIMES 2 5))", Ok(Value::Int(-7))),
+        (
+            b"(EQUAL (BLANK 1) (PUT (BLANK 1) 1 X))",
+            Ok(Value::Logical(true)),
+        ),
+        (
+            b"(CELLSI (PUT (BLANK 2) 2 7) 2 0 6)",
+            Ok(Value::Logical(false)),
+        ),
+        (b"N", Ok(Value::Int(3))),
+        (b"(ELT A N)", Ok(Value::Logical(true))),
+        (b"(SIZE A)", Ok(Value::Int(3))),
+        (b"(ZTIMES N B)", Err(Worth::Beyond)),
+        (b"(AND F (ZTIMES N B))", Err(Worth::Beyond)),
+        (b"(IF F (ZTIMES N B) 4)", Ok(Value::Int(4))),
+    ];
+    let mut sheet = Sheet::new(rt.alloc());
+    let cells = Vec::from_slice(
+        rt.alloc(),
+        &[Cell::Int(1), Cell::Undefined, Cell::Logical(true)],
+    )
+    .map_err(|_| "no memory")?;
+    let listed = Value::Cells(List::from_vec(cells));
+    sheet.set(word(b"A")?, listed).map_err(|_| "not set")?;
+    sheet
+        .set(word(b"N")?, Value::Int(3))
+        .map_err(|_| "not set")?;
+    sheet
+        .set(word(b"B")?, Value::Int(1 << 119))
+        .map_err(|_| "not set")?;
+    let mut pool = TermPool::new(rt.alloc());
+    let definitions = Definitions::new(rt.alloc());
+    for (text, answer) in cases.iter() {
+        let got = worth_of(rt.alloc(), &mut pool, &definitions, &sheet, text, 10)?;
+        assert!(rt; got == *answer);
+    }
+    Ok(())
+}
