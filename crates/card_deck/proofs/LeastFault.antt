@@ -1,5 +1,5 @@
 -- The first fault of cards is the least.
-use Rattle.std.proofs.Common.{◌≡◌, ℕ, ◌+◌, ◌<◌, ◌≤◌, ◌⊎◌, inl, inr, Bool, true, false, if◌then◌else◌, List, [], ◌∷◌, length, Option, Some, None, refl, sym, ap, ◌∙◌, subst, arith, rules}
+use Rattle.std.proofs.Common.{◌≡◌, ℕ, ◌+◌, ◌≤◌, inl, inr, Bool, true, false, if◌then◌else◌, List, [], ◌∷◌, length, Option, Some, None, refl, sym, subst, arith, rules}
 use Rattle.std.specs.Prelude.{nat_lt}
 use Rattle.fort_syntax.specs.Cards.{Card, cards_of, kind_of}
 use Rattle.fort_syntax.specs.CardRules.{Before, nothing, behind, broken_by, fault_from, fault_or, card_fault, has_bad_byte, has_bad_label, lacks_initial, is_twentieth, is_bad_note}

@@ -1,7 +1,11 @@
 // What terms are worth, with some turns.
-ghost use Rattle.formula.specs.Adding.{AreBodiesIn};
+ghost use Rattle.std.specs.Prelude.{IfOk};
+ghost use Rattle.formula.specs.Adding.{AreBodiesIn, IsBodyIn};
+ghost use Rattle.formula.specs.Pool.{Grows};
 
-use crate::{Cell, Definitions, Sheet, TermPool, Value, Word, Worth, read_term, worth};
+use crate::{
+    Body, Cell, Definitions, Heading, Sheet, TermPool, Value, Word, Worth, read_term, worth,
+};
 use edge_io::List;
 use std::alloc::Global;
 use std::test::Fail;
@@ -81,5 +85,91 @@ fn terms_have_worths(rt: HostRuntime) -> Result<(), Fail> {
         let got = worth_of(rt.alloc(), &mut pool, &definitions, &sheet, text, 10)?;
         assert!(rt; got == *answer);
     }
+    Ok(())
+}
+
+// Counts the places up to K at which A has X.
+fn counting(alloc: Global, pool: &mut TermPool) -> Result<Definitions, Fail>
+    ensures { IfOk result (λ d. AreBodiesIn pool.new d) }
+{
+    let mut definitions = Definitions::new(alloc);
+    let letters = [word(b"K")?, word(b"A")?, word(b"X")?];
+    let Ok(params) = Vec::from_slice(alloc, &letters) else {
+        return Err("no memory".into());
+    };
+    let heading = Heading {
+        name: word(b"CNT")?,
+        params: List::from_vec(params),
+    };
+    let Ok((base, _)) = read_term(alloc, pool, &definitions, Some(&heading), b"0") else {
+        return Err("no base".into());
+    };
+    let step = b"(ZPLUS (CNT (ZDIFF K 1) A X) (IF (EQUAL (ELT A K) X) 1 0))";
+    let Ok((step, _)) = read_term(alloc, pool, &definitions, Some(&heading), step) else {
+        return Err("no step".into());
+    };
+    let Heading { name, params } = heading;
+    added(
+        pool,
+        &mut definitions,
+        name,
+        params,
+        Body::Counting(base, step),
+    )?;
+    Ok(definitions)
+}
+
+// Adds a definition.
+fn added(
+    pool: &TermPool,
+    definitions: &mut Definitions,
+    name: Word,
+    params: List<Word>,
+    body: Body,
+) -> Result<(), Fail>
+    requires bodies { AreBodiesIn pool.now definitions.old }
+    requires body { IsBodyIn pool.now body }
+    ensures { IfOk result (λ _. AreBodiesIn pool.now definitions.new) }
+{
+    let Ok(()) = definitions.add(pool, name, params, body) else {
+        return Err("not added".into());
+    };
+    Ok(())
+}
+
+// Whether the terms of these texts come to these answers, each with so many turns.
+fn come_to(
+    alloc: Global,
+    pool: &mut TermPool,
+    definitions: &Definitions,
+    cases: &[(&[u8], u64, Result<Value, Worth>)],
+) -> Result<bool, Fail>
+    requires { AreBodiesIn pool.old definitions.now }
+{
+    let sheet = Sheet::new(alloc);
+    for (text, turns, answer) in cases.iter() {
+        if worth_of(alloc, pool, definitions, &sheet, text, *turns)? != *answer {
+            return Ok(false);
+        }
+    }
+    Ok(true)
+}
+
+#[test]
+fn uses_take_turns(rt: HostRuntime) -> Result<(), Fail> {
+    let mut pool = TermPool::new(rt.alloc());
+    let definitions = counting(rt.alloc(), &mut pool)?;
+    let cases = [
+        (b"(CNT 20 (BLANK 1) 0)".as_slice(), 10, Err(Worth::Spent)),
+        (b"(CNT 20 (BLANK 1) 0)", 20, Err(Worth::Spent)),
+        (b"(CNT 20 (BLANK 1) 0)", 21, Ok(Value::Int(0))),
+        (b"(CNT 9999 (BLANK 1) 0)", 10_000, Ok(Value::Int(0))),
+        (b"(CNT 3 (PUT (BLANK 3) 2 X) (UNDEF))", 4, Ok(Value::Int(3))),
+        (b"(AND F (EQUAL (CNT 9 X X) 0))", 9, Err(Worth::Spent)),
+        (b"(IF T 1 (CNT 9 X X))", 0, Ok(Value::Int(1))),
+        (b"(CNT (CNT 0 X X) X X)", 2, Ok(Value::Int(0))),
+        (b"(CNT (CNT 0 X X) X X)", 1, Err(Worth::Spent)),
+    ];
+    assert!(rt; come_to(rt.alloc(), &mut pool, &definitions, &cases)?);
     Ok(())
 }

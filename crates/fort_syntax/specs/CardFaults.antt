@@ -1,5 +1,5 @@
 -- Which rules of cards a deck breaks, and at which cards, in no order; and what it means that a fault is the least.
-use Rattle.std.specs.Prelude.{ℕ, ◌+◌, ◌<◌, ◌≤◌, ◌≡◌, ◌⊎◌, true, List, [], ◌∷◌, length, Option, Some, None}
+use Rattle.std.specs.Prelude.{ℕ, ◌+◌, ◌<◌, ◌≤◌, ◌≡◌, ◌⊎◌, true, List, [], ◌∷◌, length, Some, None}
 use Rattle.fort_syntax.specs.Cards.{Card, cards_of, kind_of}
 use Rattle.fort_syntax.specs.CardRules.{Before, nothing, behind, has_bad_byte, has_bad_label, lacks_initial, is_twentieth, is_bad_note, card_fault}
 use Rattle.fort_syntax.specs.declared.refusal.Fault.{Fault}
