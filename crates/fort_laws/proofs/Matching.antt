@@ -155,3 +155,10 @@ pub matches_held : {A B : Type 0} (Q : A → B → Storage → Type 0) (part : S
 matches_held Q part g st (moves pre a b after cost t v r run q) = moves pre a b after cost t v r run q
 matches_held Q part g st (fails pre kind card f (of_callee e)) = fails pre kind card f (of_callee e)
 matches_held Q part g st (fails pre kind card f (errs after cost h)) = fails pre kind card f (errs after cost h)
+
+-- what a walk makes of an answer, with nothing met
+pub matches_made : {A B C : Type 0} (Q : A → B → Storage → Type 0) (P : C → B → Storage → Type 0) (part : See Value A) (act : Act B) (h : A → C) (st : Storage) → Matches Q part act st
+    → ((a : A) (b : B) (after : Storage) → Q a b after → P (h a) b after) → Matches P (part >>= (λ a. see (h a))) act st
+matches_made Q P part act h st (moves pre a b after cost t v r run q) imply =
+    moves pre (h a) b after cost (λ answers. all_true_append _ _ (t answers) tt) (λ answers. ap h (v answers)) r run (imply a b after q)
+matches_made Q P part act h st (fails pre kind card f e) imply = fails pre kind card (λ answers. fails_before kind card _ _ (f answers)) e
