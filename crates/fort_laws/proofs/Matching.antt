@@ -6,7 +6,7 @@ use Rattle.formula.specs.Values.{holds}
 use Rattle.fort_syntax.specs.declared.condition.Kind.{Kind}
 use Rattle.fort_syntax.specs.declared.condition.Kind.TheVariants.{InputCheck}
 use Rattle.fort_model.specs.Events.{Event, Check, Take}
-use Rattle.fort_model.specs.Outcome.{Outcome, Ended, Erred, and_then, Act, give, check, step, held}
+use Rattle.fort_model.specs.Outcome.{Outcome, Ended, Erred, Running, and_then, Act, give, check, step, held}
 use Rattle.fort_model.specs.Seen.{Answers, Seen, See, ◌>>=◌, see, meet}
 use Rattle.fort_model.specs.Storage.{Storage}
 
@@ -162,3 +162,22 @@ pub matches_made : {A B C : Type 0} (Q : A → B → Storage → Type 0) (P : C 
 matches_made Q P part act h st (moves pre a b after cost t v r run q) imply =
     moves pre (h a) b after cost (λ answers. all_true_append _ _ (t answers) tt) (λ answers. ap h (v answers)) r run (imply a b after q)
 matches_made Q P part act h st (fails pre kind card f e) imply = fails pre kind card (λ answers. fails_before kind card _ _ (f answers)) e
+
+-- a part of a run that comes to the same
+pub matches_same : {A B : Type 0} (Q : A → B → Storage → Type 0) (part : See Value A) (act other : Act B) (st : Storage) → ((n : ℕ) → other st n ≡ act st n) → Matches Q part act st → Matches Q part other st
+matches_same Q part act other st e (moves pre a b after cost t v r run q) = moves pre a b after cost t v r (λ n. e (cost + n) ∙ run n) q
+matches_same Q part act other st e (fails pre kind card f g) = fails pre kind card f (over g)
+  where
+    over : Errs kind card act st → Errs kind card other st
+    over (of_callee h) = of_callee h
+    over (errs after cost h) = errs after cost (λ n. e (cost + n) ∙ h n)
+
+and_then_twice : {A B C : Type 0} (o : Outcome A) (f : A → Act B) (g : B → Act C) → and_then (and_then o f) g ≡ and_then o (λ a. followed (f a) g)
+and_then_twice (Ended a st n) f g = refl
+and_then_twice (Erred kind card st) f g = refl
+and_then_twice (Running st) f g = refl
+
+-- what follows two parts follows the second
+pub matches_twice : {A B C D : Type 0} (Q : A → D → Storage → Type 0) (part : See Value A) (act : Act B) (f : B → Act C) (g : C → Act D) (st : Storage)
+    → Matches Q part (followed act (λ b. followed (f b) g)) st → Matches Q part (followed (followed act f) g) st
+matches_twice Q part act f g st h = matches_same Q part _ _ st (λ n. and_then_twice (act st n) f g) h
