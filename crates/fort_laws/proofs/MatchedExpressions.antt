@@ -31,7 +31,9 @@ use Rattle.fort_model.specs.Storage.{Storage}
 use Rattle.fort_model.specs.Symbols.{Symbol, LeastInteger, GreatestInteger}
 use Rattle.fort_model.specs.WalkCalls.{Sight}
 use Rattle.fort_model.specs.WalkExpr as walk
-use Rattle.fort_laws.proofs.Matching.{Matches, Same, stays_then, matches_see, matches_check, matches_as}
+use Rattle.fort_laws.specs.Matches.{Matches, Same}
+use Rattle.fort_laws.specs.Standing.{IsOf, IsSort, Of}
+use Rattle.fort_laws.proofs.Matching.{stays_then, matches_see, matches_check, matches_as}
 
 and_one : (b : Bool) → (b && true) ≡ b
 and_one true = refl
@@ -40,23 +42,6 @@ and_one false = refl
 pub and_two : (b c : Bool) → (b && (c && true)) ≡ (b && c)
 and_two true c = and_one c
 and_two false c = refl
-
--- a value is that of a cell
-abbrev pub IsOf : Value → Cell → Type 0
-IsOf v c = v ≡ of_cell c
-
--- a cell holds a value of a type
-abbrev pub IsSort : Sort → Cell → Type 0
-IsSort Integer (cell.Int z) = Unit {0}
-IsSort Integer (cell.Logical b) = ⊥
-IsSort Integer cell.Undefined = ⊥
-IsSort Logical (cell.Int z) = ⊥
-IsSort Logical (cell.Logical b) = Unit {0}
-IsSort Logical cell.Undefined = ⊥
-
--- a value is that of a cell, which holds a value of a type
-abbrev pub Of : Sort → Value → Cell → Type 0
-Of sort v c = IsOf v c × IsSort sort c
 
 -- an integer is the number of its cell
 pub integer_is : (v : Value) (c : Cell) → Of Integer v c → v ≡ Int (num c)

@@ -41,10 +41,13 @@ use Rattle.fort_model.specs.WalkCalls.{Sight, Operand, Bare, Part, Computed}
 use Rattle.fort_model.specs.WalkCalls as walk_call
 use Rattle.fort_model.specs.WalkExpr as walk
 use Rattle.fort_model.specs.WalkPlaces as places
+use Rattle.fort_laws.specs.Matches.{Matches, Same}
 use Rattle.fort_laws.specs.Places.{AreWithin}
-use Rattle.fort_laws.proofs.Matching.{Matches, Same, stays_then, matches_see, matches_check, matches_as, matches_held, matches_made, matches_cond, matches_twice, followed}
-use Rattle.fort_laws.proofs.MatchedExpressions.{IsOf, IsSort, Of, integer_is, logical_is, matches_ranged, matches_constant, matches_large, matches_operate, matches_power_from, matches_divisor, relation_is, matches_truth, and_two}
-use Rattle.fort_laws.proofs.MatchedPlaces.{MayBe, Standing, IsScalar, AreDims, scalar_stands, scalar_sort, matches_read, AreOf, AreAsMany, matches_subscripts, place_is, cell_of_place}
+use Rattle.fort_laws.specs.Standing.{IsOf, IsSort, Of, MayBe, Standing, OperandOf, ActualOf, ActualsOf, CallsMatch, ExpressionsMatch}
+use Rattle.fort_laws.specs.Typed.{IsCount, row_length, IsScalar, AreDims, IsArray, HasData, IsActual, IsApplied, IsTyped, AreInteger, AreActual}
+use Rattle.fort_laws.proofs.Matching.{stays_then, matches_see, matches_check, matches_as, matches_held, matches_made, matches_cond, matches_twice, followed}
+use Rattle.fort_laws.proofs.MatchedExpressions.{integer_is, logical_is, matches_ranged, matches_constant, matches_large, matches_operate, matches_power_from, matches_divisor, relation_is, matches_truth, and_two}
+use Rattle.fort_laws.proofs.MatchedPlaces.{scalar_stands, scalar_sort, matches_read, AreOf, AreAsMany, matches_subscripts, place_is, cell_of_place}
 use Rattle.fort_laws.proofs.Near.{known}
 use Rattle.fort_laws.proofs.PlaceBounds.{LiesIn, lies_in_array, one_less}
 
@@ -55,25 +58,7 @@ module _ (fs : List Function) (values : Symbol → Value) (program : Program) (i
   abbrev w : Sight Value
   w = sight (of_values fs values) program i s.unit
 
-  -- an operand of a walk and what a run takes: a value of a type, in a cell or fresh
-  abbrev pub OperandOf : Sort → Operand Value → Taken → Type 0
-  OperandOf q (Bare x v) (Cells e) = (e ≡ s.environment x) × (v ≡ now x) × (v ≡ of_cell (load st e.first)) × MayBe q (load st e.first)
-  OperandOf q (Bare x v) (Fresh c) = ⊥
-  OperandOf q (Part v) (Cells e) = (v ≡ of_cell (load st e.first)) × MayBe q (load st e.first)
-  OperandOf q (Part v) (Fresh c) = ⊥
-  OperandOf q (Computed v) (Cells e) = ⊥
-  OperandOf q (Computed v) (Fresh c) = Of q v c
-
-  -- an actual is taken unread
-  abbrev pub ActualOf : Operand Value → Taken → Type 0
-  ActualOf (Bare x v) (Cells e) = (e ≡ s.environment x) × (v ≡ now x)
-  ActualOf (Bare x v) (Fresh c) = ⊥
-  ActualOf (Part v) (Cells e) = v ≡ of_cell (load st e.first)
-  ActualOf (Part v) (Fresh c) = ⊥
-  ActualOf (Computed v) (Cells e) = ⊥
-  ActualOf (Computed v) (Fresh c) = IsOf v c
-
-  actual_of : (q : Sort) (x : Operand Value) (t : Taken) → OperandOf q x t → ActualOf x t
+  actual_of : (q : Sort) (x : Operand Value) (t : Taken) → OperandOf s st now q x t → ActualOf s st now x t
   actual_of q (Bare x v) (Cells e) h = (h.0, h.1)
   actual_of q (Bare x v) (Fresh c) h = absurd h
   actual_of q (Part v) (Cells e) h = h.0
@@ -82,7 +67,7 @@ module _ (fs : List Function) (values : Symbol → Value) (program : Program) (i
   actual_of q (Computed v) (Fresh c) h = h.0
 
   -- an operand is read for its value
-  matches_operand_read : (card : ℕ) (q : Sort) (x : Operand Value) (t : Taken) → OperandOf q x t → Matches (Same st (Of q)) (walk.read_operand w card x) (run.value_of card t) st
+  matches_operand_read : (card : ℕ) (q : Sort) (x : Operand Value) (t : Taken) → OperandOf s st now q x t → Matches (Same st (Of q)) (walk.read_operand w card x) (run.value_of card t) st
   matches_operand_read card q (Bare x v) (Cells e) h = matches_read s.unit s.environment st now standing fs values program i s card e.first v q h.2 h.3
   matches_operand_read card q (Bare x v) (Fresh c) h = absurd h
   matches_operand_read card q (Part v) (Cells e) h = matches_read s.unit s.environment st now standing fs values program i s card e.first v q h.0 h.1
@@ -90,13 +75,13 @@ module _ (fs : List Function) (values : Symbol → Value) (program : Program) (i
   matches_operand_read card q (Computed v) (Cells e) h = absurd h
   matches_operand_read card q (Computed v) (Fresh c) h = matches_see (Same st (Of q)) v c st (refl, h)
 
-  matches_valued : (card : ℕ) (q : Sort) (part : See Value (Operand Value)) (act : Act Taken) → Matches (Same st (OperandOf q)) part act st
+  matches_valued : (card : ℕ) (q : Sort) (part : See Value (Operand Value)) (act : Act Taken) → Matches (Same st (OperandOf s st now q)) part act st
       → Matches (Same st (Of q)) (walk.valued w card part) (run.valued card act) st
-  matches_valued card q part act h = stays_then (OperandOf q) (Same st (Of q)) _ _ _ _ st h (λ x t k. matches_operand_read card q x t k)
+  matches_valued card q part act h = stays_then (OperandOf s st now q) (Same st (Of q)) _ _ _ _ st h (λ x t k. matches_operand_read card q x t k)
 
   matches_computed : (q : Sort) (part : See Value Value) (act : Act Cell) → Matches (Same st (Of q)) part act st
-      → Matches (Same st (OperandOf q)) (walk.computed w part) (run.fresh act) st
-  matches_computed q part act h = stays_then (Of q) (Same st (OperandOf q)) _ _ _ _ st h (λ v c k. matches_see (Same st (OperandOf q)) (Computed v) (Fresh c) st (refl, k))
+      → Matches (Same st (OperandOf s st now q)) (walk.computed w part) (run.fresh act) st
+  matches_computed q part act h = stays_then (Of q) (Same st (OperandOf s st now q)) _ _ _ _ st h (λ v c k. matches_see (Same st (OperandOf s st now q)) (Computed v) (Fresh c) st (refl, k))
 
   matches_any_constant : (card n : ℕ) → Matches (Same st (Of Integer)) (walk.constant w card n) (run.constant s.processor card n) st
   matches_any_constant card n =
@@ -105,18 +90,10 @@ module _ (fs : List Function) (values : Symbol → Value) (program : Program) (i
       (λ e. matches_constant fs values program i s.unit s least greatest st card n e (bounded n e))
 
   -- a truth value that is computed
-  matches_logical : (v : Value) (b : Bool) → v ≡ Truth b → Matches (Same st (OperandOf Logical)) (see (Computed v)) (give (Fresh (cell.Logical b))) st
-  matches_logical v b e = matches_see (Same st (OperandOf Logical)) (Computed v) (Fresh (cell.Logical b)) st (refl, (e, tt))
+  matches_logical : (v : Value) (b : Bool) → v ≡ Truth b → Matches (Same st (OperandOf s st now Logical)) (see (Computed v)) (give (Fresh (cell.Logical b))) st
+  matches_logical v b e = matches_see (Same st (OperandOf s st now Logical)) (Computed v) (Fresh (cell.Logical b)) st (refl, (e, tt))
 
   -- ---- elements
-
-  -- an array of a type
-  pub record IsArray (q : Sort) (a : Name) (ds : List Dim) : Type 0 where
-    pub data_of : DataName
-    pub is : data_name s.unit a ≡ Some data_of
-    pub dims_are : data_of.dims ≡ ds
-    pub sort_is : data_of.sort ≡ q
-    pub dims : AreDims s.unit s.environment st ds
 
   -- the cell of an element: where it lies in its array
   pub record IsPlaced (ds : List Dim) (size : ℕ) (z : ℤ) : Type 0 where
@@ -134,16 +111,16 @@ module _ (fs : List Function) (values : Symbol → Value) (program : Program) (i
       go zero p l m = absurd (omega arith)
       go (suc k) p l m = let same : size ≡ h.size = sizes in record { before = k; count_is = ap count (ap (λ (x : ℤ). x -ℤ pos 1) p ∙ one_less k); less = omega arith }
 
-  matches_element : (card : ℕ) (q : Sort) (a : Name) (b : Dim) (bs : List Dim) → IsArray q a (b ∷ bs) → (vs : List Value) (cs : List Cell)
+  matches_element : (card : ℕ) (q : Sort) (a : Name) (b : Dim) (bs : List Dim) → IsArray s.unit q a (b ∷ bs) → (vs : List Value) (cs : List Cell)
       → AreOf s.unit s.environment st now standing fs values program i s vs cs → AreAsMany s.unit s.environment st now standing fs values program i s cs (b ∷ bs)
-      → Matches (Same st (OperandOf q)) (walk.place_checked w card now (b ∷ bs) vs >>= (λ p. see (Part (sense.make2 (of_values fs values) f.Element (now a) p))))
+      → Matches (Same st (OperandOf s st now q)) (walk.place_checked w card now (b ∷ bs) vs >>= (λ p. see (Part (sense.make2 (of_values fs values) f.Element (now a) p))))
       (run.element s.environment card (s.environment a) (b ∷ bs) cs) st
   matches_element card q a b bs h vs cs e many =
-      matches_held (Same st (OperandOf q)) _ (λ x. followed (run.subscripts_in card (run.numbers cs) (dim_values s.environment x (b ∷ bs))) (λ _. give (Cells (taken_at x)))) st
-      (stays_then (λ p y. (p ≡ the_place) × AreWithin (run.numbers cs) (dim_values s.environment st (b ∷ bs))) (Same st (OperandOf q)) _ _ _ _ st
+      matches_held (Same st (OperandOf s st now q)) _ (λ x. followed (run.subscripts_in card (run.numbers cs) (dim_values s.environment x (b ∷ bs))) (λ _. give (Cells (taken_at x)))) st
+      (stays_then (λ p y. (p ≡ the_place) × AreWithin (run.numbers cs) (dim_values s.environment st (b ∷ bs))) (Same st (OperandOf s st now q)) _ _ _ _ st
       (matches_made (Same st (λ x y. AreWithin (run.numbers cs) (dim_values s.environment st (b ∷ bs)))) (Same st (λ p y. (p ≡ the_place) × AreWithin (run.numbers cs) (dim_values s.environment st (b ∷ bs))))
       _ _ (λ _. the_place) st (matches_subscripts s.unit s.environment st now standing fs values program i s card vs cs (b ∷ bs) e many h.dims) (λ x y after k. (k.0, (refl, k.1))))
-      (λ p y k. matches_see (Same st (OperandOf q)) (Part (sense.make2 (of_values fs values) f.Element (now a) p)) (Cells (taken_at st)) st
+      (λ p y k. matches_see (Same st (OperandOf s st now q)) (Part (sense.make2 (of_values fs values) f.Element (now a) p)) (Cells (taken_at st)) st
       (refl, (ap (λ (x : Value). value.element (now a) (value.num x)) k.0 ∙ is_cell k.1, may_be k.1))))
     where
       the_place : Value
@@ -205,13 +182,6 @@ module _ (fs : List Function) (values : Symbol → Value) (program : Program) (i
   least_is (x ∷ vs) [] v z h e = absurd h
   least_is (x ∷ vs) (c ∷ cs) v z h e = least_is vs cs _ _ h.1 (λ k. Int (value.smaller (value.num (e k)) (value.num (h.0.0 k))))
 
-  -- how many arguments an intrinsic function has
-  abbrev pub IsCount : Intrinsic → ℕ → Type 0
-  IsCount Absolute n = n ≡ 1
-  IsCount Modulo n = n ≡ 2
-  IsCount Greatest n = 1 ≤ n
-  IsCount Least n = 1 ≤ n
-
   matches_intrinsic : (card : ℕ) (g : Intrinsic) (vs : List Value) (cs : List Cell) → AreIntegers vs cs → IsCount g (length cs)
       → Matches (Same st (Of Integer)) (walk.intrinsic_value w card g vs) (run.intrinsic_value s.processor card g cs) st
   matches_intrinsic card g [] (c ∷ cs) h n = absurd h
@@ -241,97 +211,35 @@ module _ (fs : List Function) (values : Symbol → Value) (program : Program) (i
   matches_intrinsic card Least (v ∷ vs) (c ∷ cs) h n =
       matches_see (Same st (Of Integer)) (walk.folded w f.Minimum v vs) (cell.Int (run.folded value.smaller (num c) cs)) st (refl, (least_is vs cs v (num c) h.1 (integer_is v c h.0), tt))
 
-  -- ---- typed expressions
-
-  -- an actual that is a name of the unit
-  pub record HasData (x : Name) : Type 0 where
-    pub data_of : DataName
-    pub is : data_name s.unit x ≡ Some data_of
-
-  abbrev pub IsActual : Expr → Type 0 → Type 0
-  IsActual (Var x) typed = HasData x
-  IsActual e typed = typed
-
-  module _ (IsReference : Sort → Name → Type 0) where
-    -- an array has as many subscripts as dimensions; an intrinsic function its number of arguments
-    abbrev pub IsApplied : Sort → Name → Applied → ℕ → Type 0 → Type 0 → Type 0
-    IsApplied q a (Element []) n are_values are_actuals = ⊥
-    IsApplied q a (Element (d ∷ ds)) n are_values are_actuals = IsArray q a (d ∷ ds) × (n ≡ length (d ∷ ds)) × are_values
-    IsApplied q a (BuiltIn g) n are_values are_actuals = (q ≡ Integer) × IsCount g n × are_values
-    IsApplied q a Reference n are_values are_actuals = IsReference q a × are_actuals
-
-    abbrev row_length : {m : Count} → Row_of-Expr m → ℕ
-    row_length end_of-Expr = 0
-    row_length (more_of-Expr e es) = suc (row_length es)
-
-    -- an expression of a type, all of whose parts have the types that their places demand
-    abbrev mutual
-      pub IsTyped : Sort → Expr → Type 0
-      IsTyped q (Const n) = q ≡ Integer
-      IsTyped q (TruthConstant b) = q ≡ Logical
-      IsTyped q (Var x) = IsScalar s.unit s.environment st q x
-      IsTyped q (Apply' a _ args) = IsApplied q a (applied s.unit a) (row_length args) (AreInteger args) (AreActual args)
-      IsTyped q (Paren' _ (only a)) = IsTyped q a
-      IsTyped q (Pos' _ (only a)) = IsTyped q a
-      IsTyped q (Neg' _ (only a)) = (q ≡ Integer) × IsTyped Integer a
-      IsTyped q (Power' _ (only a) n) = (q ≡ Integer) × IsTyped Integer a
-      IsTyped q (Bin' o _ (only a) _ (only b)) = (q ≡ Integer) × (IsTyped Integer a × IsTyped Integer b)
-      IsTyped q (Rel' o _ (only a) _ (only b)) = (q ≡ Logical) × (IsTyped Integer a × IsTyped Integer b)
-      IsTyped q (Not' _ (only a)) = (q ≡ Logical) × IsTyped Logical a
-      IsTyped q (And' _ (only a) _ (only b)) = (q ≡ Logical) × (IsTyped Logical a × IsTyped Logical b)
-      IsTyped q (Or' _ (only a) _ (only b)) = (q ≡ Logical) × (IsTyped Logical a × IsTyped Logical b)
-
-      pub AreInteger : {m : Count} → Row_of-Expr m → Type 0
-      AreInteger end_of-Expr = Unit {0}
-      AreInteger (more_of-Expr e es) = IsTyped Integer e × AreInteger es
-
-      pub AreActual : {m : Count} → Row_of-Expr m → Type 0
-      AreActual end_of-Expr = Unit {0}
-      AreActual (more_of-Expr e es) = IsActual e (IsTyped Integer e ⊎ IsTyped Logical e) × AreActual es
-
-    -- operands and what is taken for them
-    abbrev pub ActualsOf : List (Operand Value) → List Taken → Type 0
-    ActualsOf [] [] = Unit {0}
-    ActualsOf [] (t ∷ ts) = ⊥
-    ActualsOf (x ∷ xs) [] = ⊥
-    ActualsOf (x ∷ xs) (t ∷ ts) = ActualOf x t × ActualsOf xs ts
-
-    -- what is wanted of a reference: its walk and its run match, and leave the storage as it is
-    abbrev pub CallsMatch : Type 0
-    CallsMatch =
-        (card k : ℕ) (q : Sort) (a : Name) (xs : List (Operand Value)) (ts : List Taken) → IsReference q a → ActualsOf xs ts
-        → Matches (Same st (λ r c. Of q (r.1) c)) (walk_call.call w card (function program.units a) now xs)
-        (call caller s.environment (unit_at s.units (function s.units a)) (passed (s.processor.copies s.unit.name k) 1 ts)) st
-
-    module _ (calls : CallsMatch) where
+  module _ (IsReference : Sort → Name → Type 0) (calls : CallsMatch fs values program i s caller st now IsReference) where
       -- several values, of which there are so many
       abbrev Integers : ℕ → List Value → List Cell → Type 0
       Integers n vs cs = AreIntegers vs cs × (length cs ≡ n)
 
       matches_applied : (card k : ℕ) (q : Sort) (a : Name) (kind : Applied) (n : ℕ) (are_values are_actuals : Type 0) (vs : See Value (List Value)) (cs : Act (List Cell))
-          (xs : See Value (List (Operand Value))) (ts : Act (List Taken)) → IsApplied q a kind n are_values are_actuals
-          → (are_values → Matches (Same st (Integers n)) vs cs st) → (are_actuals → Matches (Same st ActualsOf) xs ts st)
-          → Matches (Same st (OperandOf q)) (walk.apply w card now a kind vs xs) (run.apply s caller card k a kind cs ts) st
+          (xs : See Value (List (Operand Value))) (ts : Act (List Taken)) → IsApplied s.unit IsReference q a kind n are_values are_actuals
+          → (are_values → Matches (Same st (Integers n)) vs cs st) → (are_actuals → Matches (Same st (ActualsOf s st now)) xs ts st)
+          → Matches (Same st (OperandOf s st now q)) (walk.apply w card now a kind vs xs) (run.apply s caller card k a kind cs ts) st
       matches_applied card k q a (Element []) n are_values are_actuals vs cs xs ts h hv hx = absurd h
       matches_applied card k q a (Element (d ∷ ds)) n are_values are_actuals vs cs xs ts h hv hx =
-          stays_then (Integers n) (Same st (OperandOf q)) _ _ _ _ st (hv h.2)
+          stays_then (Integers n) (Same st (OperandOf s st now q)) _ _ _ _ st (hv h.2)
           (λ us bs g. matches_element card q a d ds h.0 us bs (are_of us bs g.0) (as_many bs (d ∷ ds) (g.1 ∙ h.1)))
       matches_applied card k q a (BuiltIn g) n are_values are_actuals vs cs xs ts h hv hx =
-          stays_then (Integers n) (Same st (OperandOf q)) _ _ _ _ st (hv h.2)
+          stays_then (Integers n) (Same st (OperandOf s st now q)) _ _ _ _ st (hv h.2)
           (λ us bs m. matches_computed q _ _ (subst (λ (r : Sort). Matches (Same st (Of r)) (walk.intrinsic_value w card g us) (run.intrinsic_value s.processor card g bs) st) (sym h.0)
           (matches_intrinsic card g us bs m.0 (subst (IsCount g) (sym m.1) h.1))))
       matches_applied card k q a Reference n are_values are_actuals vs cs xs ts h hv hx =
-          matches_twice (Same st (OperandOf q)) _ ts (λ ys. call caller s.environment (unit_at s.units (function s.units a)) (passed (s.processor.copies s.unit.name (suc k)) 1 ys)) (λ c. give (Fresh c)) st
-          (stays_then ActualsOf (Same st (OperandOf q)) _ _ _ _ st (hx h.1)
-          (λ us ys m. stays_then (λ r c. Of q (r.1) c) (Same st (OperandOf q)) _ _ _ _ st (calls card (suc k) q a us ys h.0 m)
-          (λ r c o. matches_see (Same st (OperandOf q)) (Computed (r.1)) (Fresh c) st (refl, o))))
+          matches_twice (Same st (OperandOf s st now q)) _ ts (λ ys. call caller s.environment (unit_at s.units (function s.units a)) (passed (s.processor.copies s.unit.name (suc k)) 1 ys)) (λ c. give (Fresh c)) st
+          (stays_then (ActualsOf s st now) (Same st (OperandOf s st now q)) _ _ _ _ st (hx h.1)
+          (λ us ys m. stays_then (λ r c. Of q (r.1) c) (Same st (OperandOf s st now q)) _ _ _ _ st (calls card (suc k) q a us ys h.0 m)
+          (λ r c o. matches_see (Same st (OperandOf s st now q)) (Computed (r.1)) (Fresh c) st (refl, o))))
 
       -- of an integer, and of a truth value
-      as_integer : (q : Sort) (part : See Value (Operand Value)) (act : Act Taken) → q ≡ Integer → Matches (Same st (OperandOf Integer)) part act st → Matches (Same st (OperandOf q)) part act st
-      as_integer q part act e h = subst (λ (r : Sort). Matches (Same st (OperandOf r)) part act st) (sym e) h
+      as_integer : (q : Sort) (part : See Value (Operand Value)) (act : Act Taken) → q ≡ Integer → Matches (Same st (OperandOf s st now Integer)) part act st → Matches (Same st (OperandOf s st now q)) part act st
+      as_integer q part act e h = subst (λ (r : Sort). Matches (Same st (OperandOf s st now r)) part act st) (sym e) h
 
-      as_logical : (q : Sort) (part : See Value (Operand Value)) (act : Act Taken) → q ≡ Logical → Matches (Same st (OperandOf Logical)) part act st → Matches (Same st (OperandOf q)) part act st
-      as_logical q part act e h = subst (λ (r : Sort). Matches (Same st (OperandOf r)) part act st) (sym e) h
+      as_logical : (q : Sort) (part : See Value (Operand Value)) (act : Act Taken) → q ≡ Logical → Matches (Same st (OperandOf s st now Logical)) part act st → Matches (Same st (OperandOf s st now q)) part act st
+      as_logical q part act e h = subst (λ (r : Sort). Matches (Same st (OperandOf s st now r)) part act st) (sym e) h
 
       and_is : (v : Value) (a : Cell) (x : Value) (b : Cell) → Of Logical v a → Of Logical x b → sense.make2 (of_values fs values) f.And v x ≡ Truth (run_holds a && run_holds b)
       and_is v a x b h k = (λ j. Truth (holds (h.0 j) && (holds (k.0 j) && true))) ∙ ap Truth (and_two (run_holds a) (run_holds b))
@@ -349,18 +257,18 @@ module _ (fs : List Function) (values : Symbol → Value) (program : Program) (i
       strictly Q t part out all h = subst (λ (b : Bool). Matches Q part (cond (b && t) out all) st) (sym strict) h
 
       -- an actual
-      by_sort : (e : Expr) (card k : ℕ) → IsTyped Integer e ⊎ IsTyped Logical e
-          → (IsTyped Integer e → Matches (Same st (OperandOf Integer)) (walk.operand w card now e) (run.taken s caller card k e) st)
-          → (IsTyped Logical e → Matches (Same st (OperandOf Logical)) (walk.operand w card now e) (run.taken s caller card k e) st)
-          → Matches (Same st ActualOf) (walk.operand w card now e) (run.taken s caller card k e) st
-      by_sort e card k (inl h) hi hl = matches_as (Same st (OperandOf Integer)) (Same st ActualOf) _ _ st (λ x t after g. (g.0, actual_of Integer x t g.1)) (hi h)
-      by_sort e card k (inr h) hi hl = matches_as (Same st (OperandOf Logical)) (Same st ActualOf) _ _ st (λ x t after g. (g.0, actual_of Logical x t g.1)) (hl h)
+      by_sort : (e : Expr) (card k : ℕ) → IsTyped s.unit IsReference Integer e ⊎ IsTyped s.unit IsReference Logical e
+          → (IsTyped s.unit IsReference Integer e → Matches (Same st (OperandOf s st now Integer)) (walk.operand w card now e) (run.taken s caller card k e) st)
+          → (IsTyped s.unit IsReference Logical e → Matches (Same st (OperandOf s st now Logical)) (walk.operand w card now e) (run.taken s caller card k e) st)
+          → Matches (Same st (ActualOf s st now)) (walk.operand w card now e) (run.taken s caller card k e) st
+      by_sort e card k (inl h) hi hl = matches_as (Same st (OperandOf s st now Integer)) (Same st (ActualOf s st now)) _ _ st (λ x t after g. (g.0, actual_of Integer x t g.1)) (hi h)
+      by_sort e card k (inr h) hi hl = matches_as (Same st (OperandOf s st now Logical)) (Same st (ActualOf s st now)) _ _ st (λ x t after g. (g.0, actual_of Logical x t g.1)) (hl h)
 
-      actual_matches : (e : Expr) (card k : ℕ) → IsActual e (IsTyped Integer e ⊎ IsTyped Logical e)
-          → (IsTyped Integer e → Matches (Same st (OperandOf Integer)) (walk.operand w card now e) (run.taken s caller card k e) st)
-          → (IsTyped Logical e → Matches (Same st (OperandOf Logical)) (walk.operand w card now e) (run.taken s caller card k e) st)
-          → Matches (Same st ActualOf) (walk.operand w card now e) (run.taken s caller card k e) st
-      actual_matches (Var x) card k h hi hl = matches_see (Same st ActualOf) (Bare x (now x)) (Cells (s.environment x)) st (refl, (refl, refl))
+      actual_matches : (e : Expr) (card k : ℕ) → IsActual s.unit e (IsTyped s.unit IsReference Integer e ⊎ IsTyped s.unit IsReference Logical e)
+          → (IsTyped s.unit IsReference Integer e → Matches (Same st (OperandOf s st now Integer)) (walk.operand w card now e) (run.taken s caller card k e) st)
+          → (IsTyped s.unit IsReference Logical e → Matches (Same st (OperandOf s st now Logical)) (walk.operand w card now e) (run.taken s caller card k e) st)
+          → Matches (Same st (ActualOf s st now)) (walk.operand w card now e) (run.taken s caller card k e) st
+      actual_matches (Var x) card k h hi hl = matches_see (Same st (ActualOf s st now)) (Bare x (now x)) (Cells (s.environment x)) st (refl, (refl, refl))
       actual_matches (Const n) card k h hi hl = by_sort (Const n) card k h hi hl
       actual_matches (TruthConstant b) card k h hi hl = by_sort (TruthConstant b) card k h hi hl
       actual_matches (Apply' a x args) card k h hi hl = by_sort (Apply' a x args) card k h hi hl
@@ -375,62 +283,67 @@ module _ (fs : List Function) (values : Symbol → Value) (program : Program) (i
       actual_matches (Or' x a y b) card k h hi hl = by_sort (Or' x a y b) card k h hi hl
 
       mutual
-        pub operands_match : (e : Expr) (q : Sort) (card k : ℕ) → IsTyped q e → Matches (Same st (OperandOf q)) (walk.operand w card now e) (run.taken s caller card k e) st
+        pub operands_match : (e : Expr) (q : Sort) (card k : ℕ) → IsTyped s.unit IsReference q e → Matches (Same st (OperandOf s st now q)) (walk.operand w card now e) (run.taken s caller card k e) st
         operands_match (Const n) q card k h = as_integer q _ _ h (matches_computed Integer _ _ (matches_any_constant card n))
         operands_match (TruthConstant b) q card k h = as_logical q _ _ h (matches_logical (Truth b) b refl)
         operands_match (Var x) q card k h =
-            matches_see (Same st (OperandOf q)) (Bare x (now x)) (Cells (s.environment x)) st
+            matches_see (Same st (OperandOf s st now q)) (Bare x (now x)) (Cells (s.environment x)) st
             (refl, (refl, refl, scalar_stands s.unit s.environment st now standing q x h, scalar_sort s.unit s.environment st now standing q x h))
         operands_match (Apply' a _ args) q card k h =
-            matches_applied card k q a (applied s.unit a) (row_length args) (AreInteger args) (AreActual args) _ _ _ _ h
+            matches_applied card k q a (applied s.unit a) (row_length args) (AreInteger s.unit IsReference args) (AreActual s.unit IsReference args) _ _ _ _ h
             (λ t. integers_match args card k t) (λ t. actuals_match args card (suc k) t)
         operands_match (Paren' _ (only a)) q card k h = matches_computed q _ _ (matches_valued card q _ _ (operands_match a q card k h))
         operands_match (Pos' _ (only a)) q card k h = matches_computed q _ _ (matches_valued card q _ _ (operands_match a q card k h))
         operands_match (Neg' _ (only a)) q card k h =
             as_integer q _ _ h.0
-            (stays_then (Of Integer) (Same st (OperandOf Integer)) _ _ _ _ st (matches_valued card Integer _ _ (operands_match a Integer card k h.1))
+            (stays_then (Of Integer) (Same st (OperandOf s st now Integer)) _ _ _ _ st (matches_valued card Integer _ _ (operands_match a Integer card k h.1))
             (λ v c g. matches_computed Integer _ _ (matches_ranged fs values program i s.unit s least greatest st card (sense.make1 (of_values fs values) f.Negative v) (neg_ℤ (num c)) (λ j. Int (neg_ℤ (value.num (g.0 j)))))))
         operands_match (Power' _ (only a) n) q card k h =
             as_integer q _ _ h.0
-            (stays_then (Of Integer) (Same st (OperandOf Integer)) _ _ _ _ st (matches_valued card Integer _ _ (operands_match a Integer card k h.1))
+            (stays_then (Of Integer) (Same st (OperandOf s st now Integer)) _ _ _ _ st (matches_valued card Integer _ _ (operands_match a Integer card k h.1))
             (λ v c g. matches_computed Integer _ _ (matches_power_from fs values program i s.unit s least greatest st card (pred n) v (num c) v (num c) (integer_is v c g) (integer_is v c g))))
         operands_match (Bin' o _ (only a) _ (only b)) q card k h =
             as_integer q _ _ h.0
-            (stays_then (Of Integer) (Same st (OperandOf Integer)) _ _ _ _ st (matches_valued card Integer _ _ (operands_match a Integer card k h.1.0))
-            (λ v c g. stays_then (Of Integer) (Same st (OperandOf Integer)) _ _ _ _ st (matches_valued card Integer _ _ (operands_match b Integer card (k + calls_in s.unit a) h.1.1))
+            (stays_then (Of Integer) (Same st (OperandOf s st now Integer)) _ _ _ _ st (matches_valued card Integer _ _ (operands_match a Integer card k h.1.0))
+            (λ v c g. stays_then (Of Integer) (Same st (OperandOf s st now Integer)) _ _ _ _ st (matches_valued card Integer _ _ (operands_match b Integer card (k + calls_in s.unit a) h.1.1))
             (λ v2 c2 g2. matches_computed Integer _ _ (matches_operate fs values program i s.unit s least greatest st card o v c v2 c2 g.0 g2.0))))
         operands_match (Rel' o _ (only a) _ (only b)) q card k h =
             as_logical q _ _ h.0
-            (stays_then (Of Integer) (Same st (OperandOf Logical)) _ _ _ _ st (matches_valued card Integer _ _ (operands_match a Integer card k h.1.0))
-            (λ v c g. stays_then (Of Integer) (Same st (OperandOf Logical)) _ _ _ _ st (matches_valued card Integer _ _ (operands_match b Integer card (k + calls_in s.unit a) h.1.1))
+            (stays_then (Of Integer) (Same st (OperandOf s st now Logical)) _ _ _ _ st (matches_valued card Integer _ _ (operands_match a Integer card k h.1.0))
+            (λ v c g. stays_then (Of Integer) (Same st (OperandOf s st now Logical)) _ _ _ _ st (matches_valued card Integer _ _ (operands_match b Integer card (k + calls_in s.unit a) h.1.1))
             (λ v2 c2 g2. matches_logical (walk.relation w o v v2) (compares o c c2) (relation_is fs values program i s.unit s least greatest st o v c v2 c2 g.0 g2.0))))
         operands_match (Not' _ (only a)) q card k h =
             as_logical q _ _ h.0
-            (stays_then (Of Logical) (Same st (OperandOf Logical)) _ _ _ _ st (matches_valued card Logical _ _ (operands_match a Logical card k h.1))
+            (stays_then (Of Logical) (Same st (OperandOf s st now Logical)) _ _ _ _ st (matches_valued card Logical _ _ (operands_match a Logical card k h.1))
             (λ v c g. matches_logical (sense.negated (of_values fs values) v) (not (run_holds c)) (λ j. Truth (not (holds (g.0 j))))))
         operands_match (And' _ (only a) _ (only b)) q card k h =
             as_logical q _ _ h.0
-            (stays_then (Of Logical) (Same st (OperandOf Logical)) _ _ _ _ st (matches_valued card Logical _ _ (operands_match a Logical card k h.1.0))
-            (λ v c g. strictly (Same st (OperandOf Logical)) (not (run_holds c)) _ (give (Fresh (cell.Logical false))) _
-            (stays_then (Of Logical) (Same st (OperandOf Logical)) _ _ _ _ st (matches_valued card Logical _ _ (operands_match b Logical card (k + calls_in s.unit a) h.1.1))
+            (stays_then (Of Logical) (Same st (OperandOf s st now Logical)) _ _ _ _ st (matches_valued card Logical _ _ (operands_match a Logical card k h.1.0))
+            (λ v c g. strictly (Same st (OperandOf s st now Logical)) (not (run_holds c)) _ (give (Fresh (cell.Logical false))) _
+            (stays_then (Of Logical) (Same st (OperandOf s st now Logical)) _ _ _ _ st (matches_valued card Logical _ _ (operands_match b Logical card (k + calls_in s.unit a) h.1.1))
             (λ v2 c2 g2. matches_logical (sense.make2 (of_values fs values) f.And v v2) (run_holds c && run_holds c2) (and_is v c v2 c2 g g2)))))
         operands_match (Or' _ (only a) _ (only b)) q card k h =
             as_logical q _ _ h.0
-            (stays_then (Of Logical) (Same st (OperandOf Logical)) _ _ _ _ st (matches_valued card Logical _ _ (operands_match a Logical card k h.1.0))
-            (λ v c g. strictly (Same st (OperandOf Logical)) (run_holds c) _ (give (Fresh (cell.Logical true))) _
-            (stays_then (Of Logical) (Same st (OperandOf Logical)) _ _ _ _ st (matches_valued card Logical _ _ (operands_match b Logical card (k + calls_in s.unit a) h.1.1))
+            (stays_then (Of Logical) (Same st (OperandOf s st now Logical)) _ _ _ _ st (matches_valued card Logical _ _ (operands_match a Logical card k h.1.0))
+            (λ v c g. strictly (Same st (OperandOf s st now Logical)) (run_holds c) _ (give (Fresh (cell.Logical true))) _
+            (stays_then (Of Logical) (Same st (OperandOf s st now Logical)) _ _ _ _ st (matches_valued card Logical _ _ (operands_match b Logical card (k + calls_in s.unit a) h.1.1))
             (λ v2 c2 g2. matches_logical (sense.make2 (of_values fs values) f.Or v v2) (run_holds c || run_holds c2) (or_is v c v2 c2 g g2)))))
 
-        pub integers_match : {m : Count} (es : Row_of-Expr m) (card k : ℕ) → AreInteger es → Matches (Same st (Integers (row_length es))) (walk.values w card now es) (run.values s caller card k es) st
+        pub integers_match : {m : Count} (es : Row_of-Expr m) (card k : ℕ) → AreInteger s.unit IsReference es → Matches (Same st (Integers (row_length es))) (walk.values w card now es) (run.values s caller card k es) st
         integers_match end_of-Expr card k h = matches_see (Same st (Integers 0)) [] [] st (refl, (tt, refl))
         integers_match (more_of-Expr e es) card k h =
             stays_then (Of Integer) (Same st (Integers (suc (row_length es)))) _ _ _ _ st (matches_valued card Integer _ _ (operands_match e Integer card k h.0))
             (λ v c g. stays_then (Integers (row_length es)) (Same st (Integers (suc (row_length es)))) _ _ _ _ st (integers_match es card (k + calls_in s.unit e) h.1)
             (λ vs cs m. matches_see (Same st (Integers (suc (row_length es)))) (v ∷ vs) (c ∷ cs) st (refl, ((g, m.0), ap suc m.1))))
 
-        pub actuals_match : {m : Count} (es : Row_of-Expr m) (card k : ℕ) → AreActual es → Matches (Same st ActualsOf) (walk.operands w card now es) (run.actuals s caller card k es) st
-        actuals_match end_of-Expr card k h = matches_see (Same st ActualsOf) [] [] st (refl, tt)
+        pub actuals_match : {m : Count} (es : Row_of-Expr m) (card k : ℕ) → AreActual s.unit IsReference es → Matches (Same st (ActualsOf s st now)) (walk.operands w card now es) (run.actuals s caller card k es) st
+        actuals_match end_of-Expr card k h = matches_see (Same st (ActualsOf s st now)) [] [] st (refl, tt)
         actuals_match (more_of-Expr e es) card k h =
-            stays_then ActualOf (Same st ActualsOf) _ _ _ _ st (actual_matches e card k h.0 (λ t. operands_match e Integer card k t) (λ t. operands_match e Logical card k t))
-            (λ x t g. stays_then ActualsOf (Same st ActualsOf) _ _ _ _ st (actuals_match es card (k + calls_in s.unit e) h.1)
-            (λ xs ts m. matches_see (Same st ActualsOf) (x ∷ xs) (t ∷ ts) st (refl, (g, m))))
+            stays_then (ActualOf s st now) (Same st (ActualsOf s st now)) _ _ _ _ st (actual_matches e card k h.0 (λ t. operands_match e Integer card k t) (λ t. operands_match e Logical card k t))
+            (λ x t g. stays_then (ActualsOf s st now) (Same st (ActualsOf s st now)) _ _ _ _ st (actuals_match es card (k + calls_in s.unit e) h.1)
+            (λ xs ts m. matches_see (Same st (ActualsOf s st now)) (x ∷ xs) (t ∷ ts) st (refl, (g, m))))
+
+pub expressions_match : ExpressionsMatch
+expressions_match fs values program i s caller st now is_reference least greatest strict bounded standing calls e q card k typed =
+    matches_valued fs values program i s caller least greatest strict bounded st now standing card q _ _
+    (operands_match fs values program i s caller least greatest strict bounded st now standing (λ r a. is_reference r a ≡ true) calls e q card k typed)

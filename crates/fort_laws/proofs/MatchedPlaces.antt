@@ -32,16 +32,13 @@ use Rattle.fort_model.specs.Symbols.{Symbol}
 use Rattle.fort_model.specs.WalkCalls.{Sight}
 use Rattle.fort_model.specs.WalkExpr as walk
 use Rattle.fort_model.specs.WalkPlaces as places
+use Rattle.fort_laws.specs.Matches.{Matches, Same}
 use Rattle.fort_laws.specs.Places.{AreWithin}
-use Rattle.fort_laws.proofs.Matching.{Matches, Same, stays_then, matches_see, matches_check, matches_as, matches_held, followed}
-use Rattle.fort_laws.proofs.MatchedExpressions.{IsOf, IsSort, Of, and_two}
+use Rattle.fort_laws.specs.Standing.{IsOf, IsSort, Of, MayBe, Standing}
+use Rattle.fort_laws.specs.Typed.{IsScalar, AreDims}
+use Rattle.fort_laws.proofs.Matching.{stays_then, matches_see, matches_check, matches_as, matches_held, followed}
+use Rattle.fort_laws.proofs.MatchedExpressions.{and_two}
 use Rattle.fort_laws.proofs.PlaceBounds.{LiesIn, one_less}
-
--- a cell is undefined or holds a value of a type
-abbrev pub MayBe : Sort → Cell → Type 0
-MayBe sort (cell.Int z) = IsSort sort (cell.Int z)
-MayBe sort (cell.Logical b) = IsSort sort (cell.Logical b)
-MayBe sort cell.Undefined = Unit {0}
 
 sorted : (sort : Sort) (c : Cell) → MayBe sort c → is_defined c ≡ true → IsSort sort c
 sorted sort (cell.Int z) h d = h
@@ -55,30 +52,11 @@ contents_get st first (suc size) zero h = ap (λ (j : ℕ). Some (load st j)) (o
 contents_get st first (suc size) (suc k) h = contents_get st (suc first) size k (omega arith) ∙ ap (λ (j : ℕ). Some (load st j)) (omega arith)
 
 module _ (u : Routine) (env : Environment) (st : Storage) where
-  -- the named values stand for the cells of the unit's names, which have their sizes and types
-  pub record Standing (now : Named Value) : Type 0 where
-    pub names : (x : Name) (d : DataName) → data_name u x ≡ Some d → now x ≡ held_in d.dims st (env x)
-    pub sizes : (x : Name) (d : DataName) → data_name u x ≡ Some d → pos (env x).size ≡ stretch (dim_values env st d.dims)
-    pub sorts : (x : Name) (d : DataName) → data_name u x ≡ Some d → (k : ℕ) → k < (env x).size → MayBe d.sort (load st ((env x).first + k))
-
-  -- a data name that is a scalar of a type
-  pub record IsScalar (sort : Sort) (x : Name) : Type 0 where
-    pub data_of : DataName
-    pub is : data_name u x ≡ Some data_of
-    pub scalar : data_of.dims ≡ []
-    pub sort_is : data_of.sort ≡ sort
-
-  -- adjustable dimensions are integer scalars
-  abbrev pub AreDims : List Dim → Type 0
-  AreDims [] = Unit {0}
-  AreDims (Fixed n ∷ ds) = AreDims ds
-  AreDims (Adjustable x ∷ ds) = IsScalar Integer x × AreDims ds
-
-  module _ (now : Named Value) (standing : Standing now) where
-    pub scalar_stands : (sort : Sort) (x : Name) → IsScalar sort x → now x ≡ of_cell (load st (env x).first)
+  module _ (now : Named Value) (standing : Standing u env st now) where
+    pub scalar_stands : (sort : Sort) (x : Name) → IsScalar u sort x → now x ≡ of_cell (load st (env x).first)
     scalar_stands sort x h = standing.names x h.data_of h.is ∙ ap (λ (ds : List Dim). held_in ds st (env x)) h.scalar
 
-    pub scalar_sort : (sort : Sort) (x : Name) → IsScalar sort x → MayBe sort (load st (env x).first)
+    pub scalar_sort : (sort : Sort) (x : Name) → IsScalar u sort x → MayBe sort (load st (env x).first)
     scalar_sort sort x h =
         subst (λ (q : Sort). MayBe q (load st (env x).first)) h.sort_is
         (subst (λ (j : ℕ). MayBe h.data_of.sort (load st j)) (omega arith) (standing.sorts x h.data_of h.is 0 (one_cell (env x).size one)))
@@ -101,11 +79,11 @@ module _ (u : Routine) (env : Environment) (st : Storage) where
           (matches_check DefinedCheck card _ _ st (ap value.is_defined e))
           (λ x y h. matches_see (Same st (Of sort)) v (load st j) st (refl, (e, sorted sort (load st j) may h))))
 
-      dim_is : (d : Dim) → AreDims (d ∷ []) → value.num (places.dim (of_values fs values) now d) ≡ dim_value env st d
+      dim_is : (d : Dim) → AreDims u (d ∷ []) → value.num (places.dim (of_values fs values) now d) ≡ dim_value env st d
       dim_is (Fixed n) h = refl
       dim_is (Adjustable x) h = ap value.num (scalar_stands Integer x h.0)
 
-      dims_split : (d : Dim) (ds : List Dim) → AreDims (d ∷ ds) → AreDims (d ∷ []) × AreDims ds
+      dims_split : (d : Dim) (ds : List Dim) → AreDims u (d ∷ ds) → AreDims u (d ∷ []) × AreDims u ds
       dims_split (Fixed n) ds h = (tt, h)
       dims_split (Adjustable x) ds h = ((h.0, tt), h.1)
 
@@ -123,7 +101,7 @@ module _ (u : Routine) (env : Environment) (st : Storage) where
       AreAsMany (c ∷ cs) [] = ⊥
       AreAsMany (c ∷ cs) (d ∷ ds) = AreAsMany cs ds
 
-      pub matches_subscripts : (card : ℕ) (vs : List Value) (cs : List Cell) (ds : List Dim) → AreOf vs cs → AreAsMany cs ds → AreDims ds
+      pub matches_subscripts : (card : ℕ) (vs : List Value) (cs : List Cell) (ds : List Dim) → AreOf vs cs → AreAsMany cs ds → AreDims u ds
           → Matches (Same st (λ x y. AreWithin (run.numbers cs) (dim_values env st ds))) (meet (checks SubscriptCheck card (places.subscripts_fit (of_values fs values) now vs ds)))
           (run.subscripts_in card (run.numbers cs) (dim_values env st ds)) st
       matches_subscripts card [] [] [] h k l = matches_see (Same st (λ x y. Unit {0})) tt tt st (refl, tt)
@@ -141,7 +119,7 @@ module _ (u : Routine) (env : Environment) (st : Storage) where
           (λ x y after q. (q.0, (within, q.1)))
           (matches_subscripts card vs cs ds h.1 k (dims_split d ds l).1))
 
-      place_from_is : (vs : List Value) (cs : List Cell) (ds : List Dim) (p q : Value) (z y : ℤ) → AreOf vs cs → AreDims ds → value.num p ≡ z → value.num q ≡ y
+      place_from_is : (vs : List Value) (cs : List Cell) (ds : List Dim) (p q : Value) (z y : ℤ) → AreOf vs cs → AreDims u ds → value.num p ≡ z → value.num q ≡ y
           → value.num (places.place_from (of_values fs values) now p q vs ds) ≡ place_from z y (run.numbers cs) (dim_values env st ds)
       place_from_is [] [] ds p q z y h l e g = e
       place_from_is [] (c ∷ cs) ds p q z y h l e g = absurd h
@@ -150,7 +128,7 @@ module _ (u : Routine) (env : Environment) (st : Storage) where
       place_from_is (v ∷ vs) (c ∷ cs) (d ∷ ds) p q z y h l e g =
           place_from_is vs cs ds _ _ _ _ h.1 (dims_split d ds l).1 (λ j. e j +ℤ g j *ℤ (value.num (h.0 j) -ℤ pos 1)) (λ j. g j *ℤ dim_is d (dims_split d ds l).0 j)
 
-      pub place_is : (vs : List Value) (cs : List Cell) (ds : List Dim) → AreOf vs cs → AreDims ds
+      pub place_is : (vs : List Value) (cs : List Cell) (ds : List Dim) → AreOf vs cs → AreDims u ds
           → value.num (places.place (of_values fs values) now vs ds) ≡ place (run.numbers cs) (dim_values env st ds)
       place_is [] [] ds h l = refl
       place_is [] (c ∷ cs) ds h l = absurd h

@@ -9,22 +9,11 @@ use Rattle.fort_model.specs.Events.{Event, Check, Take}
 use Rattle.fort_model.specs.Outcome.{Outcome, Ended, Erred, Running, and_then, Act, give, check, step, held}
 use Rattle.fort_model.specs.Seen.{Answers, Seen, See, ◌>>=◌, see, meet}
 use Rattle.fort_model.specs.Storage.{Storage}
+use Rattle.fort_laws.specs.Matches.{AllTrue, FirstFails, Errs, of_callee, errs, Matches, moves, fails, Same}
 
 -- a part of a run, and what follows
 abbrev pub followed : {B C : Type 0} → Act B → (B → Act C) → Act C
 followed act next st n = and_then (act st n) next
-
--- all events are true
-abbrev pub AllTrue : List (Event Value) → Type 0
-AllTrue [] = Unit {0}
-AllTrue (Check kind card v ∷ es) = (holds v ≡ true) × AllTrue es
-AllTrue (Take v ∷ es) = (holds v ≡ true) × AllTrue es
-
--- the first event that is false is a check of this kind and card
-abbrev pub FirstFails : Kind → ℕ → List (Event Value) → Type 0
-FirstFails kind card [] = ⊥
-FirstFails kind card (Check k c v ∷ es) = ((holds v ≡ true) × FirstFails kind card es) ⊎ ((holds v ≡ false) × (k ≡ kind) × (c ≡ card))
-FirstFails kind card (Take v ∷ es) = (holds v ≡ true) × FirstFails kind card es
 
 pub all_true_append : (es fs : List (Event Value)) → AllTrue es → AllTrue fs → AllTrue (es ++ fs)
 all_true_append [] fs h k = k
@@ -42,25 +31,9 @@ fails_before kind card (Check k c v ∷ es) fs (inl h) = inl (h.0, fails_before 
 fails_before kind card (Check k c v ∷ es) fs (inr h) = inr h
 fails_before kind card (Take v ∷ es) fs h = (h.0, fails_before kind card es fs h.1)
 
--- a part of a run errs at some cost, with every stock that is enough; nothing is claimed where a callee's INPUT fails
-pub data Errs {B : Type 0} (kind : Kind) (card : ℕ) (act : Act B) (st : Storage) : Type 0 where
-  of_callee : kind ≡ InputCheck → Errs kind card act st
-  errs : (after : Storage) (cost : ℕ) → ((n : ℕ) → act st (cost + n) ≡ Erred kind card after) → Errs kind card act st
-
 pub errs_then : {B C : Type 0} (kind : Kind) (card : ℕ) (act : Act B) (next : B → Act C) (st : Storage) → Errs kind card act st → Errs kind card (followed act next) st
 errs_then kind card act next st (of_callee e) = of_callee e
 errs_then kind card act next st (errs after cost h) = errs after cost (λ n. ap (λ o. and_then o next) (h n))
-
--- Parts of a walk and of a run from some storage. Either all events are true, whatever the answers of later calls, and
--- both come to things that belong together; or the first false event is a check, and the run errs with it. The part may
--- need some answers of calls, which are put in front.
-pub data Matches {A B : Type 0} (Q : A → B → Storage → Type 0) (part : See Value A) (act : Act B) (st : Storage) : Type 0 where
-  moves : (pre : Answers Value → Answers Value) (a : A) (b : B) (after : Storage) (cost : ℕ)
-      → ((answers : Answers Value) → AllTrue (part (pre answers)).events) → ((answers : Answers Value) → (part (pre answers)).value ≡ a)
-      → ((answers : Answers Value) → (part (pre answers)).rest ≡ answers) → ((n : ℕ) → act st (cost + n) ≡ Ended b after n) → Q a b after
-      → Matches Q part act st
-  fails : (pre : Answers Value → Answers Value) (kind : Kind) (card : ℕ) → ((answers : Answers Value) → FirstFails kind card (part (pre answers)).events) → Errs kind card act st
-      → Matches Q part act st
 
 module _ {A B C D : Type 0} (Q : A → B → Storage → Type 0) (P : C → D → Storage → Type 0) (part : See Value A) (act : Act B) (f : A → See Value C) (g : B → Act D) (st : Storage) where
   -- what follows, where the first part moved
@@ -108,10 +81,6 @@ matches_see Q a b st q =
 -- nothing is answered, and the storage stays
 abbrev pub Stays : {A B : Type 0} → Storage → A → B → Storage → Type 0
 Stays st a b after = after ≡ st
-
--- the storage stays, and things belong together
-abbrev pub Same : {A B : Type 0} → Storage → (A → B → Type 0) → A → B → Storage → Type 0
-Same st R a b after = (after ≡ st) × R a b
 
 -- what follows a part that leaves the storage as it is
 pub stays_then : {A B C D : Type 0} (R : A → B → Type 0) (P : C → D → Storage → Type 0) (part : See Value A) (act : Act B) (f : A → See Value C) (g : B → Act D) (st : Storage)

@@ -3,6 +3,7 @@
 
 mod clocks;
 mod exactness;
+mod expressions;
 mod frames;
 mod places;
 mod steps;
@@ -10,6 +11,7 @@ mod ways;
 
 pub use clocks::clocks_fall_only_so_often;
 pub use exactness::{checks_do_not_depend_on_values, conditions_are_exact};
+pub use expressions::expressions_match;
 pub use frames::{
     evaluation_changes_nothing, rules_make_sound, rules_pass_smashed_alone,
     runs_change_only_smashed, runs_without_smashing_change_nothing,
