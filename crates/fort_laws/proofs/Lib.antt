@@ -24,3 +24,4 @@ pub mod Tied
 pub mod TiedParts
 pub mod TiedRuns
 pub mod Unfolding
+pub mod Written
