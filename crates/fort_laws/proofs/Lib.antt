@@ -19,6 +19,7 @@ pub mod Near
 pub mod PlaceBounds
 pub mod References
 pub mod RulesKept
+pub mod Stepping
 pub mod StorageLaws
 pub mod Tied
 pub mod TiedParts

@@ -1,0 +1,100 @@
+-- Statements of walks and of strict runs: how they are put together.
+use Rattle.std.proofs.Common.{◌≡◌, ℕ, zero, suc, ◌+◌, ◌⊎◌, inl, inr, Bool, true, false, cond, List, [], ◌∷◌, ◌++◌, Option, Some, None, refl, sym, ap, ◌∙◌, subst, arith}
+use Rattle.formula.specs.declared.value.Value.{Value}
+use Rattle.fort_syntax.specs.declared.condition.Kind.{Kind}
+use Rattle.fort_model.specs.Outcome.{Outcome, Ended, Erred, Running, and_then, Act, give, step, held, put}
+use Rattle.fort_model.specs.Seen.{Named, Answers, Seen, See, ◌>>=◌, see}
+use Rattle.fort_model.specs.Storage.{Storage}
+use Rattle.fort_laws.specs.Matches.{AllTrue, FirstFails, Errs, of_callee, errs, Matches, moves, fails, Same}
+use Rattle.fort_laws.specs.StepMatches.{StepMatches, goes, stops}
+use Rattle.fort_laws.proofs.Matching.{followed, all_true_append, fails_later, fails_before, errs_then}
+
+-- some choices lead on
+pub record HasWay {C : Type 0} (list : C → List ℕ) (leads : List ℕ → Option ℕ) : Type 0 where
+  pub choice : C
+  pub point : ℕ
+  pub to : leads (list choice) ≡ Some point
+
+module _ {C A B : Type 0} (list : C → List ℕ) (leads : List ℕ → Option ℕ) (R : A → B → Storage → Type 0) (Q : Named Value → Storage → Type 0)
+    (part : See Value A) (act : Act B) (f : A → C → See Value (Named Value)) (g : B → Act (List ℕ)) (st : Storage) where
+  module _ (pre : Answers Value → Answers Value) (a : A) (b : B) (after : Storage) (cost : ℕ)
+      (true1 : (answers : Answers Value) → AllTrue (part (pre answers)).events) (value1 : (answers : Answers Value) → (part (pre answers)).value ≡ a)
+      (rest1 : (answers : Answers Value) → (part (pre answers)).rest ≡ answers) (run1 : (n : ℕ) → act st (cost + n) ≡ Ended b after n) where
+    second : (c : C) (answers : Answers Value) → f (part (pre answers)).value c (part (pre answers)).rest ≡ f a c answers
+    second c answers = ap (λ (x : A). f x c (part (pre answers)).rest) (value1 answers) ∙ ap (f a c) (rest1 answers)
+
+    run_second : (more n : ℕ) (o : Outcome (List ℕ)) → g b after (more + n) ≡ o → followed act g st (cost + more + n) ≡ o
+    run_second more n o e =
+        ap (λ (k : ℕ). and_then (act st k) g) (let same : cost + more + n ≡ cost + (more + n) = omega arith in same) ∙ ap (λ (x : Outcome B). and_then x g) (run1 (more + n)) ∙ e
+
+    stepped_on : StepMatches list leads (f a) (g b) Q after → StepMatches list leads (λ c. part >>= (λ x. f x c)) (followed act g) Q st
+    stepped_on (goes c q to pre2 now last more true2 value2 rest2 run2 p) =
+        goes c q to (λ answers. pre (pre2 answers)) now last (cost + more)
+        (λ answers. all_true_append _ _ (true1 (pre2 answers)) (subst (λ (s : Seen Value (Named Value)). AllTrue s.events) (sym (second c (pre2 answers))) (true2 answers)))
+        (λ answers. ap (λ (s : Seen Value (Named Value)). s.value) (second c (pre2 answers)) ∙ value2 answers)
+        (λ answers. ap (λ (s : Seen Value (Named Value)). s.rest) (second c (pre2 answers)) ∙ rest2 answers)
+        (λ n. run_second more n _ (run2 n)) p
+    stepped_on (stops c q to pre2 kind card fails2 errs2) =
+        stops c q to (λ answers. pre (pre2 answers)) kind card
+        (λ answers. fails_later kind card _ _ (true1 (pre2 answers)) (subst (λ (s : Seen Value (Named Value)). FirstFails kind card s.events) (sym (second c (pre2 answers))) (fails2 answers)))
+        (errs_second errs2)
+      where
+        errs_second : Errs kind card (g b) after → Errs kind card (followed act g) st
+        errs_second (of_callee e) = of_callee e
+        errs_second (errs last more h) = errs last (cost + more) (λ n. run_second more n _ (h n))
+
+  -- a statement behind a part of it
+  pub step_after : Matches R part act st → ((a : A) (b : B) (after : Storage) → R a b after → StepMatches list leads (f a) (g b) Q after) → HasWay list leads
+      → StepMatches list leads (λ c. part >>= (λ x. f x c)) (followed act g) Q st
+  step_after (moves pre a b after cost true1 value1 rest1 run1 q) next way = stepped_on pre a b after cost true1 value1 rest1 run1 (next a b after q)
+  step_after (fails pre kind card fails1 errs1) next way =
+      stops way.choice way.point way.to pre kind card (λ answers. fails_before kind card _ _ (fails1 answers)) (errs_then kind card act g st errs1)
+
+-- behind a part that leaves the storage as it is
+pub step_stays : {C A B : Type 0} (list : C → List ℕ) (leads : List ℕ → Option ℕ) (R : A → B → Type 0) (Q : Named Value → Storage → Type 0)
+    (part : See Value A) (act : Act B) (f : A → C → See Value (Named Value)) (g : B → Act (List ℕ)) (st : Storage)
+    → Matches (Same st R) part act st → ((a : A) (b : B) → R a b → StepMatches list leads (f a) (g b) Q st) → HasWay list leads
+    → StepMatches list leads (λ c. part >>= (λ x. f x c)) (followed act g) Q st
+step_stays list leads R Q part act f g st first next way =
+    step_after list leads (Same st R) Q part act f g st first (λ a b after q. subst (λ (s : Storage). StepMatches list leads (f a) (g b) Q s) (sym q.0) (next a b q.1)) way
+
+-- nothing is left to do
+pub step_done : {C : Type 0} (list : C → List ℕ) (leads : List ℕ → Option ℕ) (Q : Named Value → Storage → Type 0) (part : C → See Value (Named Value)) (c : C) (q : ℕ) (now : Named Value) (cs : List ℕ) (st : Storage)
+    → leads (list c) ≡ Some q → part c ≡ see now → list c ≡ cs → Q now st → StepMatches list leads part (give cs) Q st
+step_done list leads Q part c q now cs st to is same h =
+    goes c q to (λ answers. answers) now st 0
+    (λ answers. subst (λ (p : See Value (Named Value)). AllTrue (p answers).events) (sym is) tt)
+    (λ answers. ap (λ (p : See Value (Named Value)). (p answers).value) is) (λ answers. ap (λ (p : See Value (Named Value)). (p answers).rest) is)
+    (λ n. ap (λ (k : ℕ). Ended cs st k) (let z : 0 + n ≡ n = omega arith in z) ∙ ap (λ (xs : List ℕ). Ended xs st n) (sym same)) h
+
+-- a step is taken first
+pub step_step : {C : Type 0} (list : C → List ℕ) (leads : List ℕ → Option ℕ) (Q : Named Value → Storage → Type 0) (part : C → See Value (Named Value)) (act : Act (List ℕ)) (st : Storage)
+    → StepMatches list leads part act Q st → StepMatches list leads part (followed step (λ _. act)) Q st
+step_step list leads Q part act st (goes c q to pre now after cost t v r run h) =
+    goes c q to pre now after (suc cost) t v r (λ n. ap (followed step (λ _. act) st) (let same : suc cost + n ≡ suc (cost + n) = omega arith in same) ∙ run n) h
+step_step list leads Q part act st (stops c q to pre kind card f e) = stops c q to pre kind card f (stepped e)
+  where
+    stepped : Errs kind card act st → Errs kind card (followed step (λ _. act)) st
+    stepped (of_callee h) = of_callee h
+    stepped (errs after cost h) = errs after (suc cost) (λ n. ap (followed step (λ _. act) st) (let same : suc cost + n ≡ suc (cost + n) = omega arith in same) ∙ h n)
+
+-- other choices: each of the first ones is one of the second ones
+pub step_as : {C D : Type 0} (list : C → List ℕ) (list2 : D → List ℕ) (leads : List ℕ → Option ℕ) (Q : Named Value → Storage → Type 0) (part : C → See Value (Named Value)) (part2 : D → See Value (Named Value))
+    (act : Act (List ℕ)) (st : Storage) (h : C → D) → ((c : C) → list2 (h c) ≡ list c) → ((c : C) → part2 (h c) ≡ part c)
+    → StepMatches list leads part act Q st → StepMatches list2 leads part2 act Q st
+step_as list list2 leads Q part part2 act st h ls ps (goes c q to pre now after cost t v r run k) =
+    goes (h c) q (ap leads (ls c) ∙ to) pre now after cost
+    (λ answers. subst (λ (p : See Value (Named Value)). AllTrue (p (pre answers)).events) (sym (ps c)) (t answers))
+    (λ answers. ap (λ (p : See Value (Named Value)). (p (pre answers)).value) (ps c) ∙ v answers)
+    (λ answers. ap (λ (p : See Value (Named Value)). (p (pre answers)).rest) (ps c) ∙ r answers)
+    (λ n. run n ∙ ap (λ (xs : List ℕ). Ended xs after n) (sym (ls c))) k
+step_as list list2 leads Q part part2 act st h ls ps (stops c q to pre kind card f e) =
+    stops (h c) q (ap leads (ls c) ∙ to) pre kind card (λ answers. subst (λ (p : See Value (Named Value)). FirstFails kind card (p (pre answers)).events) (sym (ps c)) (f answers)) e
+
+-- a choice more in front
+pub step_chosen : {C : Type 0} (list : C → List ℕ) (leads leads2 : List ℕ → Option ℕ) (Q : Named Value → Storage → Type 0) (part : C → See Value (Named Value)) (act : Act (List ℕ)) (st : Storage) (k : ℕ)
+    → ((cs : List ℕ) → leads2 (k ∷ cs) ≡ leads cs) → StepMatches list leads part act Q st
+    → StepMatches (λ c. k ∷ list c) leads2 part (followed act (λ cs. give (k ∷ cs))) Q st
+step_chosen list leads leads2 Q part act st k same (goes c q to pre now after cost t v r run h) =
+    goes c q (same (list c) ∙ to) pre now after cost t v r (λ n. ap (λ (o : Outcome (List ℕ)). and_then o (λ cs. give (k ∷ cs))) (run n)) h
+step_chosen list leads leads2 Q part act st k same (stops c q to pre kind card f e) = stops c q (same (list c) ∙ to) pre kind card f (errs_then kind card act _ st e)
