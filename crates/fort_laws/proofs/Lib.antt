@@ -14,6 +14,7 @@ pub mod Kept
 pub mod MatchedExpressions
 pub mod MatchedOperands
 pub mod MatchedPlaces
+pub mod MatchedTests
 pub mod Matching
 pub mod Near
 pub mod PlaceBounds

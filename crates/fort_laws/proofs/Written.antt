@@ -27,10 +27,10 @@ use Rattle.fort_laws.proofs.Near.{known}
 
 -- ---- cells
 
-load_store_same : (st : Storage) (i : ℕ) (c : Cell) → i < length st → load (store st i c) i ≡ c
+pub load_store_same : (st : Storage) (i : ℕ) (c : Cell) → i < length st → load (store st i c) i ≡ c
 load_store_same st i c h = get_or-set_same st i c cell.Undefined h
 
-load_store_other : (st : Storage) (i j : ℕ) (c : Cell) → i ≢ j → load (store st i c) j ≡ load st j
+pub load_store_other : (st : Storage) (i j : ℕ) (c : Cell) → i ≢ j → load (store st i c) j ≡ load st j
 load_store_other st i j c h = get_or-set_other st i j c cell.Undefined (λ e. h (sym e))
 
 contents_same : (st : Storage) (i : ℕ) (c : Cell) (first size : ℕ) → ((k : ℕ) → k < size → i ≢ first + k) → contents (store st i c) first size ≡ contents st first size
@@ -39,7 +39,7 @@ contents_same st i c first (suc size) h =
     ap (λ (x : Cell). x ∷ contents (store st i c) (suc first) size) (load_store_other st i first c (λ e. h 0 (omega arith) (omega (arith, e))))
     ∙ ap (λ (xs : List Cell). load st first ∷ xs) (contents_same st i c (suc first) size (λ k l e. h (suc k) (omega arith) (omega (arith, e))))
 
-contents_written : (st : Storage) (c : Cell) (first size k : ℕ) → k < size → first + k < length st → contents (store st (first + k) c) first size ≡ slice_set (contents st first size) k c
+pub contents_written : (st : Storage) (c : Cell) (first size k : ℕ) → k < size → first + k < length st → contents (store st (first + k) c) first size ≡ slice_set (contents st first size) k c
 contents_written st c first zero k h l = absurd (omega arith)
 contents_written st c first (suc size) zero h l =
     let same : first + 0 ≡ first = omega arith in
