@@ -11,6 +11,7 @@ pub mod FrameReads
 pub mod FrameRuns
 pub mod FrameSeats
 pub mod Kept
+pub mod MatchedAssignments
 pub mod MatchedExpressions
 pub mod MatchedOperands
 pub mod MatchedPlaces

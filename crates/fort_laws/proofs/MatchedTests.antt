@@ -62,7 +62,7 @@ HasScalarDims u env = (y : Name) (d : DataName) → data_name u y ≡ Some d →
 
 -- a scalar is written
 module _ (u : Routine) (env : Environment) (dims : HasScalarDims u env) where
-  maybe_is : (q r : Sort) (c : Cell) → q ≡ r → MayBe r c → MayBe q c
+  pub maybe_is : (q r : Sort) (c : Cell) → q ≡ r → MayBe r c → MayBe q c
   maybe_is q r c e h = subst (λ (z : Sort). MayBe z c) (sym e) h
 
   pub scalar_written : (q : Sort) (x : Name) → IsScalar u q x → MayBeWritten u env x → (now : Named Value) (st : Storage) → Stood u env now st → (c : Cell) → MayBe q c → (v : Value) → v ≡ of_cell c

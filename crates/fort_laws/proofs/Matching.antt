@@ -150,3 +150,10 @@ and_then_twice (Running st) f g = refl
 pub matches_twice : {A B C D : Type 0} (Q : A → D → Storage → Type 0) (part : See Value A) (act : Act B) (f : B → Act C) (g : C → Act D) (st : Storage)
     → Matches Q part (followed act (λ b. followed (f b) g)) st → Matches Q part (followed (followed act f) g) st
 matches_twice Q part act f g st h = matches_same Q part _ _ st (λ n. and_then_twice (act st n) f g) h
+
+-- what a run makes of an answer, with nothing done
+pub matches_given : {A B C : Type 0} (Q : A → B → Storage → Type 0) (P : A → C → Storage → Type 0) (part : See Value A) (act : Act B) (h : B → C) (st : Storage) → Matches Q part act st
+    → ((a : A) (b : B) (after : Storage) → Q a b after → P a (h b) after) → Matches P part (followed act (λ b. give (h b))) st
+matches_given Q P part act h st (moves pre a b after cost t v r run q) imply =
+    moves pre a (h b) after cost t v r (λ n. ap (λ o. and_then o (λ x. give (h x))) (run n)) (imply a b after q)
+matches_given Q P part act h st (fails pre kind card f e) imply = fails pre kind card f (errs_then kind card act _ st e)

@@ -98,3 +98,28 @@ pub step_chosen : {C : Type 0} (list : C → List ℕ) (leads leads2 : List ℕ 
 step_chosen list leads leads2 Q part act st k same (goes c q to pre now after cost t v r run h) =
     goes c q (same (list c) ∙ to) pre now after cost t v r (λ n. ap (λ (o : Outcome (List ℕ)). and_then o (λ cs. give (k ∷ cs))) (run n)) h
 step_chosen list leads leads2 Q part act st k same (stops c q to pre kind card f e) = stops c q (same (list c) ∙ to) pre kind card f (errs_then kind card act _ st e)
+
+-- a part of a run that comes to the same
+pub step_same : {C : Type 0} (list : C → List ℕ) (leads : List ℕ → Option ℕ) (Q : Named Value → Storage → Type 0) (part : C → See Value (Named Value)) (act other : Act (List ℕ)) (st : Storage)
+    → ((n : ℕ) → other st n ≡ act st n) → StepMatches list leads part act Q st → StepMatches list leads part other Q st
+step_same list leads Q part act other st e (goes c q to pre now after cost t v r run h) = goes c q to pre now after cost t v r (λ n. e (cost + n) ∙ run n) h
+step_same list leads Q part act other st e (stops c q to pre kind card f g) = stops c q to pre kind card f (over g)
+  where
+    over : Errs kind card act st → Errs kind card other st
+    over (of_callee h) = of_callee h
+    over (errs after cost h) = errs after cost (λ n. e (cost + n) ∙ h n)
+
+and_then_thrice : {A B C : Type 0} (o : Outcome A) (f : A → Act B) (g : B → Act C) → and_then o (λ a. followed (f a) g) ≡ and_then (and_then o f) g
+and_then_thrice (Ended a st n) f g = refl
+and_then_thrice (Erred kind card st) f g = refl
+and_then_thrice (Running st) f g = refl
+
+-- two parts taken together before what follows
+pub step_joined : {C A B : Type 0} (list : C → List ℕ) (leads : List ℕ → Option ℕ) (Q : Named Value → Storage → Type 0) (part : C → See Value (Named Value)) (act : Act A) (f : A → Act B) (g : B → Act (List ℕ)) (st : Storage)
+    → StepMatches list leads part (followed (followed act f) g) Q st → StepMatches list leads part (followed act (λ a. followed (f a) g)) Q st
+step_joined list leads Q part act f g st h = step_same list leads Q part _ _ st (λ n. and_then_thrice (act st n) f g) h
+
+-- a single choice
+pub step_choice : {C : Type 0} (list : C → List ℕ) (leads : List ℕ → Option ℕ) (Q : Named Value → Storage → Type 0) (part : C → See Value (Named Value)) (act : Act (List ℕ)) (st : Storage) (c : C)
+    → StepMatches {C = Unit {0}} (λ u. list c) leads (λ u. part c) act Q st → StepMatches list leads part act Q st
+step_choice list leads Q part act st c h = step_as {C = Unit {0}} (λ u. list c) list leads Q (λ u. part c) part act st (λ u. c) (λ u. refl) (λ u. refl) h
