@@ -15,6 +15,7 @@ pub mod MatchedAssignments
 pub mod MatchedExpressions
 pub mod MatchedOperands
 pub mod MatchedPlaces
+pub mod MatchedStatements
 pub mod MatchedTests
 pub mod Matching
 pub mod Near

@@ -75,7 +75,7 @@ module _ (fs : List Function) (values : Symbol → Value) (program : Program) (i
   matches_operand_read card q (Computed v) (Cells e) h = absurd h
   matches_operand_read card q (Computed v) (Fresh c) h = matches_see (Same st (Of q)) v c st (refl, h)
 
-  matches_valued : (card : ℕ) (q : Sort) (part : See Value (Operand Value)) (act : Act Taken) → Matches (Same st (OperandOf s st now q)) part act st
+  pub matches_valued : (card : ℕ) (q : Sort) (part : See Value (Operand Value)) (act : Act Taken) → Matches (Same st (OperandOf s st now q)) part act st
       → Matches (Same st (Of q)) (walk.valued w card part) (run.valued card act) st
   matches_valued card q part act h = stays_then (OperandOf s st now q) (Same st (Of q)) _ _ _ _ st h (λ x t k. matches_operand_read card q x t k)
 
@@ -149,7 +149,7 @@ module _ (fs : List Function) (values : Symbol → Value) (program : Program) (i
 
   -- ---- intrinsic functions
 
-  abbrev AreIntegers : List Value → List Cell → Type 0
+  abbrev pub AreIntegers : List Value → List Cell → Type 0
   AreIntegers [] [] = Unit {0}
   AreIntegers [] (c ∷ cs) = ⊥
   AreIntegers (v ∷ vs) [] = ⊥
@@ -158,13 +158,13 @@ module _ (fs : List Function) (values : Symbol → Value) (program : Program) (i
   abbrev Values : List Value → List Cell → Type 0
   Values = AreOf s.unit s.environment st now standing fs values program i s
 
-  are_of : (vs : List Value) (cs : List Cell) → AreIntegers vs cs → Values vs cs
+  pub are_of : (vs : List Value) (cs : List Cell) → AreIntegers vs cs → Values vs cs
   are_of [] [] h = tt
   are_of [] (c ∷ cs) h = absurd h
   are_of (v ∷ vs) [] h = absurd h
   are_of (v ∷ vs) (c ∷ cs) h = (h.0.0, are_of vs cs h.1)
 
-  as_many : (cs : List Cell) (ds : List Dim) → length cs ≡ length ds → AreAsMany s.unit s.environment st now standing fs values program i s cs ds
+  pub as_many : (cs : List Cell) (ds : List Dim) → length cs ≡ length ds → AreAsMany s.unit s.environment st now standing fs values program i s cs ds
   as_many [] [] h = tt
   as_many [] (d ∷ ds) h = absurd (omega (arith, h))
   as_many (c ∷ cs) [] h = absurd (omega (arith, h))
@@ -213,7 +213,7 @@ module _ (fs : List Function) (values : Symbol → Value) (program : Program) (i
 
   module _ (IsReference : Sort → Name → Type 0) (calls : CallsMatch fs values program i s caller st now IsReference) where
       -- several values, of which there are so many
-      abbrev Integers : ℕ → List Value → List Cell → Type 0
+      abbrev pub Integers : ℕ → List Value → List Cell → Type 0
       Integers n vs cs = AreIntegers vs cs × (length cs ≡ n)
 
       matches_applied : (card k : ℕ) (q : Sort) (a : Name) (kind : Applied) (n : ℕ) (are_values are_actuals : Type 0) (vs : See Value (List Value)) (cs : Act (List Cell))

@@ -157,10 +157,10 @@ module _ (fs : List Function) (values : Symbol → Value) (program : Program) (i
 
   -- ---- the tests
 
-  abbrev chosen_list : List ℕ → List ℕ
+  abbrev pub chosen_list : List ℕ → List ℕ
   chosen_list cs = cs
 
-  tests_way : (q : ℕ) (ds : List Loop) → HasWay chosen_list (through q ds)
+  pub tests_way : (q : ℕ) (ds : List Loop) → HasWay chosen_list (through q ds)
   tests_way q ds = let t = through_all q ds in record { choice = t.choices; point = q; to = t.to }
 
   -- a first choice and the others

@@ -123,3 +123,8 @@ step_joined list leads Q part act f g st h = step_same list leads Q part _ _ st 
 pub step_choice : {C : Type 0} (list : C → List ℕ) (leads : List ℕ → Option ℕ) (Q : Named Value → Storage → Type 0) (part : C → See Value (Named Value)) (act : Act (List ℕ)) (st : Storage) (c : C)
     → StepMatches {C = Unit {0}} (λ u. list c) leads (λ u. part c) act Q st → StepMatches list leads part act Q st
 step_choice list leads Q part act st c h = step_as {C = Unit {0}} (λ u. list c) list leads Q (λ u. part c) part act st (λ u. c) (λ u. refl) (λ u. refl) h
+
+-- what follows two parts follows the second
+pub step_split : {C A B : Type 0} (list : C → List ℕ) (leads : List ℕ → Option ℕ) (Q : Named Value → Storage → Type 0) (part : C → See Value (Named Value)) (act : Act A) (f : A → Act B) (g : B → Act (List ℕ)) (st : Storage)
+    → StepMatches list leads part (followed act (λ a. followed (f a) g)) Q st → StepMatches list leads part (followed (followed act f) g) Q st
+step_split list leads Q part act f g st h = step_same list leads Q part _ _ st (λ n. sym (and_then_thrice (act st n) f g)) h

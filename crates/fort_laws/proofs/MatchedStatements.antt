@@ -1,0 +1,224 @@
+-- Statements: where named values stand for cells, a walk and a strict run perform them alike, by choices that lead on; or the
+-- first check of the walk that is false is the error of the run.
+use Rattle.std.proofs.Common.{◌≡◌, ◌≢◌, ℕ, zero, suc, ◌+◌, ◌<◌, ◌≤◌, Bool, true, false, cond, not, ◌&&◌, ℤ, pos, negsuc, ◌+ℤ◌, ◌-ℤ◌, List, [], ◌∷◌, map, length, Option, Some, None, slice_get, refl, sym, ap, ◌∙◌, subst, arith}
+use Rattle.std.proofs.lemmas.Int.{ints}
+use Rattle.std.specs.Prelude.{nat_lt, int_le, int_lt, ◌==◌}
+use mathlib.Core.Former.{Count}
+use Rattle.formula.specs.declared.function.BuiltIn.TheVariants as f
+use Rattle.formula.specs.declared.value.Cell.{Cell}
+use Rattle.formula.specs.declared.value.Cell.TheVariants as cell
+use Rattle.formula.specs.declared.value.Value.{Value}
+use Rattle.formula.specs.declared.value.Value.TheVariants.{Int, Logical as Truth, Undefined}
+use Rattle.formula.specs.Values as value
+use Rattle.formula.specs.Values.{holds, of_cell, is_between, count}
+use Rattle.formula.specs.Worth.{Function}
+use Rattle.fort_syntax.specs.declared.name.Name.{Name}
+use Rattle.fort_syntax.specs.declared.condition.Kind.TheVariants.{ChoiceCheck, LoopCheck, ResultCheck}
+use Rattle.fort_syntax.specs.declared.dialect.Dialect.{Dialect}
+use Rattle.fort_syntax.specs.declared.dialect.Dialect.TheVariants.{Common, SeventySeven}
+use Rattle.fort_syntax.specs.declared.dialect.Sort.{Sort}
+use Rattle.fort_syntax.specs.declared.dialect.Sort.TheVariants.{Integer, Logical}
+use Rattle.fort_syntax.specs.declared.expr.Expr.{Expr, Row_of-Expr}
+use Rattle.fort_syntax.specs.declared.expr.Expr.TheVariants.{Const, Truth as TruthConstant, Var, Apply', Paren', Pos', Neg', Power', Bin', Rel', Not', And', Or'}
+use Rattle.fort_syntax.specs.declared.stmt.Dim.{Dim}
+use Rattle.fort_syntax.specs.declared.stmt.Param.{Param}
+use Rattle.fort_syntax.specs.declared.stmt.Stmt.{Stmt}
+use Rattle.fort_syntax.specs.declared.stmt.Stmt.TheVariants.{Subroutine, Function as FunctionHead, Declare, Dimension, Common as CommonBlock, Assign, GoTo, Computed, ArithIf, LogicalIf', Do, Continue, Call, Return, End, BlockIf, ElseIf, Else, EndIf}
+use Rattle.fort_syntax.specs.declared.unit.DataName.{DataName}
+use Rattle.fort_syntax.specs.declared.unit.Unit.{Unit as Routine}
+use Rattle.fort_model.specs.Cells.{num, same, is_defined, holds as run_holds}
+use Rattle.fort_model.specs.Conditions.{sight}
+use Rattle.fort_model.specs.Evaluate as run
+use Rattle.fort_model.specs.Evaluate.{Scene}
+use Rattle.fort_model.specs.Events.{Check, Take}
+use Rattle.fort_model.specs.Flow.{leads, target, Loop, loops_at, loops_around, behind, through, next_point, passed_over, leads_do, leads_computed, one_of, chosen, next_branch}
+use Rattle.fort_model.specs.Names.{Applied, Element, BuiltIn, Reference, applied, data_name, dims_of, is_function, subroutine, unit_at}
+use Rattle.fort_model.specs.Outcome.{Act, Ended, give, check, step, held, put}
+use Rattle.fort_model.specs.Passing.{Taken, Cells, Fresh, Caller, call, passed}
+use Rattle.fort_model.specs.Perform as perform
+use Rattle.fort_model.specs.Program.{Program}
+use Rattle.fort_model.specs.Seen.{Named, See, ◌>>=◌, ◌>>◌, see, meet}
+use Rattle.fort_model.specs.Senses as sense
+use Rattle.fort_model.specs.Senses.{Sense, of_values}
+use Rattle.fort_model.specs.Sites.{calls_in}
+use Rattle.fort_model.specs.Storage.{Storage, Environment, Extent, load, store}
+use Rattle.fort_model.specs.Symbols.{Symbol, LeastInteger, GreatestInteger}
+use Rattle.fort_model.specs.Trees.{carried, row_of}
+use Rattle.fort_model.specs.WalkCalls as walk_call
+use Rattle.fort_model.specs.WalkCalls.{Sight, Operand}
+use Rattle.fort_model.specs.WalkExpr as walk
+use Rattle.fort_model.specs.WalkStmt as steps
+use Rattle.fort_model.specs.WalkStmt.{with_name}
+use Rattle.fort_laws.specs.Matches.{Matches, moves, fails, Same}
+use Rattle.fort_laws.specs.Standing.{MayBe, Of, IsOf, IsSort, Standing, OperandOf, ActualOf, ActualsOf, CallsMatch}
+use Rattle.fort_laws.specs.StepMatches.{StepMatches}
+use Rattle.fort_laws.specs.Typed.{IsScalar, IsArray, IsTyped, AreInteger, AreActual, row_length}
+use Rattle.fort_laws.specs.Ways.{IsExecutable}
+use Rattle.fort_laws.proofs.Matching.{matches_see, matches_check, matches_as, matches_then, matches_held, matches_fact, matches_twice, stays_then, followed, Stays}
+use Rattle.fort_laws.proofs.MatchedAssignments.{IsElement, matches_place, element_written}
+use Rattle.fort_laws.proofs.MatchedExpressions.{integer_is, logical_is, matches_ranged, and_two}
+use Rattle.fort_laws.proofs.MatchedOperands.{operands_match, matches_valued, integers_match, actuals_match, AreIntegers, are_of, as_many, Integers}
+use Rattle.fort_laws.proofs.MatchedPlaces.{scalar_stands, scalar_sort}
+use Rattle.fort_laws.proofs.MatchedTests.{Stood, HasScalarDims, IsParameter, IsStep, AreGoodLoops, scalar_written, matches_variable, matches_parameter, matches_step_value, tests_match, tests_way, maybe_is}
+use Rattle.fort_laws.proofs.Near.{known, statements_lead_on, through_all}
+use Rattle.fort_laws.proofs.Stepping.{HasWay, step_after, step_stays, step_done, step_step, step_as, step_chosen, step_choice, step_joined, step_split, step_same}
+use Rattle.fort_laws.proofs.Written.{MayBeWritten}
+
+module _ (u : Routine) (env : Environment) (IsReference : Sort → Name → Type 0) (IsCall : Name → List Expr → Type 0) where
+  -- the left side of an assignment: a scalar or an element of a type, whose name may be written
+  pub record IsGoodElement (q : Sort) (a : Name) {m : Count} (args : Row_of-Expr m) : Type 0 where
+    pub dim : Dim
+    pub dims : List Dim
+    pub applied_is : applied u a ≡ Element (dim ∷ dims)
+    pub dims_are : dims_of u a ≡ dim ∷ dims
+    pub array : IsArray u q a (dim ∷ dims)
+    pub may : MayBeWritten u env a
+    pub many : row_length args ≡ length (dim ∷ dims)
+    pub integers : AreInteger u IsReference args
+
+  abbrev pub IsLeft : Sort → Expr → Type 0
+  IsLeft q (Var x) = IsScalar u q x × MayBeWritten u env x
+  IsLeft q (Apply' a _ args) = IsGoodElement q a args
+  IsLeft q _ = ⊥
+
+  abbrev pub HasLabels : List ℕ → Type 0
+  HasLabels [] = ⊥
+  HasLabels (l ∷ ls) = Unit {0}
+
+  -- the own value of a FUNCTION
+  abbrev pub HasResult : Bool → Type 0
+  HasResult false = Unit {0}
+  HasResult true = (q : Sort) × IsScalar u q u.name
+
+  abbrev pub HasGoodLoops : ℕ → Type 0
+  HasGoodLoops pc = AreGoodLoops u env (loops_at u pc)
+
+  -- a statement at a point, whose parts have their types, and which writes only what may be written
+  abbrev pub IsGood : ℕ → Stmt → Type 0
+  IsGood pc (Assign left right) = (q : Sort) × IsLeft q left × IsTyped u IsReference q right × HasGoodLoops pc
+  IsGood pc (GoTo l) = Unit {0}
+  IsGood pc (Computed ls x) = IsScalar u Integer x × HasLabels ls × HasGoodLoops pc
+  IsGood pc (ArithIf e l m n) = IsTyped u IsReference Integer e
+  IsGood pc (LogicalIf' e _ (carried b)) = IsTyped u IsReference Logical e × HasGoodLoops pc × IsExecutable b × IsGood pc b
+  IsGood pc (Do l x first last by) =
+      IsScalar u Integer x × MayBeWritten u env x × IsParameter u first × IsParameter u last × IsStep u by × AreGoodLoops u env (loops_around u (target u.lines l) pc)
+  IsGood pc Continue = HasGoodLoops pc
+  IsGood pc (Call g args) = IsCall g args × AreActual u IsReference (row_of args) × HasGoodLoops pc
+  IsGood pc Return = HasResult (is_function u)
+  IsGood pc (BlockIf e) = IsTyped u IsReference Logical e
+  IsGood pc (ElseIf e) = IsTyped u IsReference Logical e
+  IsGood pc Else = HasGoodLoops pc
+  IsGood pc EndIf = HasGoodLoops pc
+  IsGood pc _ = ⊥
+
+module _ (fs : List Function) (values : Symbol → Value) (program : Program) (i : ℕ) (s : Scene) (caller : Caller)
+    (least : values LeastInteger ≡ Int s.processor.least) (greatest : values GreatestInteger ≡ Int s.processor.greatest) (strict : s.processor.lazy ≡ false)
+    (bounded : (n : ℕ) → nat_lt program.bound n ≡ false → int_le (pos n) s.processor.greatest ≡ true)
+    (dialects : s.processor.dialect ≡ program.dialect) (dims : HasScalarDims s.unit s.environment)
+    (IsReference : Sort → Name → Type 0) (IsCall : Name → List Expr → Type 0)
+    (references : (st : Storage) (now : Named Value) → Stood s.unit s.environment now st → CallsMatch fs values program i s caller st now IsReference)
+    (calls : (st : Storage) (now : Named Value) → Stood s.unit s.environment now st → (card k : ℕ) (g : Name) (args : List Expr) (xs : List (Operand Value)) (ts : List Taken) → IsCall g args → ActualsOf s st now xs ts
+        → Matches (λ r c after. Stood s.unit s.environment (r.0) after) (walk_call.call (sight (of_values fs values) program i s.unit) card (subroutine program.units g) now xs)
+        (call caller s.environment (unit_at s.units (subroutine s.units g)) (passed (s.processor.copies s.unit.name k) 1 ts)) st) where
+
+  abbrev w : Sight Value
+  w = sight (of_values fs values) program i s.unit
+
+  abbrev After : Named Value → Storage → Type 0
+  After = Stood s.unit s.environment
+
+  abbrev Step : (List ℕ → Option ℕ) → (List ℕ → See Value (Named Value)) → Act (List ℕ) → Storage → Type 0
+  Step to part act st = StepMatches (λ (cs : List ℕ). cs) to part act After st
+
+  -- behind a statement
+  goes_behind : (card pc : ℕ) → AreGoodLoops s.unit s.environment (loops_at s.unit pc) → (now : Named Value) (st : Storage) → Stood s.unit s.environment now st
+      → Step (behind s.unit pc) (λ cs. steps.behind w card pc now cs) (perform.go_on s card pc) st
+  goes_behind card pc good now st stood =
+      tests_match fs values program i s least greatest bounded dialects dims card (next_point s.unit pc) (loops_at s.unit pc) good now st stood
+
+  behind_way : (pc : ℕ) → HasWay (λ (cs : List ℕ). cs) (behind s.unit pc)
+  behind_way pc = let t = through_all (next_point s.unit pc) (loops_at s.unit pc) in record { choice = t.choices; point = next_point s.unit pc; to = t.to }
+
+  module _ (st : Storage) (now : Named Value) (stood : Stood s.unit s.environment now st) where
+    -- the value of a typed expression
+    evaluated : (e : Expr) (q : Sort) (card k : ℕ) → IsTyped s.unit IsReference q e → Matches (Same st (Of q)) (walk.value w card now e) (run.evaluate s caller card k e) st
+    evaluated e q card k h =
+        matches_valued fs values program i s caller least greatest strict bounded st now stood.standing card q _ _
+        (operands_match fs values program i s caller least greatest strict bounded st now stood.standing IsReference (references st now stood) e q card k h)
+
+    -- ---- assignments
+
+    may_be : (q : Sort) (v : Value) (c : Cell) → Of q v c → MayBe q c
+    may_be q v (cell.Int z) h = h.1
+    may_be q v (cell.Logical b) h = h.1
+    may_be q v cell.Undefined h = tt
+
+    -- the left side is taken and set
+    abbrev set_left : ℕ → ℕ → Expr → Cell → Act (Unit {0})
+    set_left card k left c = followed (run.taken s caller card k left) (λ x. perform.assign x c)
+
+    set_scalar : (card k : ℕ) (q : Sort) (x : Name) → IsScalar s.unit q x → MayBeWritten s.unit s.environment x → (v : Value) (c : Cell) → Of q v c
+        → Matches (λ next y after. Stood s.unit s.environment next after) (steps.assign w card now (Var x) v) (set_left card k (Var x) c) st
+    set_scalar card k q x h may v c e =
+        moves (λ answers. answers) (with_name now x v) tt (store st (s.environment x).first c) 0 (λ answers. tt) (λ answers. refl) (λ answers. refl)
+        (λ n. ap (λ (j : ℕ). Ended tt (store st (s.environment x).first c) j) (let z : 0 + n ≡ n = omega arith in z))
+        (scalar_written s.unit s.environment dims q x h may now st stood c (may_be q v c e) v e.0)
+
+    element_set : (card : ℕ) (q : Sort) (a : Name) (b : Dim) (bs : List Dim) → IsArray s.unit q a (b ∷ bs) → MayBeWritten s.unit s.environment a → (v : Value) (c : Cell) → Of q v c
+        → (p : Value) (t : Taken) → IsElement fs values program i s dims st now stood a p t
+        → Matches (λ next y after. Stood s.unit s.environment next after) (see (with_name now a (sense.make3 (of_values fs values) f.Put (now a) p v))) (perform.assign t c) st
+    element_set card q a b bs h may v c e p t g =
+        moves (λ answers. answers) (with_name now a (sense.make3 (of_values fs values) f.Put (now a) p v)) tt (store st ((s.environment a).first + g.before) c) 0 (λ answers. tt) (λ answers. refl) (λ answers. refl)
+        (λ n. ap (λ (x : Taken). perform.assign x c st (0 + n)) g.taken_is ∙ ap (λ (j : ℕ). Ended tt (store st ((s.environment a).first + g.before) c) j) (let z : 0 + n ≡ n = omega arith in z))
+        (element_written fs values program i s dims st now stood q a b bs h may p t g c (may_be q v c e) v e.0)
+
+    element_assigned : (card k : ℕ) (q : Sort) (a : Name) (b : Dim) (bs : List Dim) {m : Count} (args : Row_of-Expr m) → IsArray s.unit q a (b ∷ bs) → MayBeWritten s.unit s.environment a
+        → row_length args ≡ length (b ∷ bs) → AreInteger s.unit IsReference args → (v : Value) (c : Cell) → Of q v c
+        → Matches (λ next y after. Stood s.unit s.environment next after)
+        (walk.values w card now args >>= (λ is. walk.place_checked w card now (b ∷ bs) is >>= (λ p. see (with_name now a (sense.make3 (of_values fs values) f.Put (now a) p v)))))
+        (followed (followed (run.values s caller card k args) (λ cs. run.element s.environment card (s.environment a) (b ∷ bs) cs)) (λ x. perform.assign x c)) st
+    element_assigned card k q a b bs args h may many integers v c e =
+        matches_twice (λ next y after. Stood s.unit s.environment next after) _ (run.values s caller card k args) (λ cs. run.element s.environment card (s.environment a) (b ∷ bs) cs) (λ x. perform.assign x c) st
+        (stays_then (Integers fs values program i s caller least greatest strict bounded st now stood.standing IsReference (references st now stood) (row_length args)) (λ next y after. Stood s.unit s.environment next after) _ _ _ _ st
+        (integers_match fs values program i s caller least greatest strict bounded st now stood.standing IsReference (references st now stood) args card k integers)
+        (λ is cs g. stays_then (IsElement fs values program i s dims st now stood a) (λ next y after. Stood s.unit s.environment next after) _ _ _ _ st
+        (matches_place fs values program i s dims st now stood card q a b bs h is cs
+        (are_of fs values program i s caller least greatest strict bounded st now stood.standing is cs g.0)
+        (as_many fs values program i s caller least greatest strict bounded st now stood.standing cs (b ∷ bs) (g.1 ∙ many)))
+        (λ p t o. element_set card q a b bs h may v c e p t o)))
+
+    set_element : (card k : ℕ) (q : Sort) (a : Name) (x : _) (args : Row_of-Expr _) → IsGoodElement s.unit s.environment IsReference IsCall q a args → (v : Value) (c : Cell) → Of q v c
+        → Matches (λ next y after. Stood s.unit s.environment next after) (steps.assign w card now (Apply' a x args) v) (set_left card k (Apply' a x args) c) st
+    set_element card k q a x args h v c e =
+        subst (λ (ds : List Dim). Matches (λ next y after. Stood s.unit s.environment next after)
+        (walk.values w card now args >>= (λ is. walk.place_checked w card now ds is >>= (λ p. see (with_name now a (sense.make3 (of_values fs values) f.Put (now a) p v)))))
+        (set_left card k (Apply' a x args) c) st) (sym h.dims_are)
+        (subst (λ (kind : Applied). Matches (λ next y after. Stood s.unit s.environment next after)
+        (walk.values w card now args >>= (λ is. walk.place_checked w card now (h.dim ∷ h.dims) is >>= (λ p. see (with_name now a (sense.make3 (of_values fs values) f.Put (now a) p v)))))
+        (followed (run.apply s caller card k a kind (run.values s caller card k args) (run.actuals s caller card (suc k) args)) (λ t. perform.assign t c)) st) (sym h.applied_is)
+        (element_assigned card k q a h.dim h.dims args h.array h.may h.many h.integers v c e))
+
+    set_any : (card k : ℕ) (q : Sort) (left : Expr) → IsLeft s.unit s.environment IsReference IsCall q left → (v : Value) (c : Cell) → Of q v c
+        → Matches (λ next y after. Stood s.unit s.environment next after) (steps.assign w card now left v) (set_left card k left c) st
+    set_any card k q (Var x) h v c e = set_scalar card k q x h.0 h.1 v c e
+    set_any card k q (Apply' a x args) h v c e = set_element card k q a x args h v c e
+    set_any card k q (Const n) h v c e = absurd h
+    set_any card k q (TruthConstant b) h v c e = absurd h
+    set_any card k q (Paren' x a) h v c e = absurd h
+    set_any card k q (Pos' x a) h v c e = absurd h
+    set_any card k q (Neg' x a) h v c e = absurd h
+    set_any card k q (Power' x a n) h v c e = absurd h
+    set_any card k q (Bin' o x a y b) h v c e = absurd h
+    set_any card k q (Rel' o x a y b) h v c e = absurd h
+    set_any card k q (Not' x a) h v c e = absurd h
+    set_any card k q (And' x a y b) h v c e = absurd h
+    set_any card k q (Or' x a y b) h v c e = absurd h
+
+    assign_step : (card pc k : ℕ) (left right : Expr) → IsGood s.unit s.environment IsReference IsCall pc (Assign left right)
+        → Step (leads s.processor.dialect s.unit pc (Assign left right)) (λ cs. steps.performed w card pc now (Assign left right) cs) (perform.perform s caller card pc k (Assign left right)) st
+    assign_step card pc k left right h =
+        step_stays (λ (cs : List ℕ). cs) (behind s.unit pc) (Of h.0) After _ _ _ _ st (evaluated right h.0 card (k + calls_in s.unit left) h.2)
+        (λ v c e. step_joined (λ (cs : List ℕ). cs) (behind s.unit pc) After _ (run.taken s caller card k left) (λ x. perform.assign x c) (λ _. perform.go_on s card pc) st
+        (step_after (λ (cs : List ℕ). cs) (behind s.unit pc) (λ next y after. Stood s.unit s.environment next after) After _ _ (λ next cs. steps.behind w card pc next cs) (λ _. perform.go_on s card pc) st
+        (set_any card k h.0 left h.1 v c e)
+        (λ next y after g. goes_behind card pc h.3 next after g) (behind_way pc))) (behind_way pc)
