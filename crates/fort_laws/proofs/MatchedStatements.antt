@@ -49,9 +49,9 @@ use Rattle.fort_model.specs.WalkCalls.{Sight, Operand}
 use Rattle.fort_model.specs.WalkExpr as walk
 use Rattle.fort_model.specs.WalkStmt as steps
 use Rattle.fort_model.specs.WalkStmt.{with_name}
-use Rattle.fort_laws.specs.Matches.{Matches, moves, fails, Same}
+use Rattle.fort_laws.specs.Matches.{AllTrue, Matches, moves, fails, Same}
 use Rattle.fort_laws.specs.Standing.{MayBe, Of, IsOf, IsSort, Standing, OperandOf, ActualOf, ActualsOf, CallsMatch}
-use Rattle.fort_laws.specs.StepMatches.{StepMatches}
+use Rattle.fort_laws.specs.StepMatches.{StepMatches, goes, stops}
 use Rattle.fort_laws.specs.Typed.{IsScalar, IsArray, IsTyped, AreInteger, AreActual, row_length}
 use Rattle.fort_laws.specs.Ways.{IsExecutable}
 use Rattle.fort_laws.proofs.Matching.{matches_see, matches_check, matches_as, matches_then, matches_held, matches_fact, matches_twice, stays_then, followed, Stays}
@@ -222,3 +222,64 @@ module _ (fs : List Function) (values : Symbol → Value) (program : Program) (i
         (step_after (λ (cs : List ℕ). cs) (behind s.unit pc) (λ next y after. Stood s.unit s.environment next after) After _ _ (λ next cs. steps.behind w card pc next cs) (λ _. perform.go_on s card pc) st
         (set_any card k h.0 left h.1 v c e)
         (λ next y after g. goes_behind card pc h.3 next after g) (behind_way pc))) (behind_way pc)
+
+    -- ---- conditions
+
+    truth_is : (v : Value) (c : Cell) → Of Logical v c → holds v ≡ run_holds c
+    truth_is v c e = ap holds e.0
+
+    not_is : (b : Bool) → b ≡ false → not b ≡ true
+    not_is b e = ap not e
+
+    -- a fact is met, and nothing is done
+    fact_step : (to : List ℕ → Option ℕ) (cs : List ℕ) (q : ℕ) (t : Value) (part : List ℕ → See Value (Named Value)) → to cs ≡ Some q → part cs ≡ (steps.taken w t >> see now) → holds t ≡ true → Step to part (give cs) st
+    fact_step to cs q t part way is h =
+        goes cs q way (λ answers. answers) now st 0
+        (λ answers. subst (λ (p : See Value (Named Value)). AllTrue (p answers).events) (sym is) (h, tt))
+        (λ answers. ap (λ (p : See Value (Named Value)). (p answers).value) is) (λ answers. ap (λ (p : See Value (Named Value)). (p answers).rest) is)
+        (λ n. ap (λ (j : ℕ). Ended cs st j) (let z : 0 + n ≡ n = omega arith in z)) stood
+
+    branch_step : (card k pc : ℕ) (e : Expr) (stmt : Stmt) → IsTyped s.unit IsReference Logical e → (to : List ℕ → Option ℕ) → to (1 ∷ []) ≡ Some (next_point s.unit pc) → to (2 ∷ []) ≡ Some (next_branch s.unit pc)
+        → Step to (λ cs. walk.value w card now e >>= (λ v. steps.taken w (steps.truth_fact w v cs) >> see now)) (followed (run.evaluate s caller card k e) (λ v. give (perform.truth_choice (run_holds v) ∷ []))) st
+    branch_step card k pc e stmt h to one two =
+        step_stays (λ (cs : List ℕ). cs) to (Of Logical) After _ _ (λ v cs. steps.taken w (steps.truth_fact w v cs) >> see now) (λ v. give (perform.truth_choice (run_holds v) ∷ [])) st (evaluated e Logical card k h)
+        (λ v c g. known (run_holds c)
+        (λ t. subst (λ (b : Bool). Step to (λ cs. steps.taken w (steps.truth_fact w v cs) >> see now) (give (perform.truth_choice b ∷ [])) st) (sym t)
+        (fact_step to (1 ∷ []) (next_point s.unit pc) v (λ cs. steps.taken w (steps.truth_fact w v cs) >> see now) one refl (truth_is v c g ∙ t)))
+        (λ t. subst (λ (b : Bool). Step to (λ cs. steps.taken w (steps.truth_fact w v cs) >> see now) (give (perform.truth_choice b ∷ [])) st) (sym t)
+        (fact_step to (2 ∷ []) (next_branch s.unit pc) (sense.negated (of_values fs values) v) (λ cs. steps.taken w (steps.truth_fact w v cs) >> see now) two refl (ap not (truth_is v c g ∙ t)))))
+        (record { choice = 1 ∷ []; point = next_point s.unit pc; to = one })
+
+    -- ---- arithmetic IF
+
+    sign_step : (card k pc : ℕ) (e : Expr) (l m n : ℕ) → IsTyped s.unit IsReference Integer e
+        → Step (leads s.processor.dialect s.unit pc (ArithIf e l m n)) (λ cs. steps.performed w card pc now (ArithIf e l m n) cs) (perform.perform s caller card pc k (ArithIf e l m n)) st
+    sign_step card k pc e l m n h =
+        step_stays (λ (cs : List ℕ). cs) to (Of Integer) After _ _ (λ v cs. steps.taken w (steps.sign_fact w v cs) >> see now) (λ v. give (perform.sign_choice v ∷ [])) st (evaluated e Integer card k h)
+        (λ v c g. by_sign v c (integer_is v c g) g)
+        (record { choice = 1 ∷ []; point = target s.unit.lines l; to = refl })
+      where
+        to : List ℕ → Option ℕ
+        to = leads s.processor.dialect s.unit pc (ArithIf e l m n)
+
+        part : Value → List ℕ → See Value (Named Value)
+        part v cs = steps.taken w (steps.sign_fact w v cs) >> see now
+
+        positive : (z : ℤ) → int_lt z (pos 0) ≡ false → value.same_value (Int z) (Int (pos 0)) ≡ false → int_lt (pos 0) z ≡ true
+        positive z p q = grind (arith, ints)
+
+        same_of : (v : Value) (c : Cell) → Of Integer v c → value.same_value v (Int (pos 0)) ≡ same c (cell.Int (pos 0))
+        same_of v c g = ap (λ (x : Value). value.same_value x (Int (pos 0))) g.0
+
+        by_sign : (v : Value) (c : Cell) → v ≡ Int (num c) → Of Integer v c → Step to (part v) (give (perform.sign_choice c ∷ [])) st
+        by_sign v c is g =
+            known (int_lt (num c) (pos 0))
+            (λ t. subst (λ (b : Bool). Step to (part v) (give (cond b 1 (cond (same c (cell.Int (pos 0))) 2 3) ∷ [])) st) (sym t)
+            (fact_step to (1 ∷ []) (target s.unit.lines l) (sense.make2 (of_values fs values) f.Less v (sense.natural (of_values fs values) 0)) (part v) refl refl (ap (λ (x : Value). int_lt (value.num x) (pos 0)) is ∙ t)))
+            (λ t. subst (λ (b : Bool). Step to (part v) (give (cond b 1 (cond (same c (cell.Int (pos 0))) 2 3) ∷ [])) st) (sym t)
+            (known (same c (cell.Int (pos 0)))
+            (λ r. subst (λ (b : Bool). Step to (part v) (give (cond b 2 3 ∷ [])) st) (sym r)
+            (fact_step to (2 ∷ []) (target s.unit.lines m) (sense.make2 (of_values fs values) f.Equal v (sense.natural (of_values fs values) 0)) (part v) refl refl (same_of v c g ∙ r)))
+            (λ r. subst (λ (b : Bool). Step to (part v) (give (cond b 2 3 ∷ [])) st) (sym r)
+            (fact_step to (3 ∷ []) (target s.unit.lines n) (sense.make2 (of_values fs values) f.Less (sense.natural (of_values fs values) 0) v) (part v) refl refl
+            (ap (λ (x : Value). int_lt (pos 0) (value.num x)) is ∙ positive (num c) t (sym (ap (λ (x : Value). value.same_value x (Int (pos 0))) is) ∙ same_of v c g ∙ r))))))
