@@ -61,7 +61,7 @@ use Rattle.fort_laws.proofs.MatchedOperands.{operands_match, matches_valued, int
 use Rattle.fort_laws.proofs.MatchedPlaces.{scalar_stands, scalar_sort}
 use Rattle.fort_laws.proofs.MatchedTests.{Stood, HasScalarDims, IsParameter, IsStep, AreGoodLoops, scalar_written, matches_variable, matches_parameter, matches_step_value, tests_match, tests_way, maybe_is}
 use Rattle.fort_laws.proofs.Near.{known, statements_lead_on, through_all}
-use Rattle.fort_laws.proofs.Stepping.{HasWay, step_after, step_stays, step_done, step_step, step_as, step_chosen, step_choice, step_joined, step_split, step_same}
+use Rattle.fort_laws.proofs.Stepping.{HasWay, step_after, step_stays, step_done, step_step, step_as, step_chosen, step_choice, step_joined, step_split, step_same, step_fact, step_written}
 use Rattle.fort_laws.proofs.Written.{MayBeWritten}
 
 module _ (u : Routine) (env : Environment) (IsReference : Sort → Name → Type 0) (IsCall : Name → List Expr → Type 0) where
@@ -283,3 +283,83 @@ module _ (fs : List Function) (values : Symbol → Value) (program : Program) (i
             (λ r. subst (λ (b : Bool). Step to (part v) (give (cond b 2 3 ∷ [])) st) (sym r)
             (fact_step to (3 ∷ []) (target s.unit.lines n) (sense.make2 (of_values fs values) f.Less (sense.natural (of_values fs values) 0) v) (part v) refl refl
             (ap (λ (x : Value). int_lt (pos 0) (value.num x)) is ∙ positive (num c) t (sym (ap (λ (x : Value). value.same_value x (Int (pos 0))) is) ∙ same_of v c g ∙ r))))))
+
+    -- ---- RETURN
+
+    result_matches : (card : ℕ) (b : Bool) → HasResult s.unit s.environment IsReference IsCall b → Matches (Same st (λ x y. Unit {0})) (steps.result w card now b) (perform.result s card b) st
+    result_matches card false h = matches_see (Same st (λ x y. Unit {0})) tt tt st (refl, tt)
+    result_matches card true h =
+        matches_held (Same st (λ x y. Unit {0})) _ (λ x. check ResultCheck card (is_defined (load x (s.environment s.unit.name).first))) st
+        (matches_as (Same st (λ x y. is_defined (load st (s.environment s.unit.name).first) ≡ true)) (Same st (λ x y. Unit {0})) _ _ st (λ x y after k. (k.0, tt))
+        (matches_check ResultCheck card _ _ st (ap value.is_defined (scalar_stands s.unit s.environment st now stood.standing h.0 s.unit.name h.1))))
+
+    return_step : (card pc k : ℕ) → HasResult s.unit s.environment IsReference IsCall (is_function s.unit)
+        → Step (leads s.processor.dialect s.unit pc Return) (λ cs. steps.performed w card pc now Return cs) (perform.perform s caller card pc k Return) st
+    return_step card pc k h =
+        step_stays (λ (cs : List ℕ). cs) (leads s.processor.dialect s.unit pc Return) (λ x y. Unit {0}) After _ _ (λ x cs. see now) (λ _. give []) st (result_matches card (is_function s.unit) h)
+        (λ x y g. step_done (λ (cs : List ℕ). cs) (leads s.processor.dialect s.unit pc Return) After (λ cs. see now) [] (length s.unit.lines) now [] st refl refl refl stood)
+        (record { choice = []; point = length s.unit.lines; to = refl })
+
+    -- ---- CALL
+
+    call_step : (card pc k : ℕ) (g : Name) (args : List Expr) → IsGood s.unit s.environment IsReference IsCall pc (Call g args)
+        → Step (leads s.processor.dialect s.unit pc (Call g args)) (λ cs. steps.performed w card pc now (Call g args) cs) (perform.perform s caller card pc k (Call g args)) st
+    call_step card pc k g args h =
+        step_split (λ (cs : List ℕ). cs) (behind s.unit pc) After (λ cs. steps.performed w card pc now (Call g args) cs) (run.actuals s caller card (suc k) (row_of args))
+        (λ ys. call caller s.environment (unit_at s.units (subroutine s.units g)) (passed (s.processor.copies s.unit.name (suc k)) 1 ys)) (λ _. perform.go_on s card pc) st
+        (step_stays (λ (cs : List ℕ). cs) (behind s.unit pc) (ActualsOf s st now) After _ _
+        (λ xs cs. walk_call.call w card (subroutine program.units g) now xs >>= (λ after. steps.behind w card pc (after.0) cs))
+        (λ ys. followed (call caller s.environment (unit_at s.units (subroutine s.units g)) (passed (s.processor.copies s.unit.name (suc k)) 1 ys)) (λ _. perform.go_on s card pc)) st
+        (actuals_match fs values program i s caller least greatest strict bounded st now stood.standing IsReference (references st now stood) (row_of args) card (suc k) h.1)
+        (λ xs ts o. step_after (λ (cs : List ℕ). cs) (behind s.unit pc) (λ r c after. Stood s.unit s.environment (r.0) after) After _ _ (λ r cs. steps.behind w card pc (r.0) cs) (λ _. perform.go_on s card pc) st
+        (calls st now stood card (suc k) g args xs ts h.0 o) (λ r c after q. goes_behind card pc h.2 (r.0) after q) (behind_way pc)) (behind_way pc))
+
+    -- ---- logical IF
+
+    abbrev PairOf : Type 0
+    PairOf = ℕ × List ℕ
+
+    abbrev pair_of : PairOf → List ℕ
+    pair_of c = c.0 ∷ c.1
+
+    if_step : (card pc k : ℕ) (e : Expr) (x : _) (b : Stmt) → IsTyped s.unit IsReference Logical e → AreGoodLoops s.unit s.environment (loops_at s.unit pc)
+        → ((j : ℕ) → Step (leads s.processor.dialect s.unit pc b) (λ cs. steps.performed w card pc now b cs) (perform.perform s caller card pc j b) st)
+        → Step (leads s.processor.dialect s.unit pc (LogicalIf' e x (carried b))) (λ cs. steps.performed w card pc now (LogicalIf' e x (carried b)) cs) (perform.perform s caller card pc k (LogicalIf' e x (carried b))) st
+    if_step card pc k e x b h loops inner =
+        step_as pair_of (λ (cs : List ℕ). cs) to After (λ c. steps.performed w card pc now (LogicalIf' e x (carried b)) (pair_of c)) (λ cs. steps.performed w card pc now (LogicalIf' e x (carried b)) cs) _ st
+        pair_of (λ c. refl) (λ c. refl)
+        (step_stays pair_of to (Of Logical) After _ _ body act st (evaluated e Logical card k h)
+        (λ v c g. known (run_holds c)
+        (λ t. subst (λ (z : Bool). StepMatches pair_of to (body v) (cond z yes no) After st) (sym t) (taken_on v (truth_is v c g ∙ t)))
+        (λ t. subst (λ (z : Bool). StepMatches pair_of to (body v) (cond z yes no) After st) (sym t) (passed_by v (ap not (truth_is v c g ∙ t)))))
+        (let t = through_all (next_point s.unit pc) (loops_at s.unit pc) in record { choice = (2, t.choices); point = next_point s.unit pc; to = t.to }))
+      where
+        to : List ℕ → Option ℕ
+        to = leads s.processor.dialect s.unit pc (LogicalIf' e x (carried b))
+
+        body : Value → PairOf → See Value (Named Value)
+        body v c = cond (c.0 == 1) (steps.taken w v >> steps.performed w card pc now b (c.1)) (steps.taken w (sense.negated (of_values fs values) v) >> steps.behind w card pc now (c.1))
+
+        yes : Act (List ℕ)
+        yes = followed step (λ _. followed (perform.perform s caller card pc (k + calls_in s.unit e) b) (λ cs. give (1 ∷ cs)))
+
+        no : Act (List ℕ)
+        no = followed (perform.go_on s card pc) (λ cs. give (2 ∷ cs))
+
+        act : Cell → Act (List ℕ)
+        act c = cond (run_holds c) yes no
+
+        taken_on : (v : Value) → holds v ≡ true → StepMatches pair_of to (body v) yes After st
+        taken_on v t =
+            step_as (λ (cs : List ℕ). 1 ∷ cs) pair_of to After (λ cs. steps.taken w v >> steps.performed w card pc now b cs) (body v) yes st (λ cs. (1, cs)) (λ cs. refl) (λ cs. refl)
+            (step_fact (λ (cs : List ℕ). 1 ∷ cs) to After (λ cs. steps.performed w card pc now b cs) yes st v t
+            (step_step (λ (cs : List ℕ). 1 ∷ cs) to After (λ cs. steps.performed w card pc now b cs) _ st
+            (step_chosen (λ (cs : List ℕ). cs) (leads s.processor.dialect s.unit pc b) to After (λ cs. steps.performed w card pc now b cs) (perform.perform s caller card pc (k + calls_in s.unit e) b) st 1 (λ cs. refl)
+            (inner (k + calls_in s.unit e)))))
+
+        passed_by : (v : Value) → not (holds v) ≡ true → StepMatches pair_of to (body v) no After st
+        passed_by v t =
+            step_as (λ (cs : List ℕ). 2 ∷ cs) pair_of to After (λ cs. steps.taken w (sense.negated (of_values fs values) v) >> steps.behind w card pc now cs) (body v) no st (λ cs. (2, cs)) (λ cs. refl) (λ cs. refl)
+            (step_fact (λ (cs : List ℕ). 2 ∷ cs) to After (λ cs. steps.behind w card pc now cs) no st (sense.negated (of_values fs values) v) t
+            (step_chosen (λ (cs : List ℕ). cs) (behind s.unit pc) to After (λ cs. steps.behind w card pc now cs) (perform.go_on s card pc) st 2 (λ cs. refl)
+            (goes_behind card pc loops now st stood)))

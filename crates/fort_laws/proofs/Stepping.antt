@@ -1,9 +1,11 @@
 -- Statements of walks and of strict runs: how they are put together.
 use Rattle.std.proofs.Common.{◌≡◌, ℕ, zero, suc, ◌+◌, ◌⊎◌, inl, inr, Bool, true, false, cond, List, [], ◌∷◌, ◌++◌, Option, Some, None, refl, sym, ap, ◌∙◌, subst, arith}
 use Rattle.formula.specs.declared.value.Value.{Value}
+use Rattle.formula.specs.Values.{holds}
 use Rattle.fort_syntax.specs.declared.condition.Kind.{Kind}
 use Rattle.fort_model.specs.Outcome.{Outcome, Ended, Erred, Running, and_then, Act, give, step, held, put}
-use Rattle.fort_model.specs.Seen.{Named, Answers, Seen, See, ◌>>=◌, see}
+use Rattle.fort_model.specs.Events.{Take}
+use Rattle.fort_model.specs.Seen.{Named, Answers, Seen, See, ◌>>=◌, see, meet}
 use Rattle.fort_model.specs.Storage.{Storage}
 use Rattle.fort_laws.specs.Matches.{AllTrue, FirstFails, Errs, of_callee, errs, Matches, moves, fails, Same}
 use Rattle.fort_laws.specs.StepMatches.{StepMatches, goes, stops}
@@ -128,3 +130,20 @@ step_choice list leads Q part act st c h = step_as {C = Unit {0}} (λ u. list c)
 pub step_split : {C A B : Type 0} (list : C → List ℕ) (leads : List ℕ → Option ℕ) (Q : Named Value → Storage → Type 0) (part : C → See Value (Named Value)) (act : Act A) (f : A → Act B) (g : B → Act (List ℕ)) (st : Storage)
     → StepMatches list leads part (followed act (λ a. followed (f a) g)) Q st → StepMatches list leads part (followed (followed act f) g) Q st
 step_split list leads Q part act f g st h = step_same list leads Q part _ _ st (λ n. sym (and_then_thrice (act st n) f g)) h
+
+-- a fact is met first
+pub step_fact : {C : Type 0} (list : C → List ℕ) (leads : List ℕ → Option ℕ) (Q : Named Value → Storage → Type 0) (part : C → See Value (Named Value)) (act : Act (List ℕ)) (st : Storage) (t : Value) → holds t ≡ true
+    → StepMatches list leads part act Q st → StepMatches list leads (λ c. meet (Take t ∷ []) >>= (λ _. part c)) act Q st
+step_fact list leads Q part act st t h (goes c q to pre now after cost e v r run k) = goes c q to pre now after cost (λ answers. (h, e answers)) v r run k
+step_fact list leads Q part act st t h (stops c q to pre kind card f e) = stops c q to pre kind card (λ answers. (h, f answers)) e
+
+-- a run writes a cell first
+pub step_written : {C : Type 0} (list : C → List ℕ) (leads : List ℕ → Option ℕ) (Q : Named Value → Storage → Type 0) (part : C → See Value (Named Value)) (act : Act (List ℕ)) (st after : Storage) (first : Act (Unit {0}))
+    → ((n : ℕ) → first st n ≡ Ended tt after n) → StepMatches list leads part act Q after → StepMatches list leads part (followed first (λ _. act)) Q st
+step_written list leads Q part act st after first e (goes c q to pre now last cost t v r run k) =
+    goes c q to pre now last cost t v r (λ n. ap (λ (o : Outcome (Unit {0})). and_then o (λ _. act)) (e (cost + n)) ∙ run n) k
+step_written list leads Q part act st after first e (stops c q to pre kind card f g) = stops c q to pre kind card f (over g)
+  where
+    over : Errs kind card act after → Errs kind card (followed first (λ _. act)) st
+    over (of_callee h) = of_callee h
+    over (errs last cost h) = errs last cost (λ n. ap (λ (o : Outcome (Unit {0})). and_then o (λ _. act)) (e (cost + n)) ∙ h n)
