@@ -363,3 +363,94 @@ module _ (fs : List Function) (values : Symbol → Value) (program : Program) (i
             (step_fact (λ (cs : List ℕ). 2 ∷ cs) to After (λ cs. steps.behind w card pc now cs) no st (sense.negated (of_values fs values) v) t
             (step_chosen (λ (cs : List ℕ). cs) (behind s.unit pc) to After (λ cs. steps.behind w card pc now cs) (perform.go_on s card pc) st 2 (λ cs. refl)
             (goes_behind card pc loops now st stood)))
+
+    -- ---- DO
+
+    and_three : (a b c : Bool) → (a && (b && (c && true))) ≡ (a && (b && c))
+    and_three true b c = and_two b c
+    and_three false b c = refl
+
+    module _ (card last pc : ℕ) (x : Name) (scalar : IsScalar s.unit Integer x) (may : MayBeWritten s.unit s.environment x) (loops : AreGoodLoops s.unit s.environment (loops_around s.unit last pc))
+        (m1 : Value) (c1 : Cell) (m2 : Value) (c2 : Cell) (m3 : Value) (c3 : Cell) (e1 : Of Integer m1 c1) (e2 : Of Integer m2 c2) (e3 : Of Integer m3 c3) where
+      abbrev set_first : Storage
+      set_first = store st (s.environment x).first (cell.Int (num c1))
+
+      first_set : Stood s.unit s.environment (with_name now x m1) set_first
+      first_set = scalar_written s.unit s.environment dims Integer x scalar may now st stood (cell.Int (num c1)) tt m1 (integer_is m1 c1 e1)
+
+      first_written : (n : ℕ) → perform.set_variable s x (cell.Int (num c1)) st n ≡ Ended tt set_first n
+      first_written n = refl
+
+      not_above : (a b : ℤ) → int_le a b ≡ false → int_lt b a ≡ true
+      not_above a b h = grind (arith, ints)
+
+      -- a DO that is entered or passed over
+      entered_step : Step (leads_do SeventySeven s.unit last pc) (λ cs. steps.entered w last pc (with_name now x m1) m1 m2 cs)
+          (cond (int_le (num c1) (num c2)) (give (1 ∷ [])) (followed (perform.pass_over s last pc) (λ cs. give (2 ∷ cs)))) set_first
+      entered_step =
+          known (int_le (num c1) (num c2))
+          (λ t. subst (λ (z : Bool). Step to part (cond z (give (1 ∷ [])) over) set_first) (sym t)
+          (step_as {C = Unit {0}} (λ u. 1 ∷ []) (λ (cs : List ℕ). cs) to After (λ u. steps.taken w (sense.make2 (of_values fs values) f.AtMost m1 m2) >> see (with_name now x m1)) part (give (1 ∷ [])) set_first (λ u. 1 ∷ []) (λ u. refl) (λ u. refl)
+          (step_fact {C = Unit {0}} (λ u. 1 ∷ []) to After (λ u. see (with_name now x m1)) (give (1 ∷ [])) set_first _ ((λ j. int_le (value.num (e1.0 j)) (value.num (e2.0 j))) ∙ t)
+          (step_done {C = Unit {0}} (λ u. 1 ∷ []) to After (λ u. see (with_name now x m1)) tt (suc pc) (with_name now x m1) (1 ∷ []) set_first refl refl refl first_set))))
+          (λ t. subst (λ (z : Bool). Step to part (cond z (give (1 ∷ [])) over) set_first) (sym t)
+          (step_as (λ (cs : List ℕ). 2 ∷ cs) (λ (cs : List ℕ). cs) to After (λ cs. steps.taken w (sense.make2 (of_values fs values) f.Less m2 m1) >> steps.passed_over w last pc (with_name now x m1) cs) part over set_first (λ cs. 2 ∷ cs) (λ cs. refl) (λ cs. refl)
+          (step_fact (λ (cs : List ℕ). 2 ∷ cs) to After (λ cs. steps.passed_over w last pc (with_name now x m1) cs) over set_first _ ((λ j. int_lt (value.num (e2.0 j)) (value.num (e1.0 j))) ∙ not_above (num c1) (num c2) t)
+          (step_chosen (λ (cs : List ℕ). cs) (passed_over s.unit last pc) to After (λ cs. steps.passed_over w last pc (with_name now x m1) cs) (perform.pass_over s last pc) set_first 2 (λ cs. refl)
+          (tests_match fs values program i s least greatest bounded dialects dims (perform.card_in (slice_get s.unit.lines last)) (next_point s.unit last) (loops_around s.unit last pc) loops (with_name now x m1) set_first first_set)))))
+        where
+          to : List ℕ → Option ℕ
+          to = leads_do SeventySeven s.unit last pc
+
+          part : List ℕ → See Value (Named Value)
+          part cs = steps.entered w last pc (with_name now x m1) m1 m2 cs
+
+          over : Act (List ℕ)
+          over = followed (perform.pass_over s last pc) (λ cs. give (2 ∷ cs))
+
+      begin_step : (d : Dialect) → Step (leads_do d s.unit last pc) (λ cs. steps.begin w d card last pc now x m1 m2 m3 cs) (perform.begin d s card last pc x (num c1) (num c2) (num c3)) st
+      begin_step Common =
+          step_stays (λ (cs : List ℕ). cs) (leads_do Common s.unit last pc) (λ y z. (int_le (pos 1) (num c1) && (int_le (num c1) (num c2) && int_le (pos 1) (num c3))) ≡ true) After _ _ (λ y cs. see (with_name now x m1))
+          (λ y. followed (perform.set_variable s x (cell.Int (num c1))) (λ _. give [])) st
+          (matches_check LoopCheck card _ _ st
+          ((λ j. (int_le (pos 1) (value.num (e1.0 j)) && (int_le (value.num (e1.0 j)) (value.num (e2.0 j)) && (int_le (pos 1) (value.num (e3.0 j)) && true))))
+          ∙ and_three (int_le (pos 1) (num c1)) (int_le (num c1) (num c2)) (int_le (pos 1) (num c3))))
+          (λ y z g. step_written (λ (cs : List ℕ). cs) (leads_do Common s.unit last pc) After (λ cs. see (with_name now x m1)) (give []) st set_first (perform.set_variable s x (cell.Int (num c1))) first_written
+          (step_done (λ (cs : List ℕ). cs) (leads_do Common s.unit last pc) After (λ cs. see (with_name now x m1)) [] (suc pc) (with_name now x m1) [] set_first refl refl refl first_set))
+          (record { choice = []; point = suc pc; to = refl })
+      begin_step SeventySeven =
+          step_stays (λ (cs : List ℕ). cs) to (λ y z. int_le (pos 1) (num c3) ≡ true) After _ _ _ _ st
+          (matches_check LoopCheck card _ _ st (λ j. int_le (pos 1) (value.num (e3.0 j))))
+          (λ y z g. step_stays (λ (cs : List ℕ). cs) to (Of Integer) After _ _ _ _ st
+          (matches_ranged fs values program i s.unit s least greatest st card (sense.make2 (of_values fs values) f.Difference m2 m1) (num c2 -ℤ num c1) (λ j. Int (value.num (e2.0 j) -ℤ value.num (e1.0 j))))
+          (λ v a h. step_stays (λ (cs : List ℕ). cs) to (Of Integer) After _ _ _ _ st
+          (matches_ranged fs values program i s.unit s least greatest st card (sense.make2 (of_values fs values) f.Plus (sense.make2 (of_values fs values) f.Difference m2 m1) m3) (num c2 -ℤ num c1 +ℤ num c3)
+          (λ j. Int (value.num (e2.0 j) -ℤ value.num (e1.0 j) +ℤ value.num (e3.0 j))))
+          (λ v2 a2 h2. step_written (λ (cs : List ℕ). cs) to After (λ cs. steps.entered w last pc (with_name now x m1) m1 m2 cs) _ st set_first (perform.set_variable s x (cell.Int (num c1))) first_written entered_step)
+          way) way) way
+        where
+          to : List ℕ → Option ℕ
+          to = leads_do SeventySeven s.unit last pc
+
+          way : HasWay (λ (cs : List ℕ). cs) to
+          way = record { choice = 1 ∷ []; point = suc pc; to = refl }
+
+    do_way : (d : Dialect) (last pc : ℕ) → HasWay (λ (cs : List ℕ). cs) (leads_do d s.unit last pc)
+    do_way Common last pc = record { choice = []; point = suc pc; to = refl }
+    do_way SeventySeven last pc = record { choice = 1 ∷ []; point = suc pc; to = refl }
+
+    do_step : (card pc k l : ℕ) (x : Name) (first last : Param) (by : Option Param) → IsGood s.unit s.environment IsReference IsCall pc (Do l x first last by)
+        → Step (leads s.processor.dialect s.unit pc (Do l x first last by)) (λ cs. steps.performed w card pc now (Do l x first last by) cs) (perform.perform s caller card pc k (Do l x first last by)) st
+    do_step card pc k l x first last by h =
+        step_stays (λ (cs : List ℕ). cs) to (Of Integer) After _ _ _ _ st (matches_parameter fs values program i s least greatest bounded dialects dims st now stood card first h.2)
+        (λ m1 c1 e1. step_stays (λ (cs : List ℕ). cs) to (Of Integer) After _ _ _ _ st (matches_parameter fs values program i s least greatest bounded dialects dims st now stood card last h.3)
+        (λ m2 c2 e2. step_stays (λ (cs : List ℕ). cs) to (Of Integer) After _ _ _ _ st (matches_step_value fs values program i s least greatest bounded dialects dims st now stood card by h.4)
+        (λ m3 c3 e3. subst (λ (d : Dialect). Step to (λ cs. steps.begin w d card (target s.unit.lines l) pc now x m1 m2 m3 cs) (perform.begin s.processor.dialect s card (target s.unit.lines l) pc x (num c1) (num c2) (num c3)) st) dialects
+        (begin_step card (target s.unit.lines l) pc x h.0 h.1 h.5 m1 c1 m2 c2 m3 c3 e1 e2 e3 s.processor.dialect))
+        way) way) way
+      where
+        to : List ℕ → Option ℕ
+        to = leads_do s.processor.dialect s.unit (target s.unit.lines l) pc
+
+        way : HasWay (λ (cs : List ℕ). cs) to
+        way = do_way s.processor.dialect (target s.unit.lines l) pc
