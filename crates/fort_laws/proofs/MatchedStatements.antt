@@ -1,6 +1,6 @@
 -- Statements: where named values stand for cells, a walk and a strict run perform them alike, by choices that lead on; or the
 -- first check of the walk that is false is the error of the run.
-use Rattle.std.proofs.Common.{◌≡◌, ◌≢◌, ℕ, zero, suc, ◌+◌, ◌<◌, ◌≤◌, Bool, true, false, cond, not, ◌&&◌, ℤ, pos, negsuc, ◌+ℤ◌, ◌-ℤ◌, List, [], ◌∷◌, map, length, Option, Some, None, slice_get, refl, sym, ap, ◌∙◌, subst, arith}
+use Rattle.std.proofs.Common.{◌≡◌, ◌≢◌, ℕ, zero, suc, ◌+◌, ◌<◌, ◌≤◌, Bool, true, false, cond, not, ◌&&◌, ℤ, pos, negsuc, ◌+ℤ◌, ◌-ℤ◌, List, [], ◌∷◌, map, length, Option, Some, None, slice_get, refl, sym, ap, ◌∙◌, subst, arith, rules}
 use Rattle.std.proofs.lemmas.Int.{ints}
 use Rattle.std.specs.Prelude.{nat_lt, int_le, int_lt, ◌==◌}
 use mathlib.Core.Former.{Count}
@@ -454,3 +454,107 @@ module _ (fs : List Function) (values : Symbol → Value) (program : Program) (i
 
         way : HasWay (λ (cs : List ℕ). cs) to
         way = do_way s.processor.dialect (target s.unit.lines l) pc
+
+    -- ---- computed GO TO
+
+    -- a number that counts one of so many labels
+    record Counts (labels : ℕ) (z : ℤ) : Type 0 where
+      before : ℕ
+      number : z ≡ pos (suc before)
+      less : before < labels
+
+    counts_of : (labels : ℕ) (z : ℤ) → is_between (pos 1) (pos labels) z ≡ true → Counts labels z
+    counts_of labels (pos zero) h = absurd (grind arith)
+    counts_of labels (negsuc n) h = absurd (grind arith)
+    counts_of labels (pos (suc n)) h = record { before = n; number = refl; less = search rules }
+
+    label_at : (ls : List ℕ) (k : ℕ) → k < length ls → (q : ℕ) × (slice_get (map (target s.unit.lines) ls) k ≡ Some q)
+    label_at [] k h = absurd (omega arith)
+    label_at (l ∷ ls) zero h = (target s.unit.lines l, refl)
+    label_at (l ∷ ls) (suc k) h = label_at ls k (omega arith)
+
+    same_number : (n : ℕ) → value.same_value (Int (pos n)) (Int (pos n)) ≡ true
+    same_number n = grind arith
+
+    mapped_length : (ls : List ℕ) → length (map (target s.unit.lines) ls) ≡ length ls
+    mapped_length [] = refl
+    mapped_length (l ∷ ls) = ap suc (mapped_length ls)
+
+    between_is : (labels : ℕ) (v : Value) (c : Cell) → Of Integer v c → holds (steps.counts_label w labels v) ≡ is_between (pos 1) (pos labels) (num c)
+    between_is labels v c e = (λ j. (int_le (pos 1) (value.num (e.0 j)) && (int_le (value.num (e.0 j)) (pos labels) && true))) ∙ and_two (int_le (pos 1) (num c)) (int_le (num c) (pos labels))
+
+    -- a fact is met, by a choice
+    fact_by : {C : Type 0} (list : C → List ℕ) (to : List ℕ → Option ℕ) (c : C) (q : ℕ) (t : Value) (part : C → See Value (Named Value)) → to (list c) ≡ Some q → part c ≡ (steps.taken w t >> see now) → holds t ≡ true
+        → StepMatches list to part (give (list c)) After st
+    fact_by list to c q t part way is h =
+        goes c q way (λ answers. answers) now st 0
+        (λ answers. subst (λ (p : See Value (Named Value)). AllTrue (p answers).events) (sym is) (h, tt))
+        (λ answers. ap (λ (p : See Value (Named Value)). (p answers).value) is) (λ answers. ap (λ (p : See Value (Named Value)). (p answers).rest) is)
+        (λ n. ap (λ (j : ℕ). Ended (list c) st j) (let z : 0 + n ≡ n = omega arith in z)) stood
+
+    module _ (card pc : ℕ) (ls : List ℕ) (v : Value) (c : Cell) (e : Of Integer v c) (some : HasLabels s.unit s.environment IsReference IsCall ls) (loops : AreGoodLoops s.unit s.environment (loops_at s.unit pc)) where
+      equal_fact : (h : Counts (length ls) (num c)) → holds (sense.make2 (of_values fs values) f.Equal v (sense.natural (of_values fs values) (suc h.before))) ≡ true
+      equal_fact h = ap (λ (x : Value). value.same_value x (Int (pos (suc h.before)))) (integer_is v c e ∙ ap (λ (z : ℤ). Int z) h.number) ∙ same_number (suc h.before)
+
+      abbrev chosen_part : Dialect → PairOf → See Value (Named Value)
+      chosen_part d p = steps.select w d card pc now (length ls) v (p.0) (p.1)
+
+      common_step : Counts (length ls) (num c) → StepMatches pair_of (leads_computed Common s.unit pc (map (target s.unit.lines) ls)) (chosen_part Common) (give (count (num c) ∷ [])) After st
+      common_step h =
+          subst (λ (z : ℤ). StepMatches pair_of (leads_computed Common s.unit pc (map (target s.unit.lines) ls)) (chosen_part Common) (give (count z ∷ [])) After st) (sym h.number)
+          (let l = label_at ls h.before h.less in
+          fact_by pair_of (leads_computed Common s.unit pc (map (target s.unit.lines) ls)) (suc h.before, []) l.0 _ (chosen_part Common) l.1 refl (equal_fact h))
+
+      not_last : (k : ℕ) → k < length ls → (suc k == suc (length ls)) ≡ false
+      not_last k lt = search rules
+
+      not_last_label : (k : ℕ) → k < length ls → (suc k == suc (length (map (target s.unit.lines) ls))) ≡ false
+      not_last_label k lt = ap (λ (n : ℕ). suc k == suc n) (mapped_length ls) ∙ not_last k lt
+
+      inside_step : Counts (length ls) (num c) → StepMatches pair_of (leads_computed SeventySeven s.unit pc (map (target s.unit.lines) ls)) (chosen_part SeventySeven) (give (count (num c) ∷ [])) After st
+      inside_step h =
+          subst (λ (z : ℤ). StepMatches pair_of (leads_computed SeventySeven s.unit pc (map (target s.unit.lines) ls)) (chosen_part SeventySeven) (give (count z ∷ [])) After st) (sym h.number)
+          (let l = label_at ls h.before h.less in
+          fact_by pair_of (leads_computed SeventySeven s.unit pc (map (target s.unit.lines) ls)) (suc h.before, []) l.0 _ (chosen_part SeventySeven)
+          (ap (λ (b : Bool). cond b (behind s.unit pc []) (one_of (map (target s.unit.lines) ls) (suc h.before ∷ []))) (not_last_label h.before h.less) ∙ l.1)
+          (ap (λ (b : Bool). cond b (steps.taken w (sense.negated (of_values fs values) (steps.counts_label w (length ls) v)) >> steps.behind w card pc now [])
+          (steps.taken w (sense.make2 (of_values fs values) f.Equal v (sense.natural (of_values fs values) (suc h.before))) >> see now)) (not_last h.before h.less)) (equal_fact h))
+
+      last_label : (n : ℕ) → (suc n == suc n) ≡ true
+      last_label n = search rules
+
+      outside_step : is_between (pos 1) (pos (length ls)) (num c) ≡ false
+          → StepMatches pair_of (leads_computed SeventySeven s.unit pc (map (target s.unit.lines) ls)) (chosen_part SeventySeven) (followed (perform.go_on s card pc) (λ cs. give (suc (length ls) ∷ cs))) After st
+      outside_step h =
+          step_as (λ (cs : List ℕ). suc (length ls) ∷ cs) pair_of to After (λ cs. steps.taken w (sense.negated (of_values fs values) (steps.counts_label w (length ls) v)) >> steps.behind w card pc now cs) (chosen_part SeventySeven) act st
+          (λ cs. (suc (length ls), cs)) (λ cs. refl)
+          (λ cs. ap (λ (b : Bool). cond b (steps.taken w (sense.negated (of_values fs values) (steps.counts_label w (length ls) v)) >> steps.behind w card pc now cs)
+          (steps.taken w (sense.make2 (of_values fs values) f.Equal v (sense.natural (of_values fs values) (suc (length ls)))) >> see now)) (last_label (length ls)))
+          (step_fact (λ (cs : List ℕ). suc (length ls) ∷ cs) to After (λ cs. steps.behind w card pc now cs) act st (sense.negated (of_values fs values) (steps.counts_label w (length ls) v)) (ap not (between_is (length ls) v c e ∙ h))
+          (step_chosen (λ (cs : List ℕ). cs) (behind s.unit pc) to After (λ cs. steps.behind w card pc now cs) (perform.go_on s card pc) st (suc (length ls))
+          (λ cs. ap (λ (b : Bool). cond b (behind s.unit pc cs) (one_of (map (target s.unit.lines) ls) (suc (length ls) ∷ cs))) (ap (λ (n : ℕ). suc (length ls) == suc n) (mapped_length ls) ∙ last_label (length ls)))
+          (goes_behind card pc loops now st stood)))
+        where
+          to : List ℕ → Option ℕ
+          to = leads_computed SeventySeven s.unit pc (map (target s.unit.lines) ls)
+
+          act : Act (List ℕ)
+          act = followed (perform.go_on s card pc) (λ cs. give (suc (length ls) ∷ cs))
+
+      first_way : (d : Dialect) (labels : List ℕ) → HasLabels s.unit s.environment IsReference IsCall labels → HasWay pair_of (leads_computed d s.unit pc (map (target s.unit.lines) labels))
+      first_way d [] h = absurd h
+      first_way Common (l ∷ labels) h = record { choice = (1, []); point = target s.unit.lines l; to = refl }
+      first_way SeventySeven (l ∷ labels) h = record { choice = (1, []); point = target s.unit.lines l; to = search arith }
+
+      computed_step : (d : Dialect) → StepMatches pair_of (leads_computed d s.unit pc (map (target s.unit.lines) ls)) (λ p. steps.choice_check w d card (length ls) v >> chosen_part d p) (perform.select d s card pc (length ls) (num c)) After st
+      computed_step Common =
+          step_stays pair_of (leads_computed Common s.unit pc (map (target s.unit.lines) ls)) (λ y z. is_between (pos 1) (pos (length ls)) (num c) ≡ true) After _ _ (λ y p. chosen_part Common p) (λ y. give (count (num c) ∷ [])) st
+          (matches_check ChoiceCheck card _ _ st (between_is (length ls) v c e))
+          (λ y z g. common_step (counts_of (length ls) (num c) g)) (first_way Common ls some)
+      computed_step SeventySeven =
+          step_as pair_of pair_of (leads_computed SeventySeven s.unit pc (map (target s.unit.lines) ls)) After (chosen_part SeventySeven) (λ p. steps.choice_check w SeventySeven card (length ls) v >> chosen_part SeventySeven p) _ st (λ p. p) (λ p. refl) (λ p. refl)
+          (known (is_between (pos 1) (pos (length ls)) (num c))
+          (λ g. subst (λ (b : Bool). StepMatches pair_of (leads_computed SeventySeven s.unit pc (map (target s.unit.lines) ls)) (chosen_part SeventySeven) (cond b (give (count (num c) ∷ [])) (followed (perform.go_on s card pc) (λ cs. give (suc (length ls) ∷ cs)))) After st) (sym g)
+          (inside_step (counts_of (length ls) (num c) g)))
+          (λ g. subst (λ (b : Bool). StepMatches pair_of (leads_computed SeventySeven s.unit pc (map (target s.unit.lines) ls)) (chosen_part SeventySeven) (cond b (give (count (num c) ∷ [])) (followed (perform.go_on s card pc) (λ cs. give (suc (length ls) ∷ cs)))) After st) (sym g)
+          (outside_step g)))
