@@ -558,3 +558,47 @@ module _ (fs : List Function) (values : Symbol → Value) (program : Program) (i
           (inside_step (counts_of (length ls) (num c) g)))
           (λ g. subst (λ (b : Bool). StepMatches pair_of (leads_computed SeventySeven s.unit pc (map (target s.unit.lines) ls)) (chosen_part SeventySeven) (cond b (give (count (num c) ∷ [])) (followed (perform.go_on s card pc) (λ cs. give (suc (length ls) ∷ cs)))) After st) (sym g)
           (outside_step g)))
+
+    select_step : (card pc k : ℕ) (ls : List ℕ) (x : Name) → IsGood s.unit s.environment IsReference IsCall pc (Computed ls x)
+        → Step (leads s.processor.dialect s.unit pc (Computed ls x)) (λ cs. steps.performed w card pc now (Computed ls x) cs) (perform.perform s caller card pc k (Computed ls x)) st
+    select_step card pc k ls x h =
+        step_as pair_of (λ (cs : List ℕ). cs) to After (λ p. steps.performed w card pc now (Computed ls x) (pair_of p)) (λ cs. steps.performed w card pc now (Computed ls x) cs) _ st pair_of (λ p. refl) (λ p. refl)
+        (step_stays pair_of to (Of Integer) After _ _ (λ v p. steps.choice_check w program.dialect card (length ls) v >> steps.select w program.dialect card pc now (length ls) v (p.0) (p.1))
+        (λ c. perform.select s.processor.dialect s card pc (length ls) (num c)) st
+        (matches_variable fs values program i s least greatest bounded dialects dims st now stood card x h.0)
+        (λ v c e. subst (λ (d : Dialect). StepMatches pair_of to (λ p. steps.choice_check w d card (length ls) v >> steps.select w d card pc now (length ls) v (p.0) (p.1)) (perform.select s.processor.dialect s card pc (length ls) (num c)) After st) dialects
+        (computed_step card pc ls v c e h.1 h.2 s.processor.dialect))
+        (some_label ls h.1 s.processor.dialect))
+      where
+        to : List ℕ → Option ℕ
+        to = leads_computed s.processor.dialect s.unit pc (map (target s.unit.lines) ls)
+
+        some_label : (labels : List ℕ) → HasLabels s.unit s.environment IsReference IsCall labels → (d : Dialect) → HasWay pair_of (leads_computed d s.unit pc (map (target s.unit.lines) labels))
+        some_label [] g d = absurd g
+        some_label (l ∷ labels) g Common = record { choice = (1, []); point = target s.unit.lines l; to = refl }
+        some_label (l ∷ labels) g SeventySeven = record { choice = (1, []); point = target s.unit.lines l; to = search arith }
+
+    -- ---- all statements
+
+    pub statement_matches : (stmt : Stmt) (card pc k : ℕ) → IsGood s.unit s.environment IsReference IsCall pc stmt
+        → Step (leads s.processor.dialect s.unit pc stmt) (λ cs. steps.performed w card pc now stmt cs) (perform.perform s caller card pc k stmt) st
+    statement_matches (Assign left right) card pc k h = assign_step card pc k left right h
+    statement_matches (GoTo l) card pc k h =
+        step_done (λ (cs : List ℕ). cs) (leads s.processor.dialect s.unit pc (GoTo l)) After (λ cs. steps.performed w card pc now (GoTo l) cs) [] (target s.unit.lines l) now [] st refl refl refl stood
+    statement_matches (Computed ls x) card pc k h = select_step card pc k ls x h
+    statement_matches (ArithIf e l m n) card pc k h = sign_step card k pc e l m n h
+    statement_matches (LogicalIf' e x (carried b)) card pc k h = if_step card pc k e x b h.0 h.1 (λ j. statement_matches b card pc j h.3)
+    statement_matches (Do l x first last by) card pc k h = do_step card pc k l x first last by h
+    statement_matches Continue card pc k h = goes_behind card pc h now st stood
+    statement_matches (Call g args) card pc k h = call_step card pc k g args h
+    statement_matches Return card pc k h = return_step card pc k h
+    statement_matches (BlockIf e) card pc k h = branch_step card k pc e (BlockIf e) h (leads s.processor.dialect s.unit pc (BlockIf e)) refl refl
+    statement_matches (ElseIf e) card pc k h = branch_step card k pc e (ElseIf e) h (leads s.processor.dialect s.unit pc (ElseIf e)) refl refl
+    statement_matches Else card pc k h = goes_behind card pc h now st stood
+    statement_matches EndIf card pc k h = goes_behind card pc h now st stood
+    statement_matches (Subroutine x xs) card pc k h = absurd h
+    statement_matches (FunctionHead o x xs) card pc k h = absurd h
+    statement_matches (Declare o items) card pc k h = absurd h
+    statement_matches (Dimension items) card pc k h = absurd h
+    statement_matches (CommonBlock groups) card pc k h = absurd h
+    statement_matches End card pc k h = absurd h
