@@ -31,15 +31,16 @@ use Rattle.fort_model.specs.WalkCalls.{Sight}
 use Rattle.fort_model.specs.WalkExpr as walk
 use Rattle.fort_model.specs.WalkPlaces as places
 use Rattle.fort_model.specs.WalkStmt.{with_name}
+use Rattle.fort_laws.specs.GoodStatements.{MayBeWritten, Stood, HasScalarDims}
 use Rattle.fort_laws.specs.Matches.{Matches, Same}
 use Rattle.fort_laws.specs.Places.{AreWithin}
 use Rattle.fort_laws.specs.Standing.{MayBe, Standing}
 use Rattle.fort_laws.specs.Typed.{IsArray}
 use Rattle.fort_laws.proofs.Matching.{followed, stays_then, matches_see, matches_held, matches_made, matches_given}
 use Rattle.fort_laws.proofs.MatchedPlaces.{AreOf, AreAsMany, matches_subscripts, place_is}
-use Rattle.fort_laws.proofs.MatchedTests.{Stood, HasScalarDims, maybe_is}
+use Rattle.fort_laws.proofs.MatchedTests.{maybe_is}
 use Rattle.fort_laws.proofs.PlaceBounds.{LiesIn, lies_in_array, one_less}
-use Rattle.fort_laws.proofs.Written.{MayBeWritten, standing_written, contents_written}
+use Rattle.fort_laws.proofs.Written.{standing_written, contents_written}
 
 as_cell_of : (c : Cell) → as_cell (of_cell c) ≡ Some c
 as_cell_of (cell.Int z) = refl

@@ -49,6 +49,7 @@ use Rattle.fort_model.specs.WalkCalls.{Sight, Operand}
 use Rattle.fort_model.specs.WalkExpr as walk
 use Rattle.fort_model.specs.WalkStmt as steps
 use Rattle.fort_model.specs.WalkStmt.{with_name}
+use Rattle.fort_laws.specs.GoodStatements.{MayBeWritten, Stood, HasScalarDims, IsParameter, IsStep, AreGoodLoops, IsGoodElement, IsLeft, HasLabels, HasResult, HasGoodLoops, IsGood, StatementsMatch}
 use Rattle.fort_laws.specs.Matches.{AllTrue, Matches, moves, fails, Same}
 use Rattle.fort_laws.specs.Standing.{MayBe, Of, IsOf, IsSort, Standing, OperandOf, ActualOf, ActualsOf, CallsMatch}
 use Rattle.fort_laws.specs.StepMatches.{StepMatches, goes, stops}
@@ -59,57 +60,9 @@ use Rattle.fort_laws.proofs.MatchedAssignments.{IsElement, matches_place, elemen
 use Rattle.fort_laws.proofs.MatchedExpressions.{integer_is, logical_is, matches_ranged, and_two}
 use Rattle.fort_laws.proofs.MatchedOperands.{operands_match, matches_valued, integers_match, actuals_match, AreIntegers, are_of, as_many, Integers}
 use Rattle.fort_laws.proofs.MatchedPlaces.{scalar_stands, scalar_sort}
-use Rattle.fort_laws.proofs.MatchedTests.{Stood, HasScalarDims, IsParameter, IsStep, AreGoodLoops, scalar_written, matches_variable, matches_parameter, matches_step_value, tests_match, tests_way, maybe_is}
+use Rattle.fort_laws.proofs.MatchedTests.{scalar_written, matches_variable, matches_parameter, matches_step_value, tests_match, tests_way, maybe_is}
 use Rattle.fort_laws.proofs.Near.{known, statements_lead_on, through_all}
 use Rattle.fort_laws.proofs.Stepping.{HasWay, step_after, step_stays, step_done, step_step, step_as, step_chosen, step_choice, step_joined, step_split, step_same, step_fact, step_written}
-use Rattle.fort_laws.proofs.Written.{MayBeWritten}
-
-module _ (u : Routine) (env : Environment) (IsReference : Sort → Name → Type 0) (IsCall : Name → List Expr → Type 0) where
-  -- the left side of an assignment: a scalar or an element of a type, whose name may be written
-  pub record IsGoodElement (q : Sort) (a : Name) {m : Count} (args : Row_of-Expr m) : Type 0 where
-    pub dim : Dim
-    pub dims : List Dim
-    pub applied_is : applied u a ≡ Element (dim ∷ dims)
-    pub dims_are : dims_of u a ≡ dim ∷ dims
-    pub array : IsArray u q a (dim ∷ dims)
-    pub may : MayBeWritten u env a
-    pub many : row_length args ≡ length (dim ∷ dims)
-    pub integers : AreInteger u IsReference args
-
-  abbrev pub IsLeft : Sort → Expr → Type 0
-  IsLeft q (Var x) = IsScalar u q x × MayBeWritten u env x
-  IsLeft q (Apply' a _ args) = IsGoodElement q a args
-  IsLeft q _ = ⊥
-
-  abbrev pub HasLabels : List ℕ → Type 0
-  HasLabels [] = ⊥
-  HasLabels (l ∷ ls) = Unit {0}
-
-  -- the own value of a FUNCTION
-  abbrev pub HasResult : Bool → Type 0
-  HasResult false = Unit {0}
-  HasResult true = (q : Sort) × IsScalar u q u.name
-
-  abbrev pub HasGoodLoops : ℕ → Type 0
-  HasGoodLoops pc = AreGoodLoops u env (loops_at u pc)
-
-  -- a statement at a point, whose parts have their types, and which writes only what may be written
-  abbrev pub IsGood : ℕ → Stmt → Type 0
-  IsGood pc (Assign left right) = (q : Sort) × IsLeft q left × IsTyped u IsReference q right × HasGoodLoops pc
-  IsGood pc (GoTo l) = Unit {0}
-  IsGood pc (Computed ls x) = IsScalar u Integer x × HasLabels ls × HasGoodLoops pc
-  IsGood pc (ArithIf e l m n) = IsTyped u IsReference Integer e
-  IsGood pc (LogicalIf' e _ (carried b)) = IsTyped u IsReference Logical e × HasGoodLoops pc × IsExecutable b × IsGood pc b
-  IsGood pc (Do l x first last by) =
-      IsScalar u Integer x × MayBeWritten u env x × IsParameter u first × IsParameter u last × IsStep u by × AreGoodLoops u env (loops_around u (target u.lines l) pc)
-  IsGood pc Continue = HasGoodLoops pc
-  IsGood pc (Call g args) = IsCall g args × AreActual u IsReference (row_of args) × HasGoodLoops pc
-  IsGood pc Return = HasResult (is_function u)
-  IsGood pc (BlockIf e) = IsTyped u IsReference Logical e
-  IsGood pc (ElseIf e) = IsTyped u IsReference Logical e
-  IsGood pc Else = HasGoodLoops pc
-  IsGood pc EndIf = HasGoodLoops pc
-  IsGood pc _ = ⊥
 
 module _ (fs : List Function) (values : Symbol → Value) (program : Program) (i : ℕ) (s : Scene) (caller : Caller)
     (least : values LeastInteger ≡ Int s.processor.least) (greatest : values GreatestInteger ≡ Int s.processor.greatest) (strict : s.processor.lazy ≡ false)
@@ -602,3 +555,7 @@ module _ (fs : List Function) (values : Symbol → Value) (program : Program) (i
     statement_matches (Dimension items) card pc k h = absurd h
     statement_matches (CommonBlock groups) card pc k h = absurd h
     statement_matches End card pc k h = absurd h
+
+pub statements_match : StatementsMatch
+statements_match fs values program i s caller is_reference is_call least greatest strict bounded dialects dims references calls st now stood stmt card pc k good =
+    statement_matches fs values program i s caller least greatest strict bounded dialects dims (λ q a. is_reference q a ≡ true) (λ g args. is_call g args ≡ true) references calls st now stood stmt card pc k good

@@ -40,6 +40,7 @@ use Rattle.fort_model.specs.WalkCalls.{Sight}
 use Rattle.fort_model.specs.WalkExpr as walk
 use Rattle.fort_model.specs.WalkStmt as steps
 use Rattle.fort_model.specs.WalkStmt.{with_name}
+use Rattle.fort_laws.specs.GoodStatements.{MayBeWritten, Stood, HasScalarDims, IsParameter, IsStep, IsGoodLoop, AreGoodLoops}
 use Rattle.fort_laws.specs.Matches.{Matches, moves, Same}
 use Rattle.fort_laws.specs.Standing.{MayBe, Of, IsOf, Standing}
 use Rattle.fort_laws.specs.StepMatches.{StepMatches}
@@ -49,16 +50,7 @@ use Rattle.fort_laws.proofs.MatchedExpressions.{matches_constant, matches_large,
 use Rattle.fort_laws.proofs.MatchedPlaces.{scalar_stands, scalar_sort, matches_read}
 use Rattle.fort_laws.proofs.Near.{known, through_all}
 use Rattle.fort_laws.proofs.Stepping.{HasWay, step_after, step_stays, step_done, step_step, step_as, step_chosen}
-use Rattle.fort_laws.proofs.Written.{DimsAreScalars, MayBeWritten, standing_written, load_store_same}
-
--- named values stand for cells, which lie in the storage
-pub record Stood (u : Routine) (env : Environment) (now : Named Value) (st : Storage) : Type 0 where
-  pub standing : Standing u env st now
-  pub within : (x : Name) (d : DataName) → data_name u x ≡ Some d → (env x).first + (env x).size ≤ length st
-
--- what is wanted of a unit: its adjustable dimensions are scalars of it
-abbrev pub HasScalarDims : Routine → Environment → Type 0
-HasScalarDims u env = (y : Name) (d : DataName) → data_name u y ≡ Some d → DimsAreScalars u env d.dims
+use Rattle.fort_laws.proofs.Written.{standing_written, load_store_same}
 
 -- a scalar is written
 module _ (u : Routine) (env : Environment) (dims : HasScalarDims u env) where
@@ -94,28 +86,6 @@ module _ (u : Routine) (env : Environment) (dims : HasScalarDims u env) where
       value_is =
           ap (λ ds. held_in ds after (env x)) h.scalar ∙ ap (λ (s : Storage). of_cell (load s (env x).first)) at_first
           ∙ ap of_cell (load_store_same st (env x).first c (omega (arith, one, inside)))
-
--- ---- parameters of DOs
-
--- a parameter is a constant or an integer scalar
-abbrev pub IsParameter : Routine → Param → Type 0
-IsParameter u (param.Fixed n) = Unit {0}
-IsParameter u (param.Named x) = IsScalar u Integer x
-
-abbrev pub IsStep : Routine → Option Param → Type 0
-IsStep u None = Unit {0}
-IsStep u (Some m) = IsParameter u m
-
--- a DO whose variable is an integer scalar that may be written
-pub record IsGoodLoop (u : Routine) (env : Environment) (d : Loop) : Type 0 where
-  pub variable : IsScalar u Integer d.variable
-  pub may : MayBeWritten u env d.variable
-  pub last : IsParameter u d.last
-  pub step : IsStep u d.step
-
-abbrev pub AreGoodLoops : Routine → Environment → List Loop → Type 0
-AreGoodLoops u env [] = Unit {0}
-AreGoodLoops u env (d ∷ ds) = IsGoodLoop u env d × AreGoodLoops u env ds
 
 module _ (fs : List Function) (values : Symbol → Value) (program : Program) (i : ℕ) (s : Scene)
     (least : values LeastInteger ≡ Int s.processor.least) (greatest : values GreatestInteger ≡ Int s.processor.greatest)

@@ -20,6 +20,7 @@ use Rattle.fort_model.specs.Places.{dim_value, dim_values, stretch}
 use Rattle.fort_model.specs.Seen.{Named}
 use Rattle.fort_model.specs.Storage.{Storage, Environment, Extent, load, store, contents}
 use Rattle.fort_model.specs.WalkStmt.{with_name}
+use Rattle.fort_laws.specs.GoodStatements.{DimsAreOther, MayBeWritten, DimsAreScalars}
 use Rattle.fort_laws.specs.Standing.{MayBe, Standing}
 use Rattle.fort_laws.specs.Typed.{IsScalar}
 use Rattle.fort_laws.proofs.FrameEnter.{SameOrNot, same, other, same_or_not}
@@ -58,25 +59,8 @@ equal_or_not j k = known (eqb j k) (λ e. inl (grind arith)) (λ e. inr (grind a
 -- ---- names
 
 module _ (u : Routine) (env : Environment) where
-  -- none of these dimensions has the name
-  abbrev pub DimsAreOther : Name → List Dim → Type 0
-  DimsAreOther x [] = Unit {0}
-  DimsAreOther x (Fixed n ∷ ds) = DimsAreOther x ds
-  DimsAreOther x (Adjustable z ∷ ds) = (same_name x z ≡ false) × DimsAreOther x ds
-
-  -- a name of the unit may be written: no cell of it is one of another name, and it is no dimension
-  pub record MayBeWritten (x : Name) : Type 0 where
-    pub apart : (y : Name) (d : DataName) → data_name u y ≡ Some d → same_name x y ≡ false → (k : ℕ) → IsIn k (env x) → IsIn k (env y) → ⊥
-    pub no_dim : (y : Name) (d : DataName) → data_name u y ≡ Some d → DimsAreOther x d.dims
-
-  -- each adjustable dimension of a name is a scalar of the unit
-  abbrev pub DimsAreScalars : List Dim → Type 0
-  DimsAreScalars [] = Unit {0}
-  DimsAreScalars (Fixed n ∷ ds) = DimsAreScalars ds
-  DimsAreScalars (Adjustable z ∷ ds) = ((d : DataName) × (data_name u z ≡ Some d) × (1 ≤ (env z).size)) × DimsAreScalars ds
-
-  module _ (st : Storage) (now : Named Value) (standing : Standing u env st now) (dims : (y : Name) (d : DataName) → data_name u y ≡ Some d → DimsAreScalars d.dims)
-      (x : Name) (dx : DataName) (is : data_name u x ≡ Some dx) (may : MayBeWritten x) (k : ℕ) (less : k < (env x).size) (c : Cell) (sort : MayBe dx.sort c) where
+  module _ (st : Storage) (now : Named Value) (standing : Standing u env st now) (dims : (y : Name) (d : DataName) → data_name u y ≡ Some d → DimsAreScalars u env d.dims)
+      (x : Name) (dx : DataName) (is : data_name u x ≡ Some dx) (may : MayBeWritten u env x) (k : ℕ) (less : k < (env x).size) (c : Cell) (sort : MayBe dx.sort c) where
     abbrev after : Storage
     after = store st ((env x).first + k) c
 
@@ -86,7 +70,7 @@ module _ (u : Routine) (env : Environment) where
         load_store_other st ((env x).first + k) ((env y).first + j) c
         (λ p. may.apart y d e n ((env x).first + k) (omega arith, omega arith) (omega (arith, p), omega (arith, p)))
 
-    dims_same : (ds : List Dim) → DimsAreOther x ds → DimsAreScalars ds → dim_values env after ds ≡ dim_values env st ds
+    dims_same : (ds : List Dim) → DimsAreOther u env x ds → DimsAreScalars u env ds → dim_values env after ds ≡ dim_values env st ds
     dims_same [] h g = refl
     dims_same (Fixed n ∷ ds) h g = ap (λ (zs : List ℤ). pos n ∷ zs) (dims_same ds h g)
     dims_same (Adjustable z ∷ ds) h g =
