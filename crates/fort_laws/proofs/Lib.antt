@@ -22,6 +22,7 @@ pub mod Near
 pub mod PlaceBounds
 pub mod References
 pub mod RulesKept
+pub mod SafeRuns
 pub mod Stepping
 pub mod StorageLaws
 pub mod Tied

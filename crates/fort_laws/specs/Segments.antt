@@ -1,0 +1,64 @@
+-- Runs from one cut point to the next, where no walk on can fail.
+use Rattle.std.specs.Prelude.{ℕ, suc, ◌+◌, ◌≡◌, Bool, true, false, nat_lt, int_le, pos, List, [], ◌∷◌, Option, Some, slice_get}
+use Rattle.formula.specs.declared.value.Value.{Value}
+use Rattle.formula.specs.declared.value.Value.TheVariants.{Int}
+use Rattle.formula.specs.Worth.{Function}
+use Rattle.fort_syntax.specs.declared.name.Name.{Name}
+use Rattle.fort_syntax.specs.declared.condition.Kind.{Kind}
+use Rattle.fort_syntax.specs.declared.dialect.Sort.{Sort}
+use Rattle.fort_syntax.specs.declared.expr.Expr.{Expr}
+use Rattle.fort_syntax.specs.declared.unit.Line.{Line}
+use Rattle.fort_syntax.specs.declared.unit.Unit.{Unit as Routine}
+use Rattle.fort_model.specs.Conditions.{sight}
+use Rattle.fort_model.specs.Evaluate.{Scene}
+use Rattle.fort_model.specs.Events.{Event}
+use Rattle.fort_model.specs.Outcome.{Ended}
+use Rattle.fort_model.specs.Passing.{Caller}
+use Rattle.fort_model.specs.Paths.{Cut, NoCut, AtEnd, AtAssert, cut_at, IsWay}
+use Rattle.fort_model.specs.Program.{Program, Assertion, notes_of}
+use Rattle.fort_model.specs.Run.{run}
+use Rattle.fort_model.specs.Seen.{Named, Answers}
+use Rattle.fort_model.specs.Senses.{of_values}
+use Rattle.fort_model.specs.Storage.{Storage, Environment}
+use Rattle.fort_model.specs.Symbols.{Symbol, LeastInteger, GreatestInteger}
+use Rattle.fort_model.specs.Walk.{arrive, walk_from}
+use Rattle.fort_model.specs.WalkCalls.{Sight}
+use Rattle.fort_laws.specs.GoodStatements.{Stood, HasScalarDims, ReferencesMatch, CallStatementsMatch, IsGood}
+use Rattle.fort_laws.specs.Matches.{AllTrue, FirstFails}
+use Rattle.fort_laws.specs.Unfolded.{run_from}
+use Rattle.fort_laws.specs.Ways.{IsCutUp}
+
+-- the first false event of a walk, if there is one, is no check
+abbrev pub NoCheckFails : List (Event Value) → Type 0
+NoCheckFails es = (kind : Kind) (card : ℕ) → FirstFails kind card es → ⊥
+
+module _ (fs : List Function) (values : Symbol → Value) (program : Program) (i : ℕ) (s : Scene) where
+  abbrev pub seen : Sight Value
+  seen = sight (of_values fs values) program i s.unit
+
+  -- from a point, where names stand for `now`, no way to the next cut point fails at a check
+  abbrev pub IsSafe : Option (List Value) → ℕ → Named Value → Type 0
+  IsSafe clock pc now = (way : List (List ℕ)) (answers : Answers Value) → IsWay program.dialect s.unit (notes_of program i) pc way → NoCheckFails (walk_from seen clock pc now answers way)
+
+  -- A run from a point comes to the end of the unit, or to a point with an ASSERT, from which it goes on as if it began there. All checks
+  -- of the arrival are true, and named values stand for cells.
+  pub data Arrives (clock : Option (List Value)) (pc : ℕ) (st : Storage) : Type 0 where
+    at_end : (now : Named Value) (after : Storage) (cost card : ℕ) → ((n : ℕ) → run_from s.processor s.units s.unit s.environment pc st (cost + n) ≡ Ended tt after n)
+        → Stood s.unit s.environment now after → AllTrue (arrive seen clock card AtEnd now []) → Arrives clock pc st
+    at_assert : (a : Assertion) (q : ℕ) (now : Named Value) (after : Storage) (cost card : ℕ) → cut_at s.unit (notes_of program i) q ≡ AtAssert a
+        → ((n : ℕ) → run_from s.processor s.units s.unit s.environment pc st (cost + n) ≡ run_from s.processor s.units s.unit s.environment q after n)
+        → Stood s.unit s.environment now after → AllTrue (arrive seen clock card (AtAssert a) now []) → Arrives clock pc st
+
+-- On a strict processor of the program's dialect that has all integers up to the bound: where the unit has no uncut cycle, its
+-- statements are good and calls match, a run from a statement from which no walk fails arrives at a cut point.
+abbrev pub SafeRunsArrive : Type 0
+SafeRunsArrive =
+    (fs : List Function) (values : Symbol → Value) (program : Program) (i : ℕ) (s : Scene) (is_reference : Sort → Name → Bool) (is_call : Name → List Expr → Bool)
+    → values LeastInteger ≡ Int s.processor.least → values GreatestInteger ≡ Int s.processor.greatest → s.processor.lazy ≡ false
+    → ((n : ℕ) → nat_lt program.bound n ≡ false → int_le (pos n) s.processor.greatest ≡ true)
+    → s.processor.dialect ≡ program.dialect → HasScalarDims s.unit s.environment
+    → ReferencesMatch fs values program i s (run s.processor s.units) (λ q a. is_reference q a ≡ true) → CallStatementsMatch fs values program i s (run s.processor s.units) (λ g args. is_call g args ≡ true)
+    → ((pc : ℕ) (line : Line) → slice_get s.unit.lines pc ≡ Some line → IsGood s.unit s.environment (λ q a. is_reference q a ≡ true) (λ g args. is_call g args ≡ true) pc line.stmt)
+    → IsCutUp program.dialect s.unit (notes_of program i)
+    → (clock : Option (List Value)) (pc : ℕ) (line : Line) (now : Named Value) (st : Storage) → slice_get s.unit.lines pc ≡ Some line → Stood s.unit s.environment now st
+    → IsSafe fs values program i s clock pc now → Arrives fs values program i s clock pc st
