@@ -1,5 +1,5 @@
 -- Assignments.
-use Rattle.std.proofs.Common.{◌≡◌, ◌≢◌, ℕ, zero, suc, ◌+◌, ◌<◌, ◌≤◌, Bool, true, false, cond, ℤ, pos, ◌-ℤ◌, List, [], ◌∷◌, length, Option, Some, None, slice_set, refl, sym, ap, ◌∙◌, subst, arith, length-set}
+use Rattle.std.proofs.Common.{◌≡◌, ℕ, zero, suc, ◌+◌, ◌<◌, ◌≤◌, ℤ, pos, ◌-ℤ◌, List, ◌∷◌, length, Option, Some, refl, sym, ap, ◌∙◌, subst, arith, length-set}
 use Rattle.formula.specs.declared.function.BuiltIn.TheVariants as f
 use Rattle.formula.specs.declared.value.Cell.{Cell}
 use Rattle.formula.specs.declared.value.Cell.TheVariants as cell
@@ -11,21 +11,18 @@ use Rattle.formula.specs.Worth.{Function}
 use Rattle.fort_syntax.specs.declared.name.Name.{Name}
 use Rattle.fort_syntax.specs.declared.dialect.Sort.{Sort}
 use Rattle.fort_syntax.specs.declared.stmt.Dim.{Dim}
-use Rattle.fort_syntax.specs.declared.unit.DataName.{DataName}
-use Rattle.fort_syntax.specs.declared.unit.Unit.{Unit as Routine}
 use Rattle.fort_model.specs.Conditions.{sight}
 use Rattle.fort_model.specs.Correct.{held_in}
 use Rattle.fort_model.specs.Evaluate as run
 use Rattle.fort_model.specs.Evaluate.{Scene}
-use Rattle.fort_model.specs.Names.{data_name}
-use Rattle.fort_model.specs.Outcome.{Act, give}
-use Rattle.fort_model.specs.Passing.{Taken, Cells, Fresh}
+use Rattle.fort_model.specs.Outcome.{give}
+use Rattle.fort_model.specs.Passing.{Taken, Cells}
 use Rattle.fort_model.specs.Places.{dim_values, place, stretch}
 use Rattle.fort_model.specs.Program.{Program}
-use Rattle.fort_model.specs.Seen.{Named, See}
+use Rattle.fort_model.specs.Seen.{Named}
 use Rattle.fort_model.specs.Senses as sense
 use Rattle.fort_model.specs.Senses.{of_values}
-use Rattle.fort_model.specs.Storage.{Storage, Environment, Extent, load, store, contents}
+use Rattle.fort_model.specs.Storage.{Storage, Extent, store, contents}
 use Rattle.fort_model.specs.Symbols.{Symbol}
 use Rattle.fort_model.specs.WalkCalls.{Sight}
 use Rattle.fort_model.specs.WalkExpr as walk
@@ -36,7 +33,7 @@ use Rattle.fort_laws.specs.Matches.{Matches, Same}
 use Rattle.fort_laws.specs.Places.{AreWithin}
 use Rattle.fort_laws.specs.Standing.{MayBe, Standing}
 use Rattle.fort_laws.specs.Typed.{IsArray}
-use Rattle.fort_laws.proofs.Matching.{followed, stays_then, matches_see, matches_held, matches_made, matches_given}
+use Rattle.fort_laws.proofs.Matching.{followed, matches_held, matches_made, matches_given}
 use Rattle.fort_laws.proofs.MatchedPlaces.{AreOf, AreAsMany, matches_subscripts, place_is}
 use Rattle.fort_laws.proofs.MatchedTests.{maybe_is}
 use Rattle.fort_laws.proofs.PlaceBounds.{LiesIn, lies_in_array, one_less}

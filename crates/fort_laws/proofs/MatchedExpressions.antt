@@ -14,7 +14,6 @@ use Rattle.fort_syntax.specs.declared.dialect.BinOp.{BinOp}
 use Rattle.fort_syntax.specs.declared.dialect.BinOp.TheVariants.{Add, Sub, Mul, Div}
 use Rattle.fort_syntax.specs.declared.dialect.RelOp.{RelOp}
 use Rattle.fort_syntax.specs.declared.dialect.RelOp.TheVariants.{Lt, Le, Eq, Ne, Ge, Gt}
-use Rattle.fort_syntax.specs.declared.dialect.Sort.{Sort}
 use Rattle.fort_syntax.specs.declared.dialect.Sort.TheVariants.{Integer, Logical}
 use Rattle.fort_syntax.specs.declared.unit.Unit.{Unit as Routine}
 use Rattle.fort_model.specs.Cells.{num, holds as run_holds, compares}
@@ -32,7 +31,7 @@ use Rattle.fort_model.specs.Symbols.{Symbol, LeastInteger, GreatestInteger}
 use Rattle.fort_model.specs.WalkCalls.{Sight}
 use Rattle.fort_model.specs.WalkExpr as walk
 use Rattle.fort_laws.specs.Matches.{Matches, Same}
-use Rattle.fort_laws.specs.Standing.{IsOf, IsSort, Of}
+use Rattle.fort_laws.specs.Standing.{IsOf, Of}
 use Rattle.fort_laws.proofs.Matching.{stays_then, matches_see, matches_check, matches_as}
 
 and_one : (b : Bool) → (b && true) ≡ b

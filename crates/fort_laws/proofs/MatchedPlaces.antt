@@ -13,7 +13,6 @@ use Rattle.fort_syntax.specs.declared.dialect.Sort.{Sort}
 use Rattle.fort_syntax.specs.declared.dialect.Sort.TheVariants.{Integer, Logical}
 use Rattle.fort_syntax.specs.declared.stmt.Dim.{Dim}
 use Rattle.fort_syntax.specs.declared.stmt.Dim.TheVariants.{Fixed, Named as Adjustable}
-use Rattle.fort_syntax.specs.declared.unit.DataName.{DataName}
 use Rattle.fort_syntax.specs.declared.unit.Unit.{Unit as Routine}
 use Rattle.fort_model.specs.Cells.{num, is_defined}
 use Rattle.fort_model.specs.Conditions.{sight}
@@ -21,7 +20,6 @@ use Rattle.fort_model.specs.Correct.{held_in}
 use Rattle.fort_model.specs.Evaluate as run
 use Rattle.fort_model.specs.Evaluate.{Scene}
 use Rattle.fort_model.specs.Events.{checks}
-use Rattle.fort_model.specs.Names.{data_name}
 use Rattle.fort_model.specs.Outcome.{give, check}
 use Rattle.fort_model.specs.Places.{dim_value, dim_values, place, place_from, stretch}
 use Rattle.fort_model.specs.Program.{Program}

@@ -1,6 +1,6 @@
 -- Statements: where named values stand for cells, a walk and a strict run perform them alike, by choices that lead on; or the
 -- first check of the walk that is false is the error of the run.
-use Rattle.std.proofs.Common.{◌≡◌, ◌≢◌, ℕ, zero, suc, ◌+◌, ◌<◌, ◌≤◌, Bool, true, false, cond, not, ◌&&◌, ℤ, pos, negsuc, ◌+ℤ◌, ◌-ℤ◌, List, [], ◌∷◌, map, length, Option, Some, None, slice_get, refl, sym, ap, ◌∙◌, subst, arith, rules}
+use Rattle.std.proofs.Common.{◌≡◌, ℕ, zero, suc, ◌+◌, ◌<◌, Bool, true, false, cond, not, ◌&&◌, ℤ, pos, negsuc, ◌+ℤ◌, ◌-ℤ◌, List, [], ◌∷◌, map, length, Option, Some, slice_get, refl, sym, ap, ◌∙◌, subst, arith, rules}
 use Rattle.std.proofs.lemmas.Int.{ints}
 use Rattle.std.specs.Prelude.{nat_lt, int_le, int_lt, ◌==◌}
 use mathlib.Core.Former.{Count}
@@ -8,7 +8,7 @@ use Rattle.formula.specs.declared.function.BuiltIn.TheVariants as f
 use Rattle.formula.specs.declared.value.Cell.{Cell}
 use Rattle.formula.specs.declared.value.Cell.TheVariants as cell
 use Rattle.formula.specs.declared.value.Value.{Value}
-use Rattle.formula.specs.declared.value.Value.TheVariants.{Int, Logical as Truth, Undefined}
+use Rattle.formula.specs.declared.value.Value.TheVariants.{Int}
 use Rattle.formula.specs.Values as value
 use Rattle.formula.specs.Values.{holds, of_cell, is_between, count}
 use Rattle.formula.specs.Worth.{Function}
@@ -24,24 +24,21 @@ use Rattle.fort_syntax.specs.declared.stmt.Dim.{Dim}
 use Rattle.fort_syntax.specs.declared.stmt.Param.{Param}
 use Rattle.fort_syntax.specs.declared.stmt.Stmt.{Stmt}
 use Rattle.fort_syntax.specs.declared.stmt.Stmt.TheVariants.{Subroutine, Function as FunctionHead, Declare, Dimension, Common as CommonBlock, Assign, GoTo, Computed, ArithIf, LogicalIf', Do, Continue, Call, Return, End, BlockIf, ElseIf, Else, EndIf}
-use Rattle.fort_syntax.specs.declared.unit.DataName.{DataName}
-use Rattle.fort_syntax.specs.declared.unit.Unit.{Unit as Routine}
 use Rattle.fort_model.specs.Cells.{num, same, is_defined, holds as run_holds}
 use Rattle.fort_model.specs.Conditions.{sight}
 use Rattle.fort_model.specs.Evaluate as run
 use Rattle.fort_model.specs.Evaluate.{Scene}
-use Rattle.fort_model.specs.Events.{Check, Take}
-use Rattle.fort_model.specs.Flow.{leads, target, Loop, loops_at, loops_around, behind, through, next_point, passed_over, leads_do, leads_computed, one_of, chosen, next_branch}
-use Rattle.fort_model.specs.Names.{Applied, Element, BuiltIn, Reference, applied, data_name, dims_of, is_function, subroutine, unit_at}
-use Rattle.fort_model.specs.Outcome.{Act, Ended, give, check, step, held, put}
-use Rattle.fort_model.specs.Passing.{Taken, Cells, Fresh, Caller, call, passed}
+use Rattle.fort_model.specs.Flow.{leads, target, loops_at, loops_around, behind, next_point, passed_over, leads_do, leads_computed, one_of, next_branch}
+use Rattle.fort_model.specs.Names.{Applied, is_function, subroutine, unit_at}
+use Rattle.fort_model.specs.Outcome.{Act, Ended, give, check, step}
+use Rattle.fort_model.specs.Passing.{Taken, Caller, call, passed}
 use Rattle.fort_model.specs.Perform as perform
 use Rattle.fort_model.specs.Program.{Program}
-use Rattle.fort_model.specs.Seen.{Named, See, ◌>>=◌, ◌>>◌, see, meet}
+use Rattle.fort_model.specs.Seen.{Named, See, ◌>>=◌, ◌>>◌, see}
 use Rattle.fort_model.specs.Senses as sense
 use Rattle.fort_model.specs.Senses.{Sense, of_values}
 use Rattle.fort_model.specs.Sites.{calls_in}
-use Rattle.fort_model.specs.Storage.{Storage, Environment, Extent, load, store}
+use Rattle.fort_model.specs.Storage.{Storage, load, store}
 use Rattle.fort_model.specs.Symbols.{Symbol, LeastInteger, GreatestInteger}
 use Rattle.fort_model.specs.Trees.{carried, row_of}
 use Rattle.fort_model.specs.WalkCalls as walk_call
@@ -49,20 +46,19 @@ use Rattle.fort_model.specs.WalkCalls.{Sight, Operand}
 use Rattle.fort_model.specs.WalkExpr as walk
 use Rattle.fort_model.specs.WalkStmt as steps
 use Rattle.fort_model.specs.WalkStmt.{with_name}
-use Rattle.fort_laws.specs.GoodStatements.{MayBeWritten, Stood, HasScalarDims, IsParameter, IsStep, AreGoodLoops, IsGoodElement, IsLeft, HasLabels, HasResult, HasGoodLoops, IsGood, StatementsMatch}
-use Rattle.fort_laws.specs.Matches.{AllTrue, Matches, moves, fails, Same}
-use Rattle.fort_laws.specs.Standing.{MayBe, Of, IsOf, IsSort, Standing, OperandOf, ActualOf, ActualsOf, CallsMatch}
-use Rattle.fort_laws.specs.StepMatches.{StepMatches, goes, stops}
-use Rattle.fort_laws.specs.Typed.{IsScalar, IsArray, IsTyped, AreInteger, AreActual, row_length}
-use Rattle.fort_laws.specs.Ways.{IsExecutable}
-use Rattle.fort_laws.proofs.Matching.{matches_see, matches_check, matches_as, matches_then, matches_held, matches_fact, matches_twice, stays_then, followed, Stays}
+use Rattle.fort_laws.specs.GoodStatements.{MayBeWritten, Stood, HasScalarDims, AreGoodLoops, IsGoodElement, IsLeft, HasLabels, HasResult, IsGood, StatementsMatch}
+use Rattle.fort_laws.specs.Matches.{AllTrue, Matches, moves, Same}
+use Rattle.fort_laws.specs.Standing.{MayBe, Of, ActualsOf, CallsMatch}
+use Rattle.fort_laws.specs.StepMatches.{StepMatches, goes}
+use Rattle.fort_laws.specs.Typed.{IsScalar, IsArray, IsTyped, AreInteger, row_length}
+use Rattle.fort_laws.proofs.Matching.{matches_see, matches_check, matches_as, matches_held, matches_twice, stays_then, followed}
 use Rattle.fort_laws.proofs.MatchedAssignments.{IsElement, matches_place, element_written}
-use Rattle.fort_laws.proofs.MatchedExpressions.{integer_is, logical_is, matches_ranged, and_two}
-use Rattle.fort_laws.proofs.MatchedOperands.{operands_match, matches_valued, integers_match, actuals_match, AreIntegers, are_of, as_many, Integers}
-use Rattle.fort_laws.proofs.MatchedPlaces.{scalar_stands, scalar_sort}
-use Rattle.fort_laws.proofs.MatchedTests.{scalar_written, matches_variable, matches_parameter, matches_step_value, tests_match, tests_way, maybe_is}
-use Rattle.fort_laws.proofs.Near.{known, statements_lead_on, through_all}
-use Rattle.fort_laws.proofs.Stepping.{HasWay, step_after, step_stays, step_done, step_step, step_as, step_chosen, step_choice, step_joined, step_split, step_same, step_fact, step_written}
+use Rattle.fort_laws.proofs.MatchedExpressions.{integer_is, matches_ranged, and_two}
+use Rattle.fort_laws.proofs.MatchedOperands.{operands_match, matches_valued, integers_match, actuals_match, are_of, as_many, Integers}
+use Rattle.fort_laws.proofs.MatchedPlaces.{scalar_stands}
+use Rattle.fort_laws.proofs.MatchedTests.{scalar_written, matches_variable, matches_parameter, matches_step_value, tests_match}
+use Rattle.fort_laws.proofs.Near.{known, through_all}
+use Rattle.fort_laws.proofs.Stepping.{HasWay, step_after, step_stays, step_done, step_step, step_as, step_chosen, step_joined, step_split, step_fact, step_written}
 
 module _ (fs : List Function) (values : Symbol → Value) (program : Program) (i : ℕ) (s : Scene) (caller : Caller)
     (least : values LeastInteger ≡ Int s.processor.least) (greatest : values GreatestInteger ≡ Int s.processor.greatest) (strict : s.processor.lazy ≡ false)
@@ -71,9 +67,8 @@ module _ (fs : List Function) (values : Symbol → Value) (program : Program) (i
     (IsReference : Sort → Name → Type 0) (IsCall : Name → List Expr → Type 0)
     (references : (st : Storage) (now : Named Value) → Stood s.unit s.environment now st → CallsMatch fs values program i s caller st now IsReference)
     (calls : (st : Storage) (now : Named Value) → Stood s.unit s.environment now st → (card k : ℕ) (g : Name) (args : List Expr) (xs : List (Operand Value)) (ts : List Taken) → IsCall g args → ActualsOf s st now xs ts
-        → Matches (λ r c after. Stood s.unit s.environment (r.0) after) (walk_call.call (sight (of_values fs values) program i s.unit) card (subroutine program.units g) now xs)
-        (call caller s.environment (unit_at s.units (subroutine s.units g)) (passed (s.processor.copies s.unit.name k) 1 ts)) st) where
-
+    → Matches (λ r c after. Stood s.unit s.environment (r.0) after) (walk_call.call (sight (of_values fs values) program i s.unit) card (subroutine program.units g) now xs)
+    (call caller s.environment (unit_at s.units (subroutine s.units g)) (passed (s.processor.copies s.unit.name k) 1 ts)) st) where
   abbrev w : Sight Value
   w = sight (of_values fs values) program i s.unit
 

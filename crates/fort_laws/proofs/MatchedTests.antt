@@ -1,12 +1,12 @@
 -- The tests of DOs behind a statement.
-use Rattle.std.proofs.Common.{◌≡◌, ◌≢◌, ℕ, zero, suc, ◌+◌, ◌<◌, ◌≤◌, Bool, true, false, cond, not, ℤ, pos, ◌+ℤ◌, List, [], ◌∷◌, map, length, Option, Some, None, slice_get, refl, sym, ap, ◌∙◌, subst, arith, length-set}
+use Rattle.std.proofs.Common.{◌≡◌, ℕ, suc, ◌+◌, ◌≤◌, Bool, true, false, cond, ℤ, pos, ◌+ℤ◌, List, [], ◌∷◌, length, Option, Some, None, refl, sym, ap, ◌∙◌, subst, arith, length-set}
 use Rattle.std.proofs.lemmas.Int.{ints}
 use Rattle.std.specs.Prelude.{nat_lt, int_le, int_lt, ◌==◌}
 use Rattle.formula.specs.declared.function.BuiltIn.TheVariants as f
 use Rattle.formula.specs.declared.value.Cell.{Cell}
 use Rattle.formula.specs.declared.value.Cell.TheVariants as cell
 use Rattle.formula.specs.declared.value.Value.{Value}
-use Rattle.formula.specs.declared.value.Value.TheVariants.{Int, Undefined}
+use Rattle.formula.specs.declared.value.Value.TheVariants.{Int}
 use Rattle.formula.specs.Values as value
 use Rattle.formula.specs.Values.{holds, of_cell}
 use Rattle.formula.specs.Worth.{Function}
@@ -14,24 +14,21 @@ use Rattle.fort_syntax.specs.declared.name.Name.{Name}
 use Rattle.fort_syntax.specs.declared.dialect.Dialect.{Dialect}
 use Rattle.fort_syntax.specs.declared.dialect.Dialect.TheVariants.{Common, SeventySeven}
 use Rattle.fort_syntax.specs.declared.dialect.Sort.{Sort}
-use Rattle.fort_syntax.specs.declared.dialect.Sort.TheVariants.{Integer, Logical}
+use Rattle.fort_syntax.specs.declared.dialect.Sort.TheVariants.{Integer}
 use Rattle.fort_syntax.specs.declared.stmt.Param.{Param}
 use Rattle.fort_syntax.specs.declared.stmt.Param.TheVariants as param
-use Rattle.fort_syntax.specs.declared.unit.DataName.{DataName}
 use Rattle.fort_syntax.specs.declared.unit.Unit.{Unit as Routine}
 use Rattle.fort_model.specs.Cells.{num}
 use Rattle.fort_model.specs.Conditions.{sight}
 use Rattle.fort_model.specs.Correct.{held_in}
 use Rattle.fort_model.specs.Evaluate as run
 use Rattle.fort_model.specs.Evaluate.{Scene}
-use Rattle.fort_model.specs.Events.{Check, Take}
 use Rattle.fort_model.specs.Flow.{Loop, through}
-use Rattle.fort_model.specs.Names.{data_name}
-use Rattle.fort_model.specs.Outcome.{Act, Ended, give, step, held, put}
+use Rattle.fort_model.specs.Outcome.{Act, Ended, give}
 use Rattle.fort_model.specs.Perform as perform
 use Rattle.fort_model.specs.Places.{stretch, dim_values}
 use Rattle.fort_model.specs.Program.{Program}
-use Rattle.fort_model.specs.Seen.{Named, See, ◌>>=◌, ◌>>◌, see, meet}
+use Rattle.fort_model.specs.Seen.{Named, See, ◌>>◌, see}
 use Rattle.fort_model.specs.Senses as sense
 use Rattle.fort_model.specs.Senses.{Sense, of_values}
 use Rattle.fort_model.specs.Storage.{Storage, Environment, load, store}
@@ -42,7 +39,7 @@ use Rattle.fort_model.specs.WalkStmt as steps
 use Rattle.fort_model.specs.WalkStmt.{with_name}
 use Rattle.fort_laws.specs.GoodStatements.{MayBeWritten, Stood, HasScalarDims, IsParameter, IsStep, IsGoodLoop, AreGoodLoops}
 use Rattle.fort_laws.specs.Matches.{Matches, moves, Same}
-use Rattle.fort_laws.specs.Standing.{MayBe, Of, IsOf, Standing}
+use Rattle.fort_laws.specs.Standing.{MayBe, Of, Standing}
 use Rattle.fort_laws.specs.StepMatches.{StepMatches}
 use Rattle.fort_laws.specs.Typed.{IsScalar}
 use Rattle.fort_laws.proofs.Matching.{matches_see, followed}
@@ -91,7 +88,6 @@ module _ (fs : List Function) (values : Symbol → Value) (program : Program) (i
     (least : values LeastInteger ≡ Int s.processor.least) (greatest : values GreatestInteger ≡ Int s.processor.greatest)
     (bounded : (n : ℕ) → nat_lt program.bound n ≡ false → int_le (pos n) s.processor.greatest ≡ true)
     (dialects : s.processor.dialect ≡ program.dialect) (dims : HasScalarDims s.unit s.environment) where
-
   abbrev w : Sight Value
   w = sight (of_values fs values) program i s.unit
 
@@ -162,12 +158,12 @@ module _ (fs : List Function) (values : Symbol → Value) (program : Program) (i
   module _ (card q : ℕ) (d : Loop) (ds : List Loop) (good : IsGoodLoop s.unit s.environment d) (st : Storage) (now : Named Value) (stood : Stood s.unit s.environment now st)
       (sum : Value) (c : Cell) (last : Value) (b : Cell) (sum_is : Of Integer sum c) (last_is : Of Integer last b)
       (rest : (next : Named Value) (after : Storage) → Stood s.unit s.environment next after
-          → StepMatches chosen_list (through q ds) (λ cs. steps.tests w card next ds cs) (perform.tests s card ds) After after) where
+      → StepMatches chosen_list (through q ds) (λ cs. steps.tests w card next ds cs) (perform.tests s card ds) After after) where
     abbrev part : Pair → See Value (Named Value)
     part c2 =
         cond (c2.0 == 1)
-            (steps.taken w (sense.make2 (of_values fs values) f.AtMost sum last) >> see (with_name now d.variable sum))
-            (steps.taken w (sense.make2 (of_values fs values) f.Less last sum) >> steps.tests w card (with_name now d.variable (steps.left_with w program.dialect sum)) ds (c2.1))
+        (steps.taken w (sense.make2 (of_values fs values) f.AtMost sum last) >> see (with_name now d.variable sum))
+        (steps.taken w (sense.make2 (of_values fs values) f.Less last sum) >> steps.tests w card (with_name now d.variable (steps.left_with w program.dialect sum)) ds (c2.1))
 
     abbrev again : Act (List ℕ)
     again = followed (perform.set_variable s d.variable c) (λ _. give (1 ∷ []))

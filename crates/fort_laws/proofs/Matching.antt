@@ -1,10 +1,9 @@
 -- Parts of walks, in the sense of values, and parts of strict runs: where they go on alike, and where the first event
 -- that is false is a check and the run errs with it.
-use Rattle.std.proofs.Common.{◌≡◌, ℕ, suc, ◌+◌, ◌⊎◌, inl, inr, Bool, true, false, cond, List, [], ◌∷◌, ◌++◌, refl, sym, ap, ◌∙◌, subst, arith}
+use Rattle.std.proofs.Common.{◌≡◌, ℕ, suc, ◌+◌, inl, inr, Bool, true, false, cond, List, [], ◌∷◌, ◌++◌, refl, sym, ap, ◌∙◌, subst, arith}
 use Rattle.formula.specs.declared.value.Value.{Value}
 use Rattle.formula.specs.Values.{holds}
 use Rattle.fort_syntax.specs.declared.condition.Kind.{Kind}
-use Rattle.fort_syntax.specs.declared.condition.Kind.TheVariants.{InputCheck}
 use Rattle.fort_model.specs.Events.{Event, Check, Take}
 use Rattle.fort_model.specs.Outcome.{Outcome, Ended, Erred, Running, and_then, Act, give, check, step, held}
 use Rattle.fort_model.specs.Seen.{Answers, Seen, See, ◌>>=◌, see, meet}

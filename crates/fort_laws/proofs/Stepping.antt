@@ -1,9 +1,8 @@
 -- Statements of walks and of strict runs: how they are put together.
-use Rattle.std.proofs.Common.{◌≡◌, ℕ, zero, suc, ◌+◌, ◌⊎◌, inl, inr, Bool, true, false, cond, List, [], ◌∷◌, ◌++◌, Option, Some, None, refl, sym, ap, ◌∙◌, subst, arith}
+use Rattle.std.proofs.Common.{◌≡◌, ℕ, suc, ◌+◌, true, List, [], ◌∷◌, Option, Some, refl, sym, ap, ◌∙◌, subst, arith}
 use Rattle.formula.specs.declared.value.Value.{Value}
 use Rattle.formula.specs.Values.{holds}
-use Rattle.fort_syntax.specs.declared.condition.Kind.{Kind}
-use Rattle.fort_model.specs.Outcome.{Outcome, Ended, Erred, Running, and_then, Act, give, step, held, put}
+use Rattle.fort_model.specs.Outcome.{Outcome, Ended, Erred, Running, and_then, Act, give, step}
 use Rattle.fort_model.specs.Events.{Take}
 use Rattle.fort_model.specs.Seen.{Named, Answers, Seen, See, ◌>>=◌, see, meet}
 use Rattle.fort_model.specs.Storage.{Storage}

@@ -1,28 +1,24 @@
 -- Where named values stand for cells, and a cell of a name is written, the name's new value stands for its cells.
-use Rattle.std.proofs.Common.{◌≡◌, ◌≢◌, ℕ, zero, suc, ◌+◌, ◌-◌, ◌<◌, ◌≤◌, Bool, true, false, cond, ℤ, pos, List, [], ◌∷◌, map, length, Option, Some, None, slice_get, slice_set, get_or, eqb, ◌⊎◌, inl, inr, refl, sym, ap, ◌∙◌, subst, arith, get_or-set_same, get_or-set_other, length-set}
+use Rattle.std.proofs.Common.{◌≡◌, ◌≢◌, ℕ, zero, suc, ◌+◌, ◌<◌, ◌≤◌, Bool, false, cond, ℤ, pos, List, [], ◌∷◌, length, Some, slice_set, eqb, ◌⊎◌, inl, inr, refl, sym, ap, ◌∙◌, subst, arith, get_or-set_same, get_or-set_other}
 use Rattle.formula.specs.declared.value.Cell.{Cell}
 use Rattle.formula.specs.declared.value.Cell.TheVariants as cell
 use Rattle.formula.specs.declared.value.Value.{Value}
-use Rattle.formula.specs.declared.value.Value.TheVariants.{Int, Cells as CellList}
-use Rattle.formula.specs.Values as value
+use Rattle.formula.specs.declared.value.Value.TheVariants.{Cells as CellList}
 use Rattle.formula.specs.Values.{of_cell}
 use Rattle.fort_syntax.specs.declared.name.Name.{Name}
-use Rattle.fort_syntax.specs.declared.dialect.Sort.{Sort}
 use Rattle.fort_syntax.specs.declared.stmt.Dim.{Dim}
 use Rattle.fort_syntax.specs.declared.stmt.Dim.TheVariants.{Fixed, Named as Adjustable}
 use Rattle.fort_syntax.specs.declared.unit.DataName.{DataName}
 use Rattle.fort_syntax.specs.declared.unit.Unit.{Unit as Routine}
 use Rattle.fort_model.specs.Cells.{num}
 use Rattle.fort_model.specs.Correct.{held_in}
-use Rattle.fort_model.specs.Fits.{IsIn}
 use Rattle.fort_model.specs.Names.{same_name, data_name}
-use Rattle.fort_model.specs.Places.{dim_value, dim_values, stretch}
+use Rattle.fort_model.specs.Places.{dim_values, stretch}
 use Rattle.fort_model.specs.Seen.{Named}
-use Rattle.fort_model.specs.Storage.{Storage, Environment, Extent, load, store, contents}
+use Rattle.fort_model.specs.Storage.{Storage, Environment, load, store, contents}
 use Rattle.fort_model.specs.WalkStmt.{with_name}
 use Rattle.fort_laws.specs.GoodStatements.{DimsAreOther, MayBeWritten, DimsAreScalars}
 use Rattle.fort_laws.specs.Standing.{MayBe, Standing}
-use Rattle.fort_laws.specs.Typed.{IsScalar}
 use Rattle.fort_laws.proofs.FrameEnter.{SameOrNot, same, other, same_or_not}
 use Rattle.fort_laws.proofs.Near.{known}
 

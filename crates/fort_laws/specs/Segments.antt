@@ -1,5 +1,5 @@
 -- Runs from one cut point to the next, where no walk on can fail.
-use Rattle.std.specs.Prelude.{ℕ, suc, ◌+◌, ◌≡◌, Bool, true, false, nat_lt, int_le, pos, List, [], ◌∷◌, Option, Some, slice_get}
+use Rattle.std.specs.Prelude.{ℕ, ◌+◌, ◌≡◌, Bool, true, false, nat_lt, int_le, pos, List, [], Option, Some, slice_get}
 use Rattle.formula.specs.declared.value.Value.{Value}
 use Rattle.formula.specs.declared.value.Value.TheVariants.{Int}
 use Rattle.formula.specs.Worth.{Function}
@@ -8,18 +8,16 @@ use Rattle.fort_syntax.specs.declared.condition.Kind.{Kind}
 use Rattle.fort_syntax.specs.declared.dialect.Sort.{Sort}
 use Rattle.fort_syntax.specs.declared.expr.Expr.{Expr}
 use Rattle.fort_syntax.specs.declared.unit.Line.{Line}
-use Rattle.fort_syntax.specs.declared.unit.Unit.{Unit as Routine}
 use Rattle.fort_model.specs.Conditions.{sight}
 use Rattle.fort_model.specs.Evaluate.{Scene}
 use Rattle.fort_model.specs.Events.{Event}
 use Rattle.fort_model.specs.Outcome.{Ended}
-use Rattle.fort_model.specs.Passing.{Caller}
-use Rattle.fort_model.specs.Paths.{Cut, NoCut, AtEnd, AtAssert, cut_at, IsWay}
+use Rattle.fort_model.specs.Paths.{AtEnd, AtAssert, cut_at, IsWay}
 use Rattle.fort_model.specs.Program.{Program, Assertion, notes_of}
 use Rattle.fort_model.specs.Run.{run}
 use Rattle.fort_model.specs.Seen.{Named, Answers}
 use Rattle.fort_model.specs.Senses.{of_values}
-use Rattle.fort_model.specs.Storage.{Storage, Environment}
+use Rattle.fort_model.specs.Storage.{Storage}
 use Rattle.fort_model.specs.Symbols.{Symbol, LeastInteger, GreatestInteger}
 use Rattle.fort_model.specs.Walk.{arrive, walk_from}
 use Rattle.fort_model.specs.WalkCalls.{Sight}
