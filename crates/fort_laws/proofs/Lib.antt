@@ -1,6 +1,7 @@
 pub mod BothParts
 pub mod BothSenses
 pub mod BothWalks
+pub mod Descents
 pub mod Exact
 pub mod Falling
 pub mod FrameCalls

@@ -34,7 +34,7 @@ use Rattle.fort_model.specs.WalkCalls.{Sight}
 use Rattle.fort_model.specs.WalkStmt.{performed}
 use Rattle.fort_laws.specs.GoodStatements.{Stood, IsGood, StatementsStep}
 use Rattle.fort_laws.specs.Matches.{AllTrue, FirstFails}
-use Rattle.fort_laws.specs.Segments.{NoCheckFails, IsSafe, Arrives, at_end, at_assert, SafeRunsArrive}
+use Rattle.fort_laws.specs.Segments.{NoCheckFails, IsSafe, KeepsUnsmashed, StatementsKeep, Arrives, at_end, at_assert, SafeRunsArrive}
 use Rattle.fort_laws.specs.StepMatches.{StepMatches, goes, stops}
 use Rattle.fort_laws.specs.Unfolded.{run_from}
 use Rattle.fort_laws.specs.Ways.{IsCutUp, AreExecutable, IsExecutable, Completed}
@@ -59,7 +59,7 @@ only_checks kind card [] = tt
 only_checks kind card (v ∷ vs) = only_checks kind card vs
 
 -- checks of which none fails are all true
-all_checks_true : (es : List (Event Value)) → OnlyChecks es → NoCheckFails es → AllTrue es
+pub all_checks_true : (es : List (Event Value)) → OnlyChecks es → NoCheckFails es → AllTrue es
 all_checks_true [] h n = tt
 all_checks_true (Check kind card v ∷ es) h n =
     known (holds v)
@@ -95,7 +95,7 @@ good_is_executable u env IsReference IsCall pc (CommonBlock groups) h = absurd h
 good_is_executable u env IsReference IsCall pc End h = absurd h
 
 -- answers of calls, of which nothing is known
-no_answers : Answers Value
+pub no_answers : Answers Value
 no_answers k = record { names = λ x. Undefined; result = λ f. Undefined }
 
 module _ (fs : List Function) (values : Symbol → Value) (program : Program) (i : ℕ) (s : Scene) (dialects : s.processor.dialect ≡ program.dialect) where
@@ -130,7 +130,7 @@ module _ (fs : List Function) (values : Symbol → Value) (program : Program) (i
           (λ choices. go_to (leads s.processor.dialect s.unit pc l.stmt choices) (run_from s.processor s.units s.unit s.environment)))
 
   -- a run that arrives behind the last statement is over
-  end_is : (q : ℕ) (st : Storage) (n : ℕ) → slice_get s.unit.lines q ≡ None → run_from s.processor s.units s.unit s.environment q st n ≡ Ended tt st n
+  pub end_is : (q : ℕ) (st : Storage) (n : ℕ) → slice_get s.unit.lines q ≡ None → run_from s.processor s.units s.unit s.environment q st n ≡ Ended tt st n
   end_is q st n e =
       (runs_unfold s.processor s.units s.unit s.environment st n).1 q
       ∙ ap (λ (o : Option Line). at_line o body st n) e
@@ -140,7 +140,7 @@ module _ (fs : List Function) (values : Symbol → Value) (program : Program) (i
           (λ choices. go_to (leads s.processor.dialect s.unit q l.stmt choices) (run_from s.processor s.units s.unit s.environment)))
 
   -- no statement stands at the end
-  none_at : (q : ℕ) → cut_at s.unit notes q ≡ AtEnd → slice_get s.unit.lines q ≡ None
+  pub none_at : (q : ℕ) → cut_at s.unit notes q ≡ AtEnd → slice_get s.unit.lines q ≡ None
   none_at q c = go (slice_get s.unit.lines q) refl c
     where
       by_assertion : (a : Option Assertion) → cut_of a ≡ AtEnd → ⊥
@@ -152,14 +152,14 @@ module _ (fs : List Function) (values : Symbol → Value) (program : Program) (i
       go (Some line) e c = absurd (by_assertion (assertion_at notes q) c)
 
   -- what is met on arrival at a cut point are checks
-  only_at_end : (clock : Option (List Value)) (card : ℕ) (now : Named Value) → OnlyChecks (arrive w clock card AtEnd now [])
+  pub only_at_end : (clock : Option (List Value)) (card : ℕ) (now : Named Value) → OnlyChecks (arrive w clock card AtEnd now [])
   only_at_end clock card now = only_checks OutputCheck card (map (note w.sense (at_entry w) now) notes.output)
 
   only_fall : (card : ℕ) (clock : Option (List Value)) (new : List Value) → OnlyChecks (fall w card clock new)
   only_fall card None new = tt
   only_fall card (Some old) new = tt
 
-  only_at_assert : (clock : Option (List Value)) (card : ℕ) (a : Assertion) (now : Named Value) → OnlyChecks (arrive w clock card (AtAssert a) now [])
+  pub only_at_assert : (clock : Option (List Value)) (card : ℕ) (a : Assertion) (now : Named Value) → OnlyChecks (arrive w clock card (AtAssert a) now [])
   only_at_assert clock card a now =
       only_append (checks AssertCheck a.card (map told a.terms) ++ checks ClockCheck a.card (map (λ t. not_negative w (told t)) a.clock)) (fall w a.card clock (map told a.clock))
       (only_append (checks AssertCheck a.card (map told a.terms)) (checks ClockCheck a.card (map (λ t. not_negative w (told t)) a.clock))
@@ -186,7 +186,8 @@ module _ (fs : List Function) (values : Symbol → Value) (program : Program) (i
         (true_all : (answers : Answers Value) → AllTrue (performed w line.card pc now line.stmt cs (pre answers)).events)
         (value : (answers : Answers Value) → (performed w line.card pc now line.stmt cs (pre answers)).value ≡ next)
         (rest : (answers : Answers Value) → (performed w line.card pc now line.stmt cs (pre answers)).rest ≡ answers)
-        (runs : (n : ℕ) → perform s (run s.processor s.units) line.card pc (calls_before s.unit pc) line.stmt st (cost + n) ≡ Ended cs after n) (stood : Stood s.unit s.environment next after) where
+        (runs : (n : ℕ) → perform s (run s.processor s.units) line.card pc (calls_before s.unit pc) line.stmt st (cost + n) ≡ Ended cs after n) (stood : Stood s.unit s.environment next after)
+        (kept : KeepsUnsmashed fs values program i s next) where
       -- behind the statement no check fails
       safe_on : (way : List (List ℕ)) (answers : Answers Value) → over_or program.dialect s.unit notes (cut_at s.unit notes q) way (IsWay program.dialect s.unit notes q way)
           → NoCheckFails (arrive w clock line.card (cut_at s.unit notes q) next (walk_from w clock q next answers way))
@@ -205,8 +206,8 @@ module _ (fs : List Function) (values : Symbol → Value) (program : Program) (i
       longer more n = ap (run_from s.processor s.units s.unit s.environment pc st) (let same : suc cost + more + n ≡ suc cost + (more + n) = omega arith in same) ∙ runs_on (more + n)
 
       stepped : Arrives fs values program i s clock q after → Arrives fs values program i s clock pc st
-      stepped (at_end now2 last more card ends stood2 true2) = at_end now2 last (suc cost + more) card (λ n. longer more n ∙ ends n) stood2 true2
-      stepped (at_assert a q2 now2 last more card c goes2 stood2 true2) = at_assert a q2 now2 last (suc cost + more) card c (λ n. longer more n ∙ goes2 n) stood2 true2
+      stepped (at_end now2 last more card ends stood2 kept2 true2) = at_end now2 last (suc cost + more) card (λ n. longer more n ∙ ends n) stood2 kept2 true2
+      stepped (at_assert a q2 now2 last more card c goes2 stood2 kept2 true2) = at_assert a q2 now2 last (suc cost + more) card c (λ n. longer more n ∙ goes2 n) stood2 kept2 true2
 
       by_cut : (c : Cut) → cut_at s.unit notes q ≡ c → (cut_at s.unit notes q ≡ NoCut → IsSafe fs values program i s clock q next → Arrives fs values program i s clock q after)
           → Arrives fs values program i s clock pc st
@@ -215,12 +216,12 @@ module _ (fs : List Function) (values : Symbol → Value) (program : Program) (i
           subst (λ (k : Cut). NoCheckFails (arrive w clock line.card k next (walk_from w clock q next answers way))) c
           (safe_on way answers (subst (λ (k : Cut). over_or program.dialect s.unit notes k way (IsWay program.dialect s.unit notes q way)) (sym c) is))))
       by_cut AtEnd c on =
-          at_end next after (suc cost) line.card (λ n. runs_on n ∙ end_is q after n (none_at q c)) stood
+          at_end next after (suc cost) line.card (λ n. runs_on n ∙ end_is q after n (none_at q c)) stood kept
           (all_checks_true _ (only_at_end clock line.card next)
           (subst (λ (k : Cut). NoCheckFails (arrive w clock line.card k next [])) c
           (safe_on [] no_answers (subst (λ (k : Cut). over_or program.dialect s.unit notes k [] (IsWay program.dialect s.unit notes q [])) (sym c) refl))))
       by_cut (AtAssert a) c on =
-          at_assert a q next after (suc cost) line.card c runs_on stood
+          at_assert a q next after (suc cost) line.card c runs_on stood kept
           (all_checks_true _ (only_at_assert clock line.card a next)
           (subst (λ (k : Cut). NoCheckFails (arrive w clock line.card k next [])) c
           (safe_on [] no_answers (subst (λ (k : Cut). over_or program.dialect s.unit notes k [] (IsWay program.dialect s.unit notes q [])) (sym c) refl))))
@@ -228,31 +229,32 @@ module _ (fs : List Function) (values : Symbol → Value) (program : Program) (i
   module _ (IsReference : Sort → Name → Type 0) (IsCall : Name → List Expr → Type 0)
       (steps : StatementsStep fs values program i s (run s.processor s.units) IsReference IsCall)
       (good : (pc : ℕ) (line : Line) → slice_get s.unit.lines pc ≡ Some line → IsGood s.unit s.environment IsReference IsCall pc line.stmt)
-      (cut : IsCutUp program.dialect s.unit notes) where
+      (cut : IsCutUp program.dialect s.unit notes) (keep : StatementsKeep fs values program i s) where
     executable : AreExecutable s.unit
     executable pc line e = good_is_executable s.unit s.environment IsReference IsCall pc line.stmt (good pc line e)
 
-    by_step : (clock : Option (List Value)) (pc : ℕ) (line : Line) (now : Named Value) (st : Storage) → slice_get s.unit.lines pc ≡ Some line → IsSafe fs values program i s clock pc now
+    by_step : (clock : Option (List Value)) (pc : ℕ) (line : Line) (now : Named Value) (st : Storage) → slice_get s.unit.lines pc ≡ Some line → KeepsUnsmashed fs values program i s now → IsSafe fs values program i s clock pc now
         → StepMatches (λ (cs : List ℕ). cs) (leads s.processor.dialect s.unit pc line.stmt) (λ cs. performed w line.card pc now line.stmt cs)
         (perform s (run s.processor s.units) line.card pc (calls_before s.unit pc) line.stmt) (Stood s.unit s.environment) st
         → ((cs : List ℕ) (q : ℕ) → Edge program.dialect s.unit pc cs q → cut_at s.unit notes q ≡ NoCut → (next : Named Value) (after : Storage) → Stood s.unit s.environment next after
-        → IsSafe fs values program i s clock q next → Arrives fs values program i s clock q after)
+        → KeepsUnsmashed fs values program i s next → IsSafe fs values program i s clock q next → Arrives fs values program i s clock q after)
         → Arrives fs values program i s clock pc st
-    by_step clock pc line now st e safe (goes cs q to pre next after cost t v r runs stood) on =
-        by_cut clock pc line now st e safe cs q to pre next after cost t v r runs stood (cut_at s.unit notes q) refl
-        (λ c safe2. on cs q (record { line = line; at = e; to = to_walk clock pc line now st e safe cs q to }) c next after stood safe2)
-    by_step clock pc line now st e safe (stops cs q to pre kind card f err) on =
+    by_step clock pc line now st e kept safe (goes cs q to pre next after cost t v r runs stood) on =
+        let kept2 : KeepsUnsmashed fs values program i s next = subst (λ (x : Named Value). KeepsUnsmashed fs values program i s x) (v no_answers) (keep pc line now (pre no_answers) cs e kept) in
+        by_cut clock pc line now st e safe cs q to pre next after cost t v r runs stood kept2 (cut_at s.unit notes q) refl
+        (λ c safe2. on cs q (record { line = line; at = e; to = to_walk clock pc line now st e safe cs q to }) c next after stood kept2 safe2)
+    by_step clock pc line now st e kept safe (stops cs q to pre kind card f err) on =
         absurd (no_stop clock pc line now st e safe cs q to
         (complete program.dialect s.unit notes executable pc (near_all program.dialect s.unit notes cut pc) line cs q e (to_walk clock pc line now st e safe cs q to)) (pre no_answers) kind card (f no_answers))
 
     arrives : (clock : Option (List Value)) (pc : ℕ) → Near program.dialect s.unit notes pc → (line : Line) (now : Named Value) (st : Storage) → slice_get s.unit.lines pc ≡ Some line
-        → Stood s.unit s.environment now st → IsSafe fs values program i s clock pc now → Arrives fs values program i s clock pc st
-    arrives clock pc (near h) line now st e stood safe =
-        by_step clock pc line now st e safe (steps st now stood line.stmt line.card pc (calls_before s.unit pc) (good pc line e))
-        (λ cs q edge c next after stood2 safe2. let l = line_from program.dialect s.unit notes q c in arrives clock q (h cs q edge c) l.0 next after l.1 stood2 safe2)
+        → Stood s.unit s.environment now st → KeepsUnsmashed fs values program i s now → IsSafe fs values program i s clock pc now → Arrives fs values program i s clock pc st
+    arrives clock pc (near h) line now st e stood kept safe =
+        by_step clock pc line now st e kept safe (steps st now stood line.stmt line.card pc (calls_before s.unit pc) (good pc line e))
+        (λ cs q edge c next after stood2 kept2 safe2. let l = line_from program.dialect s.unit notes q c in arrives clock q (h cs q edge c) l.0 next after l.1 stood2 kept2 safe2)
 
 pub safe_runs_arrive : SafeRunsArrive
-safe_runs_arrive fs values program i s is_reference is_call least greatest strict bounded dialects dims references calls good cut clock pc line now st e stood safe =
+safe_runs_arrive fs values program i s is_reference is_call least greatest strict bounded dialects dims references calls good cut keep clock pc line now st e stood kept safe =
     arrives fs values program i s dialects (λ q a. is_reference q a ≡ true) (λ g args. is_call g args ≡ true)
-    (statements_match fs values program i s (run s.processor s.units) is_reference is_call least greatest strict bounded dialects dims references calls) good cut clock pc
-    (near_all program.dialect s.unit (notes_of program i) cut pc) line now st e stood safe
+    (statements_match fs values program i s (run s.processor s.units) is_reference is_call least greatest strict bounded dialects dims references calls) good cut keep clock pc
+    (near_all program.dialect s.unit (notes_of program i) cut pc) line now st e stood kept safe

@@ -1,5 +1,6 @@
-// Runs from one cut point to the next.
+// Runs from one cut point to the next, and to the end of a unit.
 ghost use Rattle.fort_laws.specs.Segments.{SafeRunsArrive};
+ghost use Rattle.fort_laws.specs.WholeRuns.{SafeRunsEnd};
 
 /// In a unit that no cycle goes uncut, take a statement of a strict run where named values stand
 /// for the cells. If on no way from there to the next cut point a check is the first event to
@@ -9,4 +10,13 @@ ghost use Rattle.fort_laws.specs.Segments.{SafeRunsArrive};
 /// Statements are taken to be good, and calls to match. It does nothing.
 pub fn safe_runs_arrive()
     ensures { SafeRunsArrive }
+{}
+
+/// In such a unit, where the clocks of all ASSERTs have equally many parts, and where from an
+/// ASSERT that is true no check is the first to fail on a way to the next cut point: a strict run
+/// from a point from which no check is the first to fail comes to the end of the unit, in some
+/// number of steps and without error, and all of OUTPUT is true there. The same is taken as in
+/// `safe_runs_arrive`. It does nothing.
+pub fn safe_runs_end()
+    ensures { SafeRunsEnd }
 {}
