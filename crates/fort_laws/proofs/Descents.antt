@@ -1,5 +1,5 @@
 -- Runs from which no walk fails come to the end of their unit.
-use Rattle.std.proofs.Common.{◌≡◌, ℕ, suc, ◌+◌, Bool, true, false, ◌&&◌, ◌||◌, ℤ, pos, int_lt, int_le, List, [], ◌∷◌, ◌++◌, map, length, Option, Some, None, slice_get, refl, sym, ap, ◌∙◌, subst, arith}
+use Rattle.std.proofs.Common.{◌≡◌, ℕ, suc, ◌+◌, Bool, true, false, ◌&&◌, ◌||◌, ℤ, int_lt, int_le, List, [], ◌∷◌, ◌++◌, map, length, Option, Some, None, slice_get, refl, sym, ap, ◌∙◌, subst, arith}
 use Rattle.formula.specs.declared.value.Value.{Value}
 use Rattle.formula.specs.Tree.{Tree}
 use Rattle.formula.specs.Values.{holds, num}
@@ -8,9 +8,9 @@ use Rattle.fort_syntax.specs.declared.condition.Kind.TheVariants.{AssertCheck, C
 use Rattle.fort_syntax.specs.declared.unit.Line.{Line}
 use Rattle.fort_model.specs.Evaluate.{Scene}
 use Rattle.fort_model.specs.Events.{Event, Check, Take, checks}
-use Rattle.fort_model.specs.Paths.{Cut, NoCut, AtEnd, AtAssert, cut_of, cut_in, cut_at, over_or, IsWay}
+use Rattle.fort_model.specs.Paths.{Cut, NoCut, AtEnd, AtAssert, cut_in, cut_at, over_or, IsWay}
 use Rattle.fort_model.specs.Program.{Program, Assertion, Notes, notes_of, assertion_at}
-use Rattle.fort_model.specs.Seen.{Named, Answers}
+use Rattle.fort_model.specs.Seen.{Named}
 use Rattle.fort_model.specs.Senses.{note}
 use Rattle.fort_model.specs.Storage.{Storage}
 use Rattle.fort_model.specs.Symbols.{Symbol}
