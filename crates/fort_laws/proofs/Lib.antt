@@ -30,4 +30,5 @@ pub mod Tied
 pub mod TiedParts
 pub mod TiedRuns
 pub mod Unfolding
+pub mod WalkKeeps
 pub mod Written

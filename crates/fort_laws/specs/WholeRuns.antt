@@ -10,10 +10,13 @@ use Rattle.fort_syntax.specs.declared.unit.Line.{Line}
 use Rattle.fort_model.specs.Evaluate.{Scene}
 use Rattle.fort_model.specs.Outcome.{Ended}
 use Rattle.fort_model.specs.Paths.{AtEnd, AtAssert, cut_at, over_or, IsWay}
-use Rattle.fort_model.specs.Program.{Program, Assertion, notes_of}
+use Rattle.fort_model.specs.Program.{Program, Assertion, notes_of, has_common, commons}
 use Rattle.fort_model.specs.Run.{run}
 use Rattle.fort_model.specs.Seen.{Named, Answers}
 use Rattle.fort_model.specs.Senses.{note}
+use Rattle.fort_model.specs.Lists.{IsAmong}
+use Rattle.fort_model.specs.Smashes.{HoldsSmashed}
+use Rattle.fort_syntax.specs.declared.unit.Unit.{Unit as Routine}
 use Rattle.fort_model.specs.Storage.{Storage}
 use Rattle.fort_model.specs.Symbols.{Symbol, LeastInteger, GreatestInteger}
 use Rattle.fort_model.specs.Walk.{arrive, at_entry, walk_from}
@@ -73,3 +76,13 @@ SafeRunsEnd =
     → (parts : ℕ) → ClocksHave fs values program i s parts → AssertsAreSafe fs values program i s
     → (pc : ℕ) (now : Named Value) (st : Storage) → Stood s.unit s.environment now st → KeepsUnsmashed fs values program i s now
     → IsSafeIn fs values program i s pc now → ComesToEnd fs values program i s pc st
+
+-- what is wanted of a unit: what stands in its COMMON blocks are COMMON entities
+abbrev pub BlocksAreCommon : Routine → Type 0
+BlocksAreCommon u = (x : Name) → IsAmong x (commons u) → has_common u x ≡ true
+
+-- by a table that holds just what units smash, walks of statements leave names alone that their unit does not smash
+abbrev pub StatementsKeepUnsmashed : Type 0
+StatementsKeepUnsmashed =
+    (fs : List Function) (values : Symbol → Value) (program : Program) (i : ℕ) (s : Scene) → HoldsSmashed program → slice_get program.units i ≡ Some s.unit → BlocksAreCommon s.unit
+    → StatementsKeep fs values program i s

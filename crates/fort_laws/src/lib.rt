@@ -19,7 +19,7 @@ pub use frames::{
     runs_change_only_smashed, runs_without_smashing_change_nothing,
 };
 pub use places::elements_lie_in_arrays;
-pub use segments::{safe_runs_arrive, safe_runs_end};
+pub use segments::{safe_runs_arrive, safe_runs_end, statements_keep};
 pub use statements::statements_match;
 pub use steps::{
     fewer_steps_are_not_enough, fuel_does_not_matter, more_steps_change_nothing, runs_unfold,

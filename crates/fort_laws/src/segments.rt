@@ -1,6 +1,6 @@
 // Runs from one cut point to the next, and to the end of a unit.
 ghost use Rattle.fort_laws.specs.Segments.{SafeRunsArrive};
-ghost use Rattle.fort_laws.specs.WholeRuns.{SafeRunsEnd};
+ghost use Rattle.fort_laws.specs.WholeRuns.{SafeRunsEnd, StatementsKeepUnsmashed};
 
 /// In a unit that no cycle goes uncut, take a statement of a strict run where named values stand
 /// for the cells. If on no way from there to the next cut point a check is the first event to
@@ -19,4 +19,10 @@ pub fn safe_runs_arrive()
 /// `safe_runs_arrive`. It does nothing.
 pub fn safe_runs_end()
     ensures { SafeRunsEnd }
+{}
+
+/// Walks of statements leave names alone that the unit does not smash, by a table that holds just
+/// what units smash. So one thing that `safe_runs_arrive` takes is shown. It does nothing.
+pub fn statements_keep()
+    ensures { StatementsKeepUnsmashed }
 {}
