@@ -94,11 +94,11 @@ module _ {V W : Type 0} (R : V → W → Type 0) (s : Sense V) (t : Sense W) (c 
     subscripts_alike (i ∷ is) (j ∷ js) (d ∷ ds) m = (lies_alike _ _ _ _ _ _ (natural_alike R s t c 1) (dim_alike d) m.0, subscripts_alike is js ds m.1)
 
     cell_sort_alike : (sort : Sort) (v : V) (w : W) → R v w → R (cell_sort s sort v) (cell_sort t sort w)
-    cell_sort_alike Integer v w k = make3_alike R s t c f.IntegerCell _ _ _ _ _ _ k (c.named _) (c.named _)
+    cell_sort_alike Integer v w k = make3_alike R s t c f.IntegerCell _ _ _ _ _ _ k c.least c.greatest
     cell_sort_alike Logical v w k = make1_alike R s t c f.LogicalCell _ _ k
 
     cells_sort_alike : (sort : Sort) (n : V) (n' : W) (v : V) (w : W) → R n n' → R v w → R (cells_sort s sort n v) (cells_sort t sort n' w)
-    cells_sort_alike Integer n n' v w k l = c.make f.IntegerCells _ _ (l, (k, (c.named _, (c.named _, tt))))
+    cells_sort_alike Integer n n' v w k l = c.make f.IntegerCells _ _ (l, (k, (c.least, (c.greatest, tt))))
     cells_sort_alike Logical n n' v w k l = make2_alike R s t c f.LogicalCells _ _ _ _ l k
 
     sort_by_alike : (ds : List Dim) (sort : Sort) (v : V) (w : W) → R v w → R (sort_by s now ds sort v) (sort_by t now' ds sort w)
@@ -174,7 +174,7 @@ module _ {V W : Type 0} (R : V → W → Type 0) (s : Sense V) (t : Sense W) (c 
 
     ranged_alike : (card : ℕ) (v : V) (w : W) → R v w → Alike R R (ranged one card v) (ranged two card w)
     ranged_alike card v w k =
-        alike_before R (Anything R) R _ _ _ _ (checked_alike RangeCheck card _ _ (lies_alike _ _ _ _ _ _ (c.named _) (c.named _) k)) (alike_see R R v w k)
+        alike_before R (Anything R) R _ _ _ _ (checked_alike RangeCheck card _ _ (lies_alike _ _ _ _ _ _ c.least c.greatest k)) (alike_see R R v w k)
 
     constant_alike : (card n : ℕ) → Alike R R (constant one card n) (constant two card n)
     constant_alike card n =
@@ -183,7 +183,7 @@ module _ {V W : Type 0} (R : V → W → Type 0) (s : Sense V) (t : Sense W) (c 
         met : (b : Bool) → Pairwise (EventsAlike R)
             (cond b (Check RangeCheck card (make2 s f.AtMost (natural s n) (greatest_integer s)) ∷ []) [])
             (cond b (Check RangeCheck card (make2 t f.AtMost (natural t n) (greatest_integer t)) ∷ []) [])
-        met true = ((refl, refl, make2_alike R s t c f.AtMost _ _ _ _ (natural_alike R s t c n) (c.named _)), tt)
+        met true = ((refl, refl, make2_alike R s t c f.AtMost _ _ _ _ (natural_alike R s t c n) c.greatest), tt)
         met false = tt
 
     divisor_alike : (card : ℕ) (v : V) (w : W) → R v w → Alike R (Anything R) (divisor one card v) (divisor two card w)
@@ -320,7 +320,7 @@ module _ {V W : Type 0} (R : V → W → Type 0) (s : Sense V) (t : Sense W) (c 
     result_facts_alike (Some sort) v w k = (defined_alike v w k, (cell_sort_one sort v w k, tt))
       where
         cell_sort_one : (q : Sort) (a : V) (b : W) → R a b → R (cell_sort s q a) (cell_sort t q b)
-        cell_sort_one Integer a b l = make3_alike R s t c f.IntegerCell _ _ _ _ _ _ l (c.named _) (c.named _)
+        cell_sort_one Integer a b l = make3_alike R s t c f.IntegerCell _ _ _ _ _ _ l c.least c.greatest
         cell_sort_one Logical a b l = make1_alike R s t c f.LogicalCell _ _ l
 
     notes_alike : (entry now : Named V) (entry' now' : Named W) → NamesAlike R entry entry' → NamesAlike R now now' → (ts : List Tree)

@@ -6,7 +6,7 @@ use Rattle.formula.specs.Atoms.{same_bytes}
 use Rattle.std.specs.Prelude.{codes}
 use Rattle.fort_syntax.specs.declared.name.Name.{Name}
 use Rattle.fort_syntax.specs.declared.condition.Kind.{Kind}
-use Rattle.fort_model.specs.Symbols.{Symbol}
+use Rattle.fort_model.specs.Symbols.{LeastInteger, GreatestInteger, AtEntry}
 use Rattle.fort_model.specs.Senses.{Sense, natural, make1, make2, make3, with_bounds, note}
 use Rattle.fort_model.specs.Events.{Event, Check, Take, checks, takes}
 use Rattle.fort_model.specs.Seen.{Named, Answer, Answers, Seen, See, ◌>>=◌, ◌>>◌, see, meet, next_answer}
@@ -29,14 +29,16 @@ pub pairwise_map : {A B C : Type 0} (R : B → C → Type 0) (f : A → B) (g : 
 pairwise_map R f g [] h = tt
 pairwise_map R f g (x ∷ xs) h = (h x, pairwise_map R f g xs h)
 
--- things of two senses correspond: numbers, truth values, functions, terms of notes and symbols
+-- things of two senses correspond: numbers, truth values, functions, terms of notes, and symbols of bounds and entry values
 pub record Correspond {V W : Type 0} (R : V → W → Type 0) (s : Sense V) (t : Sense W) : Type 0 where
   pub number : (z : ℤ) → R (s.number z) (t.number z)
   pub truth_value : (b : Bool) → R (s.truth_value b) (t.truth_value b)
   pub make : (g : Builtin) (xs : List V) (ys : List W) → Pairwise R xs ys → R (s.make g xs) (t.make g ys)
   pub told : (now : List ℕ → V) (now' : List ℕ → W) (old : List ℕ → V) (old' : List ℕ → W)
       → ((w : List ℕ) → R (now w) (now' w)) → ((w : List ℕ) → R (old w) (old' w)) → (term : Tree) → R (s.told now old term) (t.told now' old' term)
-  pub named : (x : Symbol) → R (s.named x) (t.named x)
+  pub least : R (s.named LeastInteger) (t.named LeastInteger)
+  pub greatest : R (s.named GreatestInteger) (t.named GreatestInteger)
+  pub entries : (x : Name) → R (s.named (AtEntry x)) (t.named (AtEntry x))
 
 module _ {V W : Type 0} (R : V → W → Type 0) where
   -- events of one kind and card, with things that correspond
@@ -122,7 +124,7 @@ module _ {V W : Type 0} (R : V → W → Type 0) where
 
     bounds_alike : (now : List ℕ → V) (now' : List ℕ → W) → ((w : List ℕ) → R (now w) (now' w)) → (w : List ℕ) → R (with_bounds s now w) (with_bounds t now' w)
     bounds_alike now now' h w =
-        pick_alike (same_bytes (codes "LEAST") w) _ _ _ _ (c.named _) (pick_alike (same_bytes (codes "GREATEST") w) _ _ _ _ (c.named _) (h w))
+        pick_alike (same_bytes (codes "LEAST") w) _ _ _ _ c.least (pick_alike (same_bytes (codes "GREATEST") w) _ _ _ _ c.greatest (h w))
 
     pub note_alike : (entry now : List ℕ → V) (entry' now' : List ℕ → W) → ((w : List ℕ) → R (entry w) (entry' w)) → ((w : List ℕ) → R (now w) (now' w)) → (term : Tree)
         → R (note s entry now term) (note t entry' now' term)

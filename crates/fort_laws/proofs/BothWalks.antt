@@ -14,6 +14,7 @@ use Rattle.fort_model.specs.Seen.{Named, Answers, symbols_of_calls}
 use Rattle.fort_model.specs.Paths.{Cut, NoCut, AtEnd, AtAssert, cut_at, Path}
 use Rattle.fort_model.specs.WalkPlaces.{sorts}
 use Rattle.fort_model.specs.Walk.{dim_dummies, not_negative, entry_symbol, at_entry, at_start, bound_facts, dim_facts, entry_facts, smashed_in_order, start_facts, falls, fall, arrive, go_on, perform_line, walk_from, from_assert, from_start, walk}
+use Rattle.fort_model.specs.Symbols.{Symbol}
 use Rattle.fort_model.specs.WalkCalls.{Sight}
 use Rattle.fort_model.specs.Conditions.{sight}
 use Rattle.fort_laws.proofs.BothSenses.{Pairwise, pairwise_append, pairwise_map, Correspond, EventsAlike, NamesAlike, AnswersAlike, checks_alike, takes_alike, pick_alike, natural_alike, make1_alike, make2_alike, note_alike}
@@ -31,19 +32,23 @@ module _ {V W : Type 0} (R : V → W → Type 0) (s : Sense V) (t : Sense W) (c 
 
   -- ---- the start
 
-  entry_alike : NamesAlike R (at_entry one) (at_entry two)
+  pub entry_alike : NamesAlike R (at_entry one) (at_entry two)
   entry_alike x =
-      pick_alike R (has_role is_own (data_name u x)) _ _ _ _ (blank_alike R s t c (entry_symbol one) (entry_symbol two) (λ y. c.named _) u x) (c.named _)
+      pick_alike R (has_role is_own (data_name u x)) _ _ _ _ (blank_alike R s t c (entry_symbol one) (entry_symbol two) c.entries u x) (c.entries x)
 
-  start_alike : NamesAlike R (at_start one) (at_start two)
-  start_alike x = pick_alike R (is_smashed p i x) _ _ _ _ (c.named _) (entry_alike x)
+  -- all symbols correspond
+  abbrev Others : Type 0
+  Others = (x : Symbol) → R (s.named x) (t.named x)
+
+  start_alike : Others → NamesAlike R (at_start one) (at_start two)
+  start_alike others x = pick_alike R (is_smashed p i x) _ _ _ _ (others _) (entry_alike x)
 
   not_negative_alike : (v : V) (w : W) → R v w → R (not_negative one v) (not_negative two w)
   not_negative_alike v w k = make2_alike R s t c f.AtMost _ _ _ _ (natural_alike R s t c 0) k
 
   bound_alike : Pairwise R (bound_facts one) (bound_facts two)
   bound_alike =
-      (make2_alike R s t c f.AtMost _ _ _ _ (c.named _) (c.number _), (make2_alike R s t c f.AtMost _ _ _ _ (natural_alike R s t c p.bound) (c.named _), tt))
+      (make2_alike R s t c f.AtMost _ _ _ _ c.least (c.number _), (make2_alike R s t c f.AtMost _ _ _ _ (natural_alike R s t c p.bound) c.greatest, tt))
 
   dim_facts_alike : (xs : List Name) → Pairwise R (dim_facts one xs) (dim_facts two xs)
   dim_facts_alike [] = tt
@@ -66,13 +71,13 @@ module _ {V W : Type 0} (R : V → W → Type 0) (s : Sense V) (t : Sense W) (c 
       (dim_facts_alike (dim_dummies u)))
       inputs_alike
 
-  start_facts_alike : (a : Assertion) → Pairwise R (start_facts one a) (start_facts two a)
-  start_facts_alike a =
+  start_facts_alike : Others → (a : Assertion) → Pairwise R (start_facts one a) (start_facts two a)
+  start_facts_alike others a =
       pairwise_append R _ _ _ _
-      (pairwise_append R _ _ _ _ (sorts_alike R s t c _ _ start_alike u (smashed_in_order one))
-      (pairwise_map R (note s (at_entry one) (at_start one)) (note t (at_entry two) (at_start two)) a.terms (note_alike R s t c _ _ _ _ entry_alike start_alike)))
+      (pairwise_append R _ _ _ _ (sorts_alike R s t c _ _ (start_alike others) u (smashed_in_order one))
+      (pairwise_map R (note s (at_entry one) (at_start one)) (note t (at_entry two) (at_start two)) a.terms (note_alike R s t c _ _ _ _ entry_alike (start_alike others))))
       (pairwise_map R (λ term. not_negative one (note s (at_entry one) (at_start one) term)) (λ term. not_negative two (note t (at_entry two) (at_start two) term)) a.clock
-      (λ term. not_negative_alike _ _ (note_alike R s t c _ _ _ _ entry_alike start_alike term)))
+      (λ term. not_negative_alike _ _ (note_alike R s t c _ _ _ _ entry_alike (start_alike others) term)))
 
   -- ---- the end
 
@@ -143,7 +148,7 @@ module _ {V W : Type 0} (R : V → W → Type 0) (s : Sense V) (t : Sense W) (c 
         pairwise_append (EventsAlike R) _ _ _ _ done.events
         (go_on_alike line.card (leads p.dialect u pc line.stmt cs) _ _ _ _ done.value (λ q. m q _ _ _ _ done.value done.rest))
 
-    walk_from_alike : (way : List (List ℕ)) (pc : ℕ) (now : Named V) (now' : Named W) (ps : Answers V) (qs : Answers W) → NamesAlike R now now' → AnswersAlike R ps qs
+    pub walk_from_alike : (way : List (List ℕ)) (pc : ℕ) (now : Named V) (now' : Named W) (ps : Answers V) (qs : Answers W) → NamesAlike R now now' → AnswersAlike R ps qs
         → Events (walk_from one clock pc now ps way) (walk_from two clock' pc now' qs way)
     walk_from_alike [] pc now now' ps qs k l = tt
     walk_from_alike (cs ∷ way) pc now now' ps qs k l =
@@ -151,23 +156,23 @@ module _ {V W : Type 0} (R : V → W → Type 0) (s : Sense V) (t : Sense W) (c 
 
   -- ---- whole walks
 
-  calls_alike : AnswersAlike R (symbols_of_calls s) (symbols_of_calls t)
-  calls_alike j = (λ x. c.named _, λ x. c.named _)
+  calls_alike : Others → AnswersAlike R (symbols_of_calls s) (symbols_of_calls t)
+  calls_alike others j = (λ x. others _, λ x. others _)
 
-  from_assert_alike : (o : Option Assertion) (way : List (List ℕ)) → Events (from_assert one (symbols_of_calls s) o way) (from_assert two (symbols_of_calls t) o way)
-  from_assert_alike None way = tt
-  from_assert_alike (Some a) way =
+  from_assert_alike : Others → (o : Option Assertion) (way : List (List ℕ)) → Events (from_assert one (symbols_of_calls s) o way) (from_assert two (symbols_of_calls t) o way)
+  from_assert_alike others None way = tt
+  from_assert_alike others (Some a) way =
       pairwise_append (EventsAlike R) (takes (entry_facts one) ++ takes (start_facts one a)) (takes (entry_facts two) ++ takes (start_facts two a)) _ _
-      (pairwise_append (EventsAlike R) (takes (entry_facts one)) (takes (entry_facts two)) _ _ (takes_alike R (entry_facts one) (entry_facts two) entry_facts_alike) (takes_alike R _ _ (start_facts_alike a)))
+      (pairwise_append (EventsAlike R) (takes (entry_facts one)) (takes (entry_facts two)) _ _ (takes_alike R (entry_facts one) (entry_facts two) entry_facts_alike) (takes_alike R _ _ (start_facts_alike others a)))
       (walk_from_alike (Some (map (note s (at_entry one) (at_start one)) a.clock)) (Some (map (note t (at_entry two) (at_start two)) a.clock))
-      (pairwise_map R (note s (at_entry one) (at_start one)) (note t (at_entry two) (at_start two)) a.clock (note_alike R s t c _ _ _ _ entry_alike start_alike))
-      way a.point _ _ _ _ start_alike calls_alike)
+      (pairwise_map R (note s (at_entry one) (at_start one)) (note t (at_entry two) (at_start two)) a.clock (note_alike R s t c _ _ _ _ entry_alike (start_alike others)))
+      way a.point _ _ _ _ (start_alike others) (calls_alike others))
 
-  from_start_alike : (n : ℕ) (way : List (List ℕ)) → Events (from_start one (symbols_of_calls s) n way) (from_start two (symbols_of_calls t) n way)
-  from_start_alike zero way =
+  from_start_alike : Others → (n : ℕ) (way : List (List ℕ)) → Events (from_start one (symbols_of_calls s) n way) (from_start two (symbols_of_calls t) n way)
+  from_start_alike others zero way =
       pairwise_append (EventsAlike R) (takes (entry_facts one)) (takes (entry_facts two)) _ _ (takes_alike R (entry_facts one) (entry_facts two) entry_facts_alike)
-      (arrive_alike None None tt 0 (cut_at u (notes_of p i) 0) _ _ _ _ entry_alike (walk_from_alike None None tt way 0 _ _ _ _ entry_alike calls_alike))
-  from_start_alike (suc n) way = from_assert_alike (slice_get (notes_of p i).asserts n) way
+      (arrive_alike None None tt 0 (cut_at u (notes_of p i) 0) _ _ _ _ entry_alike (walk_from_alike None None tt way 0 _ _ _ _ entry_alike (calls_alike others)))
+  from_start_alike others (suc n) way = from_assert_alike others (slice_get (notes_of p i).asserts n) way
 
-  pub walks_alike : (path : Path) → Events (walk one path) (walk two path)
-  walks_alike path = from_start_alike path.start path.choices
+  pub walks_alike : Others → (path : Path) → Events (walk one path) (walk two path)
+  walks_alike others path = from_start_alike others path.start path.choices

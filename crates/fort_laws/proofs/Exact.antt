@@ -54,7 +54,9 @@ module _ (fs : List Function) (words : Valuation) where
     truth_value = λ b. refl;
     make = λ g xs ys h. ap (λ (vs : List Value). applied g vs) (worths_row xs ys h);
     told = λ now now' entry entry' h k t. told_worth now now' entry entry' h k t;
-    named = λ x. refl;
+    least = refl;
+    greatest = refl;
+    entries = λ x. refl;
   }
 
 -- anything corresponds to nothing
@@ -62,7 +64,7 @@ abbrev Whatever : {V : Type 0} → V → Unit {0} → Type 0
 Whatever v w = Unit {0}
 
 with_nothing : {V : Type 0} (s : Sense V) → Correspond (Whatever {V = V}) s of_nothing
-with_nothing s = record { number = λ z. tt; truth_value = λ b. tt; make = λ g xs ys h. tt; told = λ now now' entry entry' h k t. tt; named = λ x. tt }
+with_nothing s = record { number = λ z. tt; truth_value = λ b. tt; make = λ g xs ys h. tt; told = λ now now' entry entry' h k t. tt; least = tt; greatest = tt; entries = λ x. tt }
 
 -- events that correspond have the same kinds and cards
 same_labels : {V W : Type 0} (R : V → W → Type 0) (es : List (Event V)) (fs : List (Event W)) → Pairwise (EventsAlike R) es fs → labels es ≡ labels fs
@@ -77,7 +79,7 @@ same_labels R (Take v ∷ es) (Take w ∷ fs) h = same_labels R es fs h.1
 
 pub checks_do_not_depend_on_values : ChecksDoNotDependOnValues
 checks_do_not_depend_on_values p i u values path =
-    same_labels Whatever _ _ (walks_alike Whatever (of_values p.functions values) of_nothing (with_nothing (of_values p.functions values)) p i u path)
+    same_labels Whatever _ _ (walks_alike Whatever (of_values p.functions values) of_nothing (with_nothing (of_values p.functions values)) p i u (λ x. tt) path)
 
 -- ---- verdicts
 
@@ -236,9 +238,9 @@ module _ (p : Program) where
       → AreExactFor p.functions (conditions_from u.name n 1 [] (walk (sight of_terms p i u) path)) (sites_from u.name n 1 (checks_of p i u path) (λ words. walked p i u words path))
   exact_path i u n path =
       subst (λ (ls : List (Kind × ℕ)). AreExactFor p.functions (conditions_from u.name n 1 [] (walk (sight of_terms p i u) path)) (sites_from u.name n 1 ls (λ words. walked p i u words path)))
-      (same_labels Whatever _ _ (walks_alike Whatever of_terms of_nothing (with_nothing of_terms) p i u path))
+      (same_labels Whatever _ _ (walks_alike Whatever of_terms of_nothing (with_nothing of_terms) p i u (λ x. tt) path))
       (exact_from p.functions u.name n (λ words. walked p i u words path) (walk (sight of_terms p i u) path) 0 [] (λ words. walked p i u words path)
-      (λ words. walks_alike (Worth p.functions words) of_terms (of_values p.functions (by_words words)) (terms_and_values p.functions words) p i u path)
+      (λ words. walks_alike (Worth p.functions words) of_terms (of_values p.functions (by_words words)) (terms_and_values p.functions words) p i u (λ x. refl) path)
       (λ words. refl))
 
   exact_along : (i : ℕ) (u : Routine) (n : ℕ) (paths : List Path) → AreExactFor p.functions (conditions_along p i u n paths) (sites_along p i u n paths)
