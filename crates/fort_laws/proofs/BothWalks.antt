@@ -58,7 +58,7 @@ module _ {V W : Type 0} (R : V → W → Type 0) (s : Sense V) (t : Sense W) (c 
   inputs_alike : Pairwise R (map (note s (at_entry one) (at_entry one)) (notes_of p i).input) (map (note t (at_entry two) (at_entry two)) (notes_of p i).input)
   inputs_alike = pairwise_map R _ _ (notes_of p i).input (note_alike R s t c _ _ _ _ entry_alike entry_alike)
 
-  entry_facts_alike : Pairwise R (entry_facts one) (entry_facts two)
+  pub entry_facts_alike : Pairwise R (entry_facts one) (entry_facts two)
   entry_facts_alike =
       pairwise_append R
       (bound_facts one ++ sorts s u (at_entry one) u.dummies ++ sorts s u (at_entry one) (commons u) ++ dim_facts one (dim_dummies u))
@@ -105,7 +105,7 @@ module _ {V W : Type 0} (R : V → W → Type 0) (s : Sense V) (t : Sense W) (c 
       (make2_alike R s t c f.And _ _ _ _ (make2_alike R s t c f.AtMost _ _ _ _ k.0 l.0) (falls_alike (n2 ∷ ns) (o2 ∷ os) (m2 ∷ ms) (q2 ∷ qs) k.1 l.1))
 
   -- the clock at the start, where there is one
-  abbrev ClocksAlike : Option (List V) → Option (List W) → Type 0
+  abbrev pub ClocksAlike : Option (List V) → Option (List W) → Type 0
   ClocksAlike None None = Unit {0}
   ClocksAlike None (Some ws) = ⊥
   ClocksAlike (Some vs) None = ⊥
@@ -119,7 +119,7 @@ module _ {V W : Type 0} (R : V → W → Type 0) (s : Sense V) (t : Sense W) (c 
   fall_alike card (Some olds) (Some olds2) vs ws k l = ((refl, refl, falls_alike vs olds ws olds2 l k), tt)
 
   module _ (clock : Option (List V)) (clock' : Option (List W)) (clocks : ClocksAlike clock clock') where
-    arrive_alike : (card : ℕ) (cut : Cut) (now : Named V) (now' : Named W) (on : List (Event V)) (on' : List (Event W)) → NamesAlike R now now' → Events on on'
+    pub arrive_alike : (card : ℕ) (cut : Cut) (now : Named V) (now' : Named W) (on : List (Event V)) (on' : List (Event W)) → NamesAlike R now now' → Events on on'
         → Events (arrive one clock card cut now on) (arrive two clock' card cut now' on')
     arrive_alike card NoCut now now' on on' k l = l
     arrive_alike card AtEnd now now' on on' k l =

@@ -4,6 +4,7 @@ pub mod BothWalks
 pub mod Descents
 pub mod Exact
 pub mod Falling
+pub mod FewSymbols
 pub mod FrameCalls
 pub mod FrameClaims
 pub mod FrameEnter

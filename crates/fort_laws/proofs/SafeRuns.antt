@@ -68,7 +68,7 @@ all_checks_true (Check kind card v ∷ es) h n =
 all_checks_true (Take v ∷ es) h n = absurd h
 
 -- the rest behind what is true
-rest_safe : (es fs : List (Event Value)) → AllTrue es → NoCheckFails (es ++ fs) → NoCheckFails fs
+pub rest_safe : (es fs : List (Event Value)) → AllTrue es → NoCheckFails (es ++ fs) → NoCheckFails fs
 rest_safe es fs t n kind card f = n kind card (fails_later kind card es fs t f)
 
 -- a statement whose parts have their types is executable

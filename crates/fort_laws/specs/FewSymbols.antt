@@ -1,0 +1,37 @@
+-- Which symbols a walk reads, and how conditions that hold give walks that do not fail.
+use Rattle.std.specs.Prelude.{ℕ, ◌≡◌, List, Option}
+use Rattle.formula.specs.declared.value.Value.{Value}
+use Rattle.formula.specs.Worth.{Function}
+use Rattle.fort_syntax.specs.declared.name.Name.{Name}
+use Rattle.fort_syntax.specs.declared.unit.Unit.{Unit as Routine}
+use Rattle.fort_model.specs.Conditions.{sight}
+use Rattle.fort_model.specs.Evaluate.{Scene}
+use Rattle.fort_model.specs.Events.{takes}
+use Rattle.fort_model.specs.Paths.{Path, IsPath}
+use Rattle.fort_model.specs.Program.{Program, notes_of}
+use Rattle.fort_model.specs.Seen.{Named, Answers}
+use Rattle.fort_model.specs.Senses.{of_values}
+use Rattle.fort_model.specs.Symbols.{Symbol, LeastInteger, GreatestInteger, AtEntry}
+use Rattle.fort_model.specs.Walk.{at_entry, entry_facts, walk_from, walk}
+use Rattle.fort_laws.specs.Matches.{AllTrue}
+use Rattle.fort_laws.specs.Segments.{NoCheckFails, seen}
+use Rattle.fort_laws.specs.WholeRuns.{IsSafeIn}
+
+-- from a point, with told answers of calls, a walk reads the bounds of the processor and values at the entry, and no other symbol
+abbrev pub WalksReadFewSymbols : Type 0
+WalksReadFewSymbols =
+    (fs : List Function) (values others : Symbol → Value) (program : Program) (i : ℕ) (u : Routine)
+    → values LeastInteger ≡ others LeastInteger → values GreatestInteger ≡ others GreatestInteger → ((x : Name) → values (AtEntry x) ≡ others (AtEntry x))
+    → (clock : Option (List Value)) (pc : ℕ) (now : Named Value) (answers : Answers Value) (way : List (List ℕ))
+    → walk_from (sight (of_values fs values) program i u) clock pc now answers way ≡ walk_from (sight (of_values fs others) program i u) clock pc now answers way
+
+-- no walk along a path of a unit has a check as its first false event, whatever its symbols stand for
+abbrev pub PathsAreSafe : List Function → Program → ℕ → Routine → Type 0
+PathsAreSafe fs program i u =
+    (values : Symbol → Value) (path : Path) → IsPath program.dialect u (notes_of program i) path → NoCheckFails (walk (sight (of_values fs values) program i u) path)
+
+-- then no way from the entry fails at a check either, whatever calls answer, where what is taken at the entry is true
+abbrev pub PathsMakeEntriesSafe : Type 0
+PathsMakeEntriesSafe =
+    (fs : List Function) (values : Symbol → Value) (program : Program) (i : ℕ) (s : Scene) → PathsAreSafe fs program i s.unit
+    → AllTrue (takes (entry_facts (seen fs values program i s))) → IsSafeIn fs values program i s 0 (at_entry (seen fs values program i s))
