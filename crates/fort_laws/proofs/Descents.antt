@@ -28,12 +28,12 @@ use Rattle.fort_laws.proofs.SafeRuns.{no_answers, all_checks_true, only_at_end, 
 
 -- ---- clocks in walks
 
-true_left : (es fs : List (Event Value)) → AllTrue (es ++ fs) → AllTrue es
+pub true_left : (es fs : List (Event Value)) → AllTrue (es ++ fs) → AllTrue es
 true_left [] fs h = tt
 true_left (Check kind card v ∷ es) fs h = (h.0, true_left es fs h.1)
 true_left (Take v ∷ es) fs h = (h.0, true_left es fs h.1)
 
-true_right : (es fs : List (Event Value)) → AllTrue (es ++ fs) → AllTrue fs
+pub true_right : (es fs : List (Event Value)) → AllTrue (es ++ fs) → AllTrue fs
 true_right [] fs h = h
 true_right (Check kind card v ∷ es) fs h = true_right es fs h.1
 true_right (Take v ∷ es) fs h = true_right es fs h.1

@@ -1,26 +1,33 @@
 -- Walks read few symbols.
-use Rattle.std.proofs.Common.{◌≡◌, ℕ, zero, suc, Bool, ℤ, List, [], ◌∷◌, ◌++◌, Option, Some, None, refl, sym, ap, ◌∙◌, subst}
+use Rattle.std.proofs.Common.{◌≡◌, ℕ, zero, suc, Bool, List, [], ◌∷◌, ◌++◌, map, Option, Some, None, slice_get, cond, true, false, rules, refl, sym, ap, ◌∙◌, subst}
+use Rattle.std.specs.Prelude.{◌==◌}
 use Rattle.formula.specs.declared.value.Value.{Value}
 use Rattle.formula.specs.Tree.{Tree, num, truth, symbol, old, apply, Row, none, more}
-use Rattle.formula.specs.Values.{holds, applied}
+use Rattle.formula.specs.Values.{applied}
 use Rattle.formula.specs.Worth.{Function, used, worth_by, worths_by, function_worth}
 use Rattle.fort_syntax.specs.declared.name.Name.{Name}
 use Rattle.fort_syntax.specs.declared.condition.Kind.{Kind}
+use Rattle.fort_syntax.specs.declared.unit.Line.{Line}
 use Rattle.fort_syntax.specs.declared.unit.Unit.{Unit as Routine}
-use Rattle.fort_model.specs.Conditions.{sight}
 use Rattle.fort_model.specs.Evaluate.{Scene}
-use Rattle.fort_model.specs.Events.{Event, Check, Take, takes}
-use Rattle.fort_model.specs.Paths.{cut_at, over_or, IsWay}
-use Rattle.fort_model.specs.Program.{Program, notes_of}
+use Rattle.fort_model.specs.Events.{Event, Check, Take, checks, takes}
+use Rattle.fort_model.specs.Paths.{AtAssert, cut_in, cut_at, IsWay, starts_at}
+use Rattle.fort_model.specs.Program.{Program, Assertion, notes_of, is_smashed, assertion_in, assertion_at}
 use Rattle.fort_model.specs.Seen.{Named, Answers, symbols_of_calls}
-use Rattle.fort_model.specs.Senses.{Sense, of_values}
+use Rattle.fort_model.specs.Senses.{of_values, note}
 use Rattle.fort_model.specs.Symbols.{Symbol, LeastInteger, GreatestInteger, AtEntry, AtStart, AfterCall, ResultOf}
-use Rattle.fort_model.specs.Walk.{arrive, at_entry, entry_facts, walk_from}
+use Rattle.fort_model.specs.Walk.{arrive, at_entry, at_start, entry_facts, smashed_in_order, start_facts, not_negative, from_assert, walk_from}
+use Rattle.fort_model.specs.WalkPlaces.{sorts}
 use Rattle.fort_model.specs.WalkCalls.{Sight}
-use Rattle.fort_laws.specs.FewSymbols.{WalksReadFewSymbols, PathsAreSafe, PathsMakeEntriesSafe}
+use Rattle.fort_laws.specs.FewSymbols.{WalksReadFewSymbols, PathsAreSafe, PathsMakeEntriesSafe, PathsMakeAssertsSafe}
+use Rattle.fort_laws.specs.WholeRuns.{clock_of, IsTrueAt}
 use Rattle.fort_laws.specs.Matches.{AllTrue}
-use Rattle.fort_laws.specs.Segments.{NoCheckFails, seen}
-use Rattle.fort_laws.proofs.BothSenses.{Pairwise, Correspond, EventsAlike}
+use Rattle.fort_laws.specs.Segments.{NoCheckFails, seen, KeepsUnsmashed}
+use Rattle.fort_laws.proofs.BothSenses.{Pairwise, pairwise_map, Correspond, EventsAlike, note_alike}
+use Rattle.fort_laws.proofs.BothParts.{sorts_alike}
+use Rattle.fort_laws.proofs.Matching.{all_true_append}
+use Rattle.fort_laws.proofs.Descents.{true_left, true_right}
+use Rattle.fort_syntax.specs.declared.condition.Kind.TheVariants.{AssertCheck, ClockCheck}
 use Rattle.fort_laws.proofs.BothWalks.{ClocksAlike, walk_from_alike, arrive_alike, entry_alike, entry_facts_alike}
 use Rattle.fort_laws.proofs.SafeRuns.{rest_safe}
 
@@ -109,7 +116,7 @@ paths_make_entries_safe fs values program i s safe facts way answers over =
     let calls : Answers Value = symbols_of_calls (of_values fs others) in
     let same_facts : entry_facts one ≡ entry_facts two = all_equal _ _ (entry_facts_alike Equal (of_values fs values) (of_values fs others) c program i s.unit) in
     let same_walks : arrive one None 0 (cut_at s.unit (notes_of program i) 0) (at_entry one) (walk_from one None 0 (at_entry one) answers way)
-        ≡ arrive two None 0 (cut_at s.unit (notes_of program i) 0) (at_entry two) (walk_from two None 0 (at_entry two) calls way) =
+    ≡ arrive two None 0 (cut_at s.unit (notes_of program i) 0) (at_entry two) (walk_from two None 0 (at_entry two) calls way) =
     events_equal _ _
     (arrive_alike Equal (of_values fs values) (of_values fs others) c program i s.unit None None tt 0 (cut_at s.unit (notes_of program i) 0) (at_entry one) (at_entry two) _ _
     (entry_alike Equal (of_values fs values) (of_values fs others) c program i s.unit)
@@ -117,3 +124,151 @@ paths_make_entries_safe fs values program i s safe facts way answers over =
     (entry_alike Equal (of_values fs values) (of_values fs others) c program i s.unit) (λ k. (λ x. refl, λ x. refl)))) in
     subst (λ (es : List (Event Value)). NoCheckFails es) (sym same_walks)
     (rest_safe (takes (entry_facts two)) _ (subst (λ (ts : List Value). AllTrue (takes ts)) same_facts facts) (safe others (record { start = 0; choices = way }) over))
+
+-- ---- ASSERTs
+
+-- told answers, and what names stand for at an ASSERT
+begun : (Symbol → Value) → Named Value → Answers Value → Symbol → Value
+begun values now answers LeastInteger = values LeastInteger
+begun values now answers GreatestInteger = values GreatestInteger
+begun values now answers (AtEntry x) = values (AtEntry x)
+begun values now answers (AtStart x) = now x
+begun values now answers (AfterCall x zero) = values (AfterCall x zero)
+begun values now answers (AfterCall x (suc k)) = (answers k).names x
+begun values now answers (ResultOf f zero) = values (ResultOf f zero)
+begun values now answers (ResultOf f (suc k)) = (answers k).result f
+
+-- what is checked true may be taken
+taken_checks : (kind : Kind) (card : ℕ) (vs : List Value) → AllTrue (checks kind card vs) → AllTrue (takes vs)
+taken_checks kind card [] h = tt
+taken_checks kind card (v ∷ vs) h = (h.0, taken_checks kind card vs h.1)
+
+taken_append : (vs ws : List Value) → AllTrue (takes vs) → AllTrue (takes ws) → AllTrue (takes (vs ++ ws))
+taken_append [] ws h k = k
+taken_append (v ∷ vs) ws h k = (h.0, taken_append vs ws h.1 k)
+
+-- the ASSERT of a cut point
+pub record IsNumbered (asserts : List Assertion) (q : ℕ) (a : Assertion) : Type 0 where
+  number : ℕ
+  among : slice_get asserts number ≡ Some a
+  point : a.point ≡ q
+
+numbered : (asserts : List Assertion) (q : ℕ) (a : Assertion) → assertion_in asserts q ≡ Some a → IsNumbered asserts q a
+numbered [] q a h = absurd (cc)
+numbered (b ∷ rest) q a h = by_test (b.point == q) refl h (λ k. later (numbered rest q a k))
+  where
+    later : IsNumbered rest q a → IsNumbered (b ∷ rest) q a
+    later r = record { number = suc r.number; among = r.among; point = r.point }
+
+    here : b ≡ a → (b.point == q) ≡ true → IsNumbered (b ∷ rest) q a
+    here e t = record { number = 0; among = ap Some e; point = ap (λ (x : Assertion). x.point) (sym e) ∙ equal b.point q t }
+      where
+        equal : (m n : ℕ) → (m == n) ≡ true → m ≡ n
+        equal m n h = search rules
+
+    some_is : Some b ≡ Some a → b ≡ a
+    some_is k = cc
+
+    by_test : (t : Bool) → (b.point == q) ≡ t → cond t (Some b) (assertion_in rest q) ≡ Some a → (assertion_in rest q ≡ Some a → IsNumbered (b ∷ rest) q a) → IsNumbered (b ∷ rest) q a
+    by_test true e k on = here (some_is k) e
+    by_test false e k on = on k
+
+assert_is : (o : Option Line) (b : Option Assertion) (a : Assertion) → cut_in o b ≡ AtAssert a → b ≡ Some a
+assert_is None b a h = absurd (cc)
+assert_is (Some line) None a h = absurd (cc)
+assert_is (Some line) (Some b) a h = ap Some (same_assert b a h)
+  where
+    same_assert : (b a : Assertion) → AtAssert b ≡ AtAssert a → b ≡ a
+    same_assert b a k = cc
+
+module _ (fs : List Function) (values : Symbol → Value) (program : Program) (i : ℕ) (s : Scene) (now : Named Value) (answers : Answers Value) (kept : KeepsUnsmashed fs values program i s now) where
+  abbrev others : Symbol → Value
+  others = begun values now answers
+
+  abbrev one : Sight Value
+  one = seen fs values program i s
+
+  abbrev two : Sight Value
+  two = seen fs others program i s
+
+  abbrev calls : Answers Value
+  calls = symbols_of_calls (of_values fs others)
+
+  linked : Correspond Equal (of_values fs values) (of_values fs others)
+  unfolding begun
+  linked = same_senses fs values others refl refl (λ x. refl)
+
+  same_start : (x : Name) → now x ≡ at_start two x
+  unfolding begun
+  same_start x = by_test (is_smashed program i x) refl
+    where
+      by_test : (t : Bool) → is_smashed program i x ≡ t → now x ≡ cond t (now x) (at_entry two x)
+      by_test true e = refl
+      by_test false e = kept x e ∙ entry_alike Equal (of_values fs values) (of_values fs others) linked program i s.unit x
+
+  same_calls : (k : ℕ) → ((x : Name) → (answers k).names x ≡ (calls k).names x) × ((x : Name) → (answers k).result x ≡ (calls k).result x)
+  unfolding begun
+  same_calls k = (λ x. refl, λ x. refl)
+
+  same_entries : (x : Name) → at_entry one x ≡ at_entry two x
+  same_entries x = entry_alike Equal (of_values fs values) (of_values fs others) linked program i s.unit x
+
+  same_note : (t : Tree) → note (of_values fs values) (at_entry one) now t ≡ note (of_values fs others) (at_entry two) (at_start two) t
+  same_note t = note_alike Equal (of_values fs values) (of_values fs others) linked (at_entry one) now (at_entry two) (at_start two) same_entries same_start t
+
+  same_facts : entry_facts one ≡ entry_facts two
+  same_facts = all_equal _ _ (entry_facts_alike Equal (of_values fs values) (of_values fs others) linked program i s.unit)
+
+  same_sorts : sorts one.sense s.unit now (smashed_in_order one) ≡ sorts two.sense s.unit (at_start two) (smashed_in_order two)
+  same_sorts = all_equal _ _ (sorts_alike Equal (of_values fs values) (of_values fs others) linked now (at_start two) same_start s.unit (smashed_in_order one))
+
+  module _ (a : Assertion) where
+    abbrev told_one : Tree → Value
+    told_one = note (of_values fs values) (at_entry one) now
+
+    abbrev told_two : Tree → Value
+    told_two = note (of_values fs others) (at_entry two) (at_start two)
+
+    same_terms : map told_one a.terms ≡ map told_two a.terms
+    same_terms = all_equal _ _ (pairwise_map Equal told_one told_two a.terms same_note)
+
+    same_parts : map (λ t. not_negative one (told_one t)) a.clock ≡ map (λ t. not_negative two (told_two t)) a.clock
+    same_parts = all_equal _ _ (pairwise_map Equal (λ t. not_negative one (told_one t)) (λ t. not_negative two (told_two t)) a.clock (λ t. ap (not_negative one) (same_note t)))
+
+    start_true : AllTrue (takes (sorts one.sense s.unit now (smashed_in_order one))) → IsTrueAt fs values program i s a now → AllTrue (takes (start_facts two a))
+    start_true typed t =
+        let both = true_left (checks AssertCheck a.card (map told_one a.terms) ++ checks ClockCheck a.card (map (λ t. not_negative one (told_one t)) a.clock)) [] t in
+        let terms : AllTrue (takes (map told_two a.terms)) =
+        subst (λ (vs : List Value). AllTrue (takes vs)) same_terms
+        (taken_checks AssertCheck a.card (map told_one a.terms) (true_left (checks AssertCheck a.card (map told_one a.terms)) (checks ClockCheck a.card (map (λ t. not_negative one (told_one t)) a.clock)) both)) in
+        let clock : AllTrue (takes (map (λ t. not_negative two (told_two t)) a.clock)) =
+        subst (λ (vs : List Value). AllTrue (takes vs)) same_parts
+        (taken_checks ClockCheck a.card (map (λ t. not_negative one (told_one t)) a.clock)
+        (true_right (checks AssertCheck a.card (map told_one a.terms)) (checks ClockCheck a.card (map (λ t. not_negative one (told_one t)) a.clock)) both)) in
+        taken_append (sorts two.sense s.unit (at_start two) (smashed_in_order two) ++ map told_two a.terms) (map (λ t. not_negative two (told_two t)) a.clock)
+        (taken_append (sorts two.sense s.unit (at_start two) (smashed_in_order two)) (map told_two a.terms) (subst (λ (vs : List Value). AllTrue (takes vs)) same_sorts typed) terms)
+        clock
+
+    same_walks : (q : ℕ) (way : List (List ℕ)) → walk_from one (Some (clock_of fs values program i s a now)) q now answers way ≡ walk_from two (Some (map told_two a.clock)) q (at_start two) calls way
+    same_walks q way =
+        events_equal _ _
+        (walk_from_alike Equal (of_values fs values) (of_values fs others) linked program i s.unit (Some (clock_of fs values program i s a now)) (Some (map told_two a.clock))
+        (pairwise_map Equal told_one told_two a.clock same_note) way q now (at_start two) answers calls same_start same_calls)
+
+    not_failing : PathsAreSafe fs program i s.unit → AllTrue (takes (entry_facts one)) → AllTrue (takes (sorts one.sense s.unit now (smashed_in_order one))) → IsTrueAt fs values program i s a now
+        → (q : ℕ) → IsNumbered (notes_of program i).asserts q a → (way : List (List ℕ)) → IsWay program.dialect s.unit (notes_of program i) q way
+        → NoCheckFails (walk_from one (Some (clock_of fs values program i s a now)) q now answers way)
+    not_failing safe facts typed t q n way is =
+        subst (λ (es : List (Event Value)). NoCheckFails es) (sym (same_walks q way))
+        (subst (λ (pc : ℕ). NoCheckFails (walk_from two (Some (map told_two a.clock)) pc (at_start two) calls way)) n.point
+        (rest_safe (takes (entry_facts two) ++ takes (start_facts two a)) (walk_from two (Some (map told_two a.clock)) a.point (at_start two) calls way)
+        (all_true_append (takes (entry_facts two)) (takes (start_facts two a)) (subst (λ (ts : List Value). AllTrue (takes ts)) same_facts facts) (start_true typed t))
+        (subst (λ (o : Option Assertion). NoCheckFails (from_assert two calls o way)) n.among
+        (safe others (record { start = suc n.number; choices = way })
+        (subst (λ (o : Option Assertion). starts_at program.dialect s.unit (notes_of program i) o way) (sym n.among)
+        (subst (λ (pc : ℕ). IsWay program.dialect s.unit (notes_of program i) pc way) (sym n.point) is))))))
+
+pub paths_make_asserts_safe : PathsMakeAssertsSafe
+paths_make_asserts_safe fs values program i s safe facts typed a q now st c stood kept t way answers is =
+    not_failing fs values program i s now answers kept a safe facts (typed now st stood kept) t q
+    (numbered (notes_of program i).asserts q a (assert_is (slice_get s.unit.lines q) (assertion_at (notes_of program i) q) a c)) way is

@@ -1,5 +1,5 @@
 -- Walks of statements leave names alone that the unit does not smash.
-use Rattle.std.proofs.Common.{◌≡◌, ◌≢◌, ℕ, zero, suc, ◌⊎◌, inl, inr, Bool, true, false, cond, ◌&&◌, ◌||◌, List, [], ◌∷◌, ◌++◌, Option, Some, None, slice_get, refl, sym, ap, ◌∙◌, subst, arith}
+use Rattle.std.proofs.Common.{◌≡◌, ℕ, zero, suc, ◌⊎◌, inl, inr, Bool, true, false, cond, ◌&&◌, ◌||◌, List, [], ◌∷◌, ◌++◌, Option, Some, None, slice_get, refl, sym, ap, ◌∙◌, subst, arith}
 use Rattle.std.specs.Prelude.{◌==◌, nat_lt}
 use Rattle.std.specs.List.{list_any, filter}
 use mathlib.Core.Former.{Count}
@@ -13,11 +13,11 @@ use Rattle.fort_syntax.specs.declared.stmt.Stmt.TheVariants.{Subroutine, Functio
 use Rattle.fort_syntax.specs.declared.unit.Line.{Line}
 use Rattle.fort_syntax.specs.declared.unit.Unit.{Unit as Routine}
 use Rattle.fort_model.specs.Calls.{CallSite, Calls, listed, sites_in, sites_of}
-use Rattle.fort_model.specs.Flow.{target, Loop, loops_at, around, loops_around}
+use Rattle.fort_model.specs.Flow.{Loop, loops_at, around, loops_around}
 use Rattle.fort_model.specs.Lists.{IsAmong}
-use Rattle.fort_model.specs.Names.{Applied, Element, BuiltIn, Reference, applied, same_name, subroutine, unit_at}
+use Rattle.fort_model.specs.Names.{Applied, Element, BuiltIn, Reference, applied, same_name, subroutine}
 use Rattle.fort_model.specs.Program.{is_among, is_smashed, has_common, commons}
-use Rattle.fort_model.specs.Seen.{Named, Answers, See, ◌>>=◌}
+use Rattle.fort_model.specs.Seen.{Named, Answers, See}
 use Rattle.fort_model.specs.Smashes.{Smashes, sets, passes, shares, HoldsSmashed, set_name, set_by}
 use Rattle.fort_model.specs.Trees.{only, carried, row_of}
 use Rattle.fort_model.specs.WalkCalls.{Sight, Operand, Bare, Part, Computed, smashed_actuals, smashed_commons, hits, call, call_in}

@@ -12,10 +12,13 @@ use Rattle.fort_model.specs.Program.{Program, notes_of}
 use Rattle.fort_model.specs.Seen.{Named, Answers}
 use Rattle.fort_model.specs.Senses.{of_values}
 use Rattle.fort_model.specs.Symbols.{Symbol, LeastInteger, GreatestInteger, AtEntry}
-use Rattle.fort_model.specs.Walk.{at_entry, entry_facts, walk_from, walk}
+use Rattle.fort_model.specs.Walk.{at_entry, entry_facts, smashed_in_order, walk_from, walk}
+use Rattle.fort_model.specs.WalkPlaces.{sorts}
+use Rattle.fort_model.specs.Storage.{Storage}
+use Rattle.fort_laws.specs.GoodStatements.{Stood}
 use Rattle.fort_laws.specs.Matches.{AllTrue}
-use Rattle.fort_laws.specs.Segments.{NoCheckFails, seen}
-use Rattle.fort_laws.specs.WholeRuns.{IsSafeIn}
+use Rattle.fort_laws.specs.Segments.{NoCheckFails, seen, KeepsUnsmashed}
+use Rattle.fort_laws.specs.WholeRuns.{IsSafeIn, AssertsAreSafe}
 
 -- from a point, with told answers of calls, a walk reads the bounds of the processor and values at the entry, and no other symbol
 abbrev pub WalksReadFewSymbols : Type 0
@@ -35,3 +38,15 @@ abbrev pub PathsMakeEntriesSafe : Type 0
 PathsMakeEntriesSafe =
     (fs : List Function) (values : Symbol → Value) (program : Program) (i : ℕ) (s : Scene) → PathsAreSafe fs program i s.unit
     → AllTrue (takes (entry_facts (seen fs values program i s))) → IsSafeIn fs values program i s 0 (at_entry (seen fs values program i s))
+
+-- what a walk takes of smashed names at an ASSERT is true where names stand for cells: each has its type
+abbrev pub SortsHold : List Function → (Symbol → Value) → Program → ℕ → Scene → Type 0
+SortsHold fs values program i s =
+    (now : Named Value) (st : Storage) → Stood s.unit s.environment now st → KeepsUnsmashed fs values program i s now
+    → AllTrue (takes (sorts (seen fs values program i s).sense s.unit now (smashed_in_order (seen fs values program i s))))
+
+-- and so is it at an ASSERT that is true, whatever its names stand for
+abbrev pub PathsMakeAssertsSafe : Type 0
+PathsMakeAssertsSafe =
+    (fs : List Function) (values : Symbol → Value) (program : Program) (i : ℕ) (s : Scene) → PathsAreSafe fs program i s.unit
+    → AllTrue (takes (entry_facts (seen fs values program i s))) → SortsHold fs values program i s → AssertsAreSafe fs values program i s

@@ -9,6 +9,7 @@ mod places;
 mod segments;
 mod statements;
 mod steps;
+mod symbols;
 mod ways;
 
 pub use clocks::clocks_fall_only_so_often;
@@ -24,4 +25,5 @@ pub use statements::statements_match;
 pub use steps::{
     fewer_steps_are_not_enough, fuel_does_not_matter, more_steps_change_nothing, runs_unfold,
 };
+pub use symbols::{paths_make_asserts_safe, paths_make_entries_safe, walks_read_few_symbols};
 pub use ways::{statements_lead_on, ways_can_be_completed};

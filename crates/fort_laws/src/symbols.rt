@@ -1,0 +1,27 @@
+// Which symbols walks read, and what walks that do not fail give.
+ghost use Rattle.fort_laws.specs.FewSymbols.{
+  PathsMakeAssertsSafe,
+  PathsMakeEntriesSafe,
+  WalksReadFewSymbols,
+};
+
+/// From a point, with names and answers of calls told, a walk reads the bounds of the processor and
+/// values at the entry, and no other symbol. It does nothing.
+pub fn walks_read_few_symbols()
+    ensures { WalksReadFewSymbols }
+{}
+
+/// Let no walk along a path of a unit have a check as its first false event, whatever its symbols
+/// stand for. Then none has on a way from the entry to the next cut point, whatever calls answer,
+/// where what is taken at the entry is true. It does nothing.
+pub fn paths_make_entries_safe()
+    ensures { PathsMakeEntriesSafe }
+{}
+
+/// Let no walk along a path of a unit have a check as its first false event, whatever its symbols
+/// stand for. Then none has on a way from an ASSERT that is true to the next cut point, whatever
+/// names stand for and calls answer, where what is taken at the entry is true, and where smashed
+/// names have their types. It does nothing.
+pub fn paths_make_asserts_safe()
+    ensures { PathsMakeAssertsSafe }
+{}
