@@ -2,5 +2,6 @@ pub mod Splits
 pub mod OrderScans
 pub mod Shapes
 pub mod BlockFaults
-pub mod Firsts
-pub mod Sorts
+pub mod Told
+pub mod Scopings
+pub mod Rows
