@@ -5,3 +5,5 @@ pub mod BlockFaults
 pub mod Told
 pub mod Scopings
 pub mod Rows
+pub mod Among
+pub mod NameScanned

@@ -1,6 +1,9 @@
 pub mod Scans
 pub mod BlockScans
 pub mod Sets
+pub mod Keys
 pub mod Tables
 pub mod Usings
 pub mod Scoping
+pub mod NameScans
+pub mod Facts

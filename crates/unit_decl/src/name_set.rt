@@ -1,18 +1,20 @@
 // A set of names.
 ghost use Rattle.std.specs.Prelude.{◌≡◌, [], not, IfOk, OnOk};
 ghost use Rattle.fort_syntax.specs.Scopes.{is_among};
+ghost use Rattle.fort_syntax.specs.Units.{name_of_block};
 ghost use Rattle.unit_decl.specs.Sets.{with_name, with_names, repeats};
 
+use crate::key::Key;
 use edge_io::NoMemory;
-use fort_syntax::Name;
+use fort_syntax::{BlockName, Name};
 use indexmap::IndexSet;
 use std::alloc::Global;
 use std::marker::Model;
 
-/// Names, which contracts see as the list of them in the order in which they came, each once.
+/// Names, blank COMMON's among them, which contracts see as the list of them in the order in which they came, each once.
 #[derive(Drop)]
 pub struct NameSet {
-    set: IndexSet<Name>,
+    set: IndexSet<Key>,
 }
 
 impl Model for NameSet {
@@ -37,7 +39,24 @@ impl NameSet {
     pub fn has(&self, name: &Name) -> bool
         ensures { result ≡ is_among name.now self.now }
     {
-        self.set.contains(name)
+        self.set.contains(&Key::new(*name))
+    }
+
+    /// Whether the name of a block is in the set.
+    pub fn has_block(&self, block: &BlockName) -> bool
+        ensures { result ≡ is_among (name_of_block block.now) self.now }
+    {
+        self.set.contains(&Key::of_block(block))
+    }
+
+    fn add_key(&mut self, key: Key) -> Result<bool, NoMemory>
+        ensures new { IfOk result (λ new. new ≡ not (is_among key self.old)) }
+        ensures after { OnOk result (self.new ≡ with_name self.old key) }
+    {
+        match self.set.insert(key) {
+            Ok(new) => Ok(new),
+            Err(_) => Err(NoMemory),
+        }
     }
 
     /// Adds a name: whether it was not there. At `NoMemory` the set is as before.
@@ -45,10 +64,15 @@ impl NameSet {
         ensures new { IfOk result (λ new. new ≡ not (is_among name self.old)) }
         ensures after { OnOk result (self.new ≡ with_name self.old name) }
     {
-        match self.set.insert(name) {
-            Ok(new) => Ok(new),
-            Err(_) => Err(NoMemory),
-        }
+        self.add_key(Key::new(name))
+    }
+
+    /// Adds the name of a block: whether it was not there.
+    pub fn add_block(&mut self, block: &BlockName) -> Result<bool, NoMemory>
+        ensures new { IfOk result (λ new. new ≡ not (is_among (name_of_block block.now) self.old)) }
+        ensures after { OnOk result (self.new ≡ with_name self.old (name_of_block block.now)) }
+    {
+        self.add_key(Key::of_block(block))
     }
 
     /// Adds names: whether one of them was there, or stands twice among them.
