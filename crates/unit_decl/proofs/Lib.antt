@@ -7,3 +7,4 @@ pub mod Scopings
 pub mod Rows
 pub mod Among
 pub mod NameScanned
+pub mod SameMembers

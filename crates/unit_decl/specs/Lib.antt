@@ -7,3 +7,4 @@ pub mod Usings
 pub mod Scoping
 pub mod NameScans
 pub mod Facts
+pub mod Commons

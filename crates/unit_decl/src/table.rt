@@ -1,9 +1,11 @@
 // Tables that keep what was told of a name first.
 ghost use Rattle.std.specs.Prelude.{◌≡◌, [], option_copied, IfOk, OnOk};
+ghost use Rattle.fort_syntax.specs.Units.{name_of_block};
 ghost use Rattle.unit_decl.specs.Tables.{first_of, told};
 
+use crate::key::Key;
 use edge_io::NoMemory;
-use fort_syntax::Name;
+use fort_syntax::{BlockName, Name};
 use indexmap::IndexMap;
 use std::alloc::Global;
 use std::marker::Model;
@@ -11,7 +13,7 @@ use std::marker::Model;
 /// What was told of names first, which contracts see as the list of the names and of that, in order.
 #[derive(Drop)]
 pub struct Table<V> {
-    map: IndexMap<Name, V>,
+    map: IndexMap<Key, V>,
 }
 
 impl<V> Model for Table<V> {
@@ -39,21 +41,41 @@ impl<V: Drop> Table<V> {
     pub fn get(&self, name: &Name) -> Option<&V>
         ensures { option_copied result ≡ first_of self.now name.now }
     {
-        self.map.get(name)
+        self.map.get(&Key::new(*name))
+    }
+
+    /// What was told of a block first.
+    pub fn get_block(&self, block: &BlockName) -> Option<&V>
+        ensures { option_copied result ≡ first_of self.now (name_of_block block.now) }
+    {
+        self.map.get(&Key::of_block(block))
+    }
+
+    #[tactic(auto, using(crate::proofs::Told::fresh))]
+    fn tell_key(&mut self, key: Key, value: V) -> Result<(), NoMemory>
+        ensures { OnOk result (self.new ≡ told self.old key value) }
+    {
+        if self.map.get(&key).is_some() {
+            return Ok(());
+        }
+        match self.map.insert(key, value) {
+            Ok(_) => Ok(()),
+            Err(_) => Err(NoMemory),
+        }
     }
 
     /// Tells the table something of a name: it counts where nothing was told of the name before. At
     /// `NoMemory` it is as before.
-    #[tactic(auto, using(crate::proofs::Told::fresh))]
     pub fn tell(&mut self, name: Name, value: V) -> Result<(), NoMemory>
         ensures { OnOk result (self.new ≡ told self.old name value) }
     {
-        if self.map.get(&name).is_some() {
-            return Ok(());
-        }
-        match self.map.insert(name, value) {
-            Ok(_) => Ok(()),
-            Err(_) => Err(NoMemory),
-        }
+        self.tell_key(Key::new(name), value)
+    }
+
+    /// Tells the table something of a block.
+    pub fn tell_block(&mut self, block: &BlockName, value: V) -> Result<(), NoMemory>
+        ensures { OnOk result (self.new ≡ told self.old (name_of_block block.now) value) }
+    {
+        self.tell_key(Key::of_block(block), value)
     }
 }
