@@ -8,3 +8,5 @@ pub mod Rows
 pub mod Among
 pub mod NameScanned
 pub mod SameMembers
+pub mod CommonFacts
+pub mod NameUnits

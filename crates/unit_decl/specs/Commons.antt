@@ -50,6 +50,9 @@ differs (Some kept) own = not (same_members own kept)
 abbrev pub is_bad_with : List (Name × List Member) → List Member → Name → Bool
 is_bad_with table own b = differs (first_of table b) own || list_any (λ m. is_adjustable m.dims) own
 
+abbrev pub is_bad_by : List (Name × List Member) → Scope → List (Name × List Name) → Name → Bool
+is_bad_by earlier scope table b = is_bad_with earlier (map (member_of scope) (listed table b)) b
+
 -- a set of bad blocks with the bad ones of some that were not seen before
 abbrev pub bad_in : (Name → Bool) → List Name → List Name → List Name → List Name
 bad_in test seen bad [] = bad

@@ -2,6 +2,7 @@
 #![tactic(auto)]
 
 mod blocks;
+mod deck_names;
 mod deck_order;
 mod dims;
 mod names;
@@ -9,6 +10,7 @@ mod order;
 mod scoped;
 mod seen;
 mod splitting;
+mod common_rules;
 mod common_table;
 mod done;
 mod heads;
@@ -21,6 +23,7 @@ mod table;
 mod uses;
 
 pub use blocks::block_fault;
+pub use deck_names::deck_name_fault;
 pub use deck_order::{deck_block_fault, deck_order_fault};
 pub use dims::is_bad_shape;
 pub use names::{is_intrinsic_name, sort_by_letter, takes_so_many};

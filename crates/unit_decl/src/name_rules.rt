@@ -8,6 +8,7 @@ ghost use Rattle.unit_decl.specs.Scoping.{scope_by};
 ghost use Rattle.unit_decl.specs.Facts.{facts_by};
 ghost use Rattle.unit_decl.specs.NameScans.{given_of, nothing_done, done_with, names_twice, has_untyped, has_bad_shape, has_new_bad, is_bad_item, first_rule, name_rule, name_scan};
 
+use crate::common_table::CommonTable;
 use crate::dims::is_bad_shape;
 use crate::done::{given_by, Done, Given};
 use crate::heads::{dummies_by, groups_by};
@@ -19,12 +20,13 @@ use edge_io::NoMemory;
 use fort_syntax::{Dialect, Dim, Fault, Group, Item, Line, Name, Rule, Stmt};
 use std::alloc::Global;
 
-/// What is known of a unit: what its declarations say of names, its dummies, and which of its blocks
+/// What is known of a unit: what its declarations say of names, its dummies, its blocks, and which of them
 /// differ from those of earlier units or have an adjustable dimension.
 #[derive(Drop)]
 pub(crate) struct Known {
     pub(crate) scope: Scoped,
     pub(crate) dummies: NameSet,
+    pub(crate) commons: CommonTable,
     pub(crate) bad_blocks: NameSet,
 }
 
