@@ -10,3 +10,5 @@ pub mod NameScanned
 pub mod SameMembers
 pub mod CommonFacts
 pub mod NameUnits
+pub mod Typings
+pub mod Fittings

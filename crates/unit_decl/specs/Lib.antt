@@ -8,3 +8,4 @@ pub mod Scoping
 pub mod NameScans
 pub mod Facts
 pub mod Commons
+pub mod Parts

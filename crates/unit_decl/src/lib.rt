@@ -4,7 +4,9 @@
 mod blocks;
 mod deck_names;
 mod deck_order;
+mod deck_types;
 mod dims;
+mod fitting;
 mod names;
 mod order;
 mod scoped;
@@ -20,11 +22,13 @@ mod members;
 mod name_rules;
 mod name_set;
 mod table;
+mod typing;
 mod uses;
 
 pub use blocks::block_fault;
 pub use deck_names::deck_name_fault;
 pub use deck_order::{deck_block_fault, deck_order_fault};
+pub use deck_types::deck_type_fault;
 pub use dims::is_bad_shape;
 pub use names::{is_intrinsic_name, sort_by_letter, takes_so_many};
 pub use order::order_fault;

@@ -27,7 +27,7 @@ impl Model for Kept {
     ghost view = { λ m. record { name = m.name; sort = m.sort; dims = m.dims } };
 }
 
-fn same_sorts(a: Option<Sort>, b: Option<Sort>) -> bool
+pub(crate) fn same_sorts(a: Option<Sort>, b: Option<Sort>) -> bool
     ensures { result ≡ same_option a b }
 {
     match (a, b) {
