@@ -6,7 +6,7 @@ use Rattle.fort_syntax.specs.CardRules.{fault_or}
 use Rattle.fort_syntax.specs.Scopes.{Scope}
 use Rattle.fort_syntax.specs.OrderRules.{places_in, places_from, places}
 use Rattle.fort_syntax.specs.TreePatterns.{only, carried}
-use Rattle.fort_syntax.specs.TypeRules.{gives_logical, has_fit_operands, has_fit_places, is_well_typed}
+use Rattle.fort_syntax.specs.TypeRules.{gives_logical, has_fit_operands, has_fit_places, has_plain_subscripts, all_plain_subscripts, is_well_typed}
 use Rattle.fort_syntax.specs.UnitRules.{type_rules, fault_in_stage, fault_before}
 use Rattle.fort_syntax.specs.Units.{Segment, scope_of}
 use Rattle.fort_syntax.specs.Uses.{parts, parts_of_row, expressions, all_parts}
@@ -24,7 +24,8 @@ use Rattle.fort_syntax.specs.declared.stmt.Stmt.{Stmt}
 use Rattle.fort_syntax.specs.declared.stmt.Stmt.TheVariants as of
 use Rattle.fort_syntax.specs.declared.stmt.Stmt.TheViews as stmt
 use Rattle.fort_syntax.specs.declared.unit.Line.{Line}
-use Rattle.unit_decl.specs.Parts.{inner, holds, stmt_holds, type_scan, type_scans}
+use Rattle.unit_decl.specs.declared.fitting.Check.TheVariants.{Operands, Subscripts}
+use Rattle.unit_decl.specs.Parts.{test_by, inner, holds, stmt_holds, type_scan, type_scans}
 use Rattle.unit_decl.proofs.OrderScans.{fault_in_both}
 
 and_assoc : (a b c : Bool) → ((a && b) && c) ≡ (a && (b && c))
@@ -141,9 +142,12 @@ stmt_held test of.End = refl
 stmt_held test of.Else = refl
 stmt_held test of.EndIf = refl
 
-pub well_typed : (scope : Scope) (s : Stmt) → (has_fit_places scope s && stmt_holds (has_fit_operands scope) s) ≡ is_well_typed scope s
+pub well_typed : (scope : Scope) (s : Stmt) → (has_fit_places scope s && stmt_holds (test_by Operands scope) s) ≡ is_well_typed scope s
 well_typed scope s =
     ap (λ b. has_fit_places scope s && b) (stmt_held (has_fit_operands scope) s ∙ sym (parts_all (has_fit_operands scope) (expressions s)))
+
+pub all_plain : (scope : Scope) (s : Stmt) → stmt_holds (test_by Subscripts scope) s ≡ all_plain_subscripts scope s
+all_plain scope s = stmt_held (has_plain_subscripts scope) s ∙ sym (parts_all (has_plain_subscripts scope) (expressions s))
 
 scanned : (dialect : Dialect) (earlier : List Segment) (unit before lines : List Line)
     → fault_in_stage type_rules (places_in dialect earlier unit before lines) ≡ type_scan (scope_of unit) lines

@@ -12,3 +12,4 @@ pub mod CommonFacts
 pub mod NameUnits
 pub mod Typings
 pub mod Fittings
+pub mod PlainSubscripts

@@ -9,3 +9,4 @@ pub mod NameScans
 pub mod Facts
 pub mod Commons
 pub mod Parts
+pub mod PlainForms

@@ -4,7 +4,7 @@ use Rattle.std.specs.List.{list_all}
 use Rattle.fort_syntax.specs.CardRules.{fault_or}
 use Rattle.fort_syntax.specs.Scopes.{Scope}
 use Rattle.fort_syntax.specs.TreePatterns.{only, carried}
-use Rattle.fort_syntax.specs.TypeRules.{is_well_typed}
+use Rattle.fort_syntax.specs.TypeRules.{has_fit_operands, has_plain_subscripts, is_well_typed}
 use Rattle.fort_syntax.specs.UnitRules.{fault_before}
 use Rattle.fort_syntax.specs.Units.{Segment, scope_of}
 use Rattle.fort_syntax.specs.Uses.{parts, parts_of_row}
@@ -16,6 +16,12 @@ use Rattle.fort_syntax.specs.declared.rule.Rule.TheVariants.{BadType}
 use Rattle.fort_syntax.specs.declared.stmt.Stmt.{Stmt}
 use Rattle.fort_syntax.specs.declared.stmt.Stmt.TheVariants.{Assign, ArithIf, LogicalIf', Call, BlockIf, ElseIf}
 use Rattle.fort_syntax.specs.declared.unit.Line.{Line}
+use Rattle.unit_decl.specs.declared.fitting.Check.{Check}
+use Rattle.unit_decl.specs.declared.fitting.Check.TheVariants.{Operands, Subscripts}
+
+abbrev pub test_by : Check → Scope → Expr → Bool
+test_by Operands scope e = has_fit_operands scope e
+test_by Subscripts scope e = has_plain_subscripts scope e
 
 -- the expressions in an expression but itself
 abbrev pub inner : Expr → List Expr
