@@ -1,6 +1,6 @@
 -- Names among names.
 use Rattle.std.proofs.Common.{◌≡◌, Bool, true, false, List, [], ◌∷◌, ◌++◌, refl, sym, ap, ◌∙◌}
-use Rattle.std.specs.Prelude.{◌||◌, cond}
+use Rattle.std.specs.Prelude.{◌||◌}
 use Rattle.std.specs.List.{list_any}
 use Rattle.fort_syntax.specs.Scopes.{same_name, is_among}
 use Rattle.fort_syntax.specs.declared.name.Name.{Name}

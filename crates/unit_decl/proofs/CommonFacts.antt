@@ -1,10 +1,9 @@
 -- What the tables of a unit tell of its COMMON blocks.
 use Rattle.std.proofs.Common.{◌≡◌, Bool, true, false, List, [], ◌∷◌, ◌++◌, refl, sym, ap, ◌∙◌, append_assoc, rules}
-use Rattle.std.specs.Prelude.{◌||◌, ◌&&◌, not, cond, map, flat_map, Option, Some, None}
-use Rattle.std.specs.List.{list_any}
+use Rattle.std.specs.Prelude.{◌||◌, ◌&&◌, not, cond, map, Option, Some}
 use Rattle.indexmap.specs.IndexMap.{insert_entry}
-use Rattle.fort_syntax.specs.Scopes.{Scope, same_name, is_among}
-use Rattle.fort_syntax.specs.Units.{Segment, gathered, own_name, dummies_by, dummies_of, scope_of, name_of_block, groups_by, blocks_by, names_of_items, items_of_block, items_of_block_in}
+use Rattle.fort_syntax.specs.Scopes.{same_name, is_among}
+use Rattle.fort_syntax.specs.Units.{Segment, gathered, own_name, dummies_by, scope_of, name_of_block, groups_by, blocks_by, names_of_items, items_of_block_in}
 use Rattle.fort_syntax.specs.NameRules.{Member, member_of, members}
 use Rattle.fort_syntax.specs.declared.name.Name.{Name}
 use Rattle.fort_syntax.specs.declared.stmt.Group.{Group}
@@ -49,7 +48,7 @@ insert_of {V} (e ∷ es) k v x = by (insert_of es k v x) (same_name k e.0) refl
     by rest false h =
         ap (cond (same_name x e.0) (Some e.1)) rest
         ∙ moved (same_name x e.0) (same_name x k) v e.1 (first_of es x)
-          (λ p q. sym h ∙ ap (λ y. same_name y e.0) (sym (same_names x k q)) ∙ p)
+        (λ p q. sym h ∙ ap (λ y. same_name y e.0) (sym (same_names x k q)) ∙ p)
 
 no_more : {X : Type 0} (xs : List X) → xs ++ [] ≡ xs
 no_more [] = refl
@@ -86,7 +85,7 @@ groups_of table (g ∷ groups) b =
     ∙ ap (λ xs. xs ++ names_of_items rest) (appended_of table (name_of_block g.block) (names_of_items g.items) b)
     ∙ append_assoc (listed table b) (cond s (names_of_items g.items) []) (names_of_items rest)
     ∙ ap (λ xs. listed table b ++ xs)
-      (ap (λ xs. xs ++ names_of_items rest) (names_if s g.items) ∙ sym (names_both (cond s g.items []) rest))
+    (ap (λ xs. xs ++ names_of_items rest) (names_if s g.items) ∙ sym (names_both (cond s g.items []) rest))
 
 items_both : (xs ys : List Group) (b : Name) → items_of_block_in (xs ++ ys) b ≡ items_of_block_in xs b ++ items_of_block_in ys b
 items_both [] ys b = refl
@@ -104,7 +103,7 @@ tabled_of table (line ∷ lines) b =
     ∙ ap (λ xs. xs ++ names_of_items rest) (groups_of table (groups_by line.stmt) b)
     ∙ append_assoc (listed table b) (names_of_items first) (names_of_items rest)
     ∙ ap (λ xs. listed table b ++ xs)
-      (sym (names_both first rest) ∙ ap names_of_items (sym (items_both (groups_by line.stmt) (gathered groups_by lines) b)))
+    (sym (names_both first rest) ∙ ap names_of_items (sym (items_both (groups_by line.stmt) (gathered groups_by lines) b)))
 
 -- ---- sets of names
 

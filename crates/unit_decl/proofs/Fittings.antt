@@ -9,7 +9,7 @@ use Rattle.fort_syntax.specs.TreePatterns.{only, carried}
 use Rattle.fort_syntax.specs.TypeRules.{gives_logical, has_fit_operands, has_fit_places, has_plain_subscripts, all_plain_subscripts, is_well_typed}
 use Rattle.fort_syntax.specs.UnitRules.{type_rules, fault_in_stage, fault_before}
 use Rattle.fort_syntax.specs.Units.{Segment, scope_of}
-use Rattle.fort_syntax.specs.Uses.{parts, parts_of_row, expressions, all_parts}
+use Rattle.fort_syntax.specs.Uses.{parts, parts_of_row, expressions}
 use Rattle.fort_syntax.specs.declared.dialect.BinOp.{BinOp}
 use Rattle.fort_syntax.specs.declared.dialect.Dialect.{Dialect}
 use Rattle.fort_syntax.specs.declared.dialect.RelOp.{RelOp}
@@ -18,7 +18,6 @@ use Rattle.fort_syntax.specs.declared.expr.Expr.{Expr, Row_of-Expr, end_of-Expr,
 use Rattle.fort_syntax.specs.declared.expr.Expr.TheBlock.{hidden-the_row-Expr-0}
 use Rattle.fort_syntax.specs.declared.expr.Expr.TheVariants.{Const, Truth, Var, Apply', Paren', Pos', Neg', Power', Bin', Rel', Not', And', Or'}
 use Rattle.fort_syntax.specs.declared.expr.Expr.TheViews as view
-use Rattle.fort_syntax.specs.declared.refusal.Fault.{Fault}
 use Rattle.fort_syntax.specs.declared.rule.Rule.TheVariants.{BadType}
 use Rattle.fort_syntax.specs.declared.stmt.Stmt.{Stmt}
 use Rattle.fort_syntax.specs.declared.stmt.Stmt.TheVariants as of

@@ -1,12 +1,12 @@
 -- One pass finds the first fault in the declarations of a unit.
 use Rattle.std.proofs.Common.{◌≡◌, Bool, true, false, List, [], ◌∷◌, ◌++◌, refl, sym, ap, ◌∙◌, append_assoc, rules}
-use Rattle.std.specs.Prelude.{◌||◌, ◌&&◌, not, cond, flat_map, Option, Some, None}
+use Rattle.std.specs.Prelude.{◌||◌, ◌&&◌, not, cond}
 use Rattle.std.specs.List.{list_any}
 use Rattle.fort_syntax.specs.CardRules.{fault_or}
 use Rattle.fort_syntax.specs.Scopes.{same_name, is_among, has_twin, do_meet}
 use Rattle.fort_syntax.specs.Units.{Segment, gathered, own_name, dummies_of, dummies_by, blocks_by}
 use Rattle.fort_syntax.specs.OrderRules.{Place, places_in}
-use Rattle.fort_syntax.specs.NameRules.{typed_by, dimensioned_by, commons_by, does_again, breaks_15, breaks_16, breaks_17, breaks_24, breaks_25, is_bad_block_of}
+use Rattle.fort_syntax.specs.NameRules.{typed_by, dimensioned_by, commons_by, breaks_15, breaks_16, breaks_17, breaks_24, breaks_25, is_bad_block_of}
 use Rattle.fort_syntax.specs.UnitRules.{name_rules, first_broken, fault_in_stage}
 use Rattle.fort_syntax.specs.declared.dialect.Dialect.{Dialect}
 use Rattle.fort_syntax.specs.declared.name.Name.{Name}
@@ -14,7 +14,7 @@ use Rattle.fort_syntax.specs.declared.stmt.Stmt.{Stmt}
 use Rattle.fort_syntax.specs.declared.unit.Line.{Line}
 use Rattle.unit_decl.specs.declared.done.Done.{Done}
 use Rattle.unit_decl.specs.Sets.{with_name, with_names, repeats}
-use Rattle.unit_decl.specs.NameScans.{Facts, given_of, nothing_done, done_with, facts_of, is_bad_in, names_twice, has_new_bad, first_rule, name_rule, name_scan}
+use Rattle.unit_decl.specs.NameScans.{given_of, nothing_done, done_with, facts_of, is_bad_in, names_twice, has_new_bad, first_rule, name_rule, name_scan}
 use Rattle.unit_decl.proofs.Told.{same_names, swapped}
 use Rattle.unit_decl.proofs.Among.{or_assoc, among_both}
 
@@ -141,7 +141,7 @@ stated give unit before lines line b whole m =
     ∙ ap (is_among b) (gathered_both give before (line ∷ lines))
     ∙ among_both b (gathered give before) (give line.stmt ++ gathered give lines)
     ∙ or_true (is_among b (gathered give before)) (is_among b (give line.stmt ++ gathered give lines))
-      (among_both b (give line.stmt) (gathered give lines) ∙ true_or (is_among b (give line.stmt)) (is_among b (gathered give lines)) m)
+    (among_both b (give line.stmt) (gathered give lines) ∙ true_or (is_among b (give line.stmt)) (is_among b (gathered give lines)) m)
 
 -- what the statements before have done
 pub record DoneBy (done : Done) (before : List Line) : Type 0 where
@@ -183,8 +183,8 @@ new_bad_is dialect earlier unit before lines line blocks whole same =
     (λ b. not (is_among b blocks) && (facts_of earlier unit).is_bad_block b)
     (blocks_by line.stmt)
     (λ b m.
-      ap (λ c. not c && is_bad_in earlier unit b) (sym (same b))
-      ∙ ap (λ c. not (is_among b blocks) && (c && is_bad_in earlier unit b)) (sym (stated blocks_by unit before lines line b whole m)))
+    ap (λ c. not c && is_bad_in earlier unit b) (sym (same b))
+    ∙ ap (λ c. not (is_among b blocks) && (c && is_bad_in earlier unit b)) (sym (stated blocks_by unit before lines line b whole m)))
 
 rule_is : (dialect : Dialect) (earlier : List Segment) (unit before lines : List Line) (line : Line) (done : Done) (blocks : List Name)
     → unit ≡ before ++ line ∷ lines → DoneBy done before → SameNames blocks (gathered blocks_by before)

@@ -64,7 +64,7 @@ remembered_of mem table [] x = or_none (first_of table x)
 remembered_of mem table (b ∷ bs) x =
     remembered_of mem (told table b (mem b)) bs x
     ∙ ap (λ o. or_else o (cond (is_among x bs) (Some (mem x)) None))
-      (told_of table b (mem b) x ∙ ap (or_else (first_of table x)) (kept_if mem b x (same_name x b) refl))
+    (told_of table b (mem b) x ∙ ap (or_else (first_of table x)) (kept_if mem b x (same_name x b) refl))
     ∙ or_both (same_name x b) (is_among x bs) (first_of table x) (mem x)
 
 remembered_from_of : (mem : Name → List Member) (table : List (Name × List Member)) (lines : List Line) (x : Name)
@@ -184,7 +184,7 @@ scanned_units dialect table earlier (unit ∷ units) agrees =
     fault_in_both name_rules (places_in dialect earlier unit [] unit) (places_from dialect (earlier ++ unit ∷ []) units)
     ∙ ap (λ f. fault_before f later) first
     ∙ joined scan later (name_scans dialect (remembered_from (members unit) table unit) units)
-      (λ h. scanned_units dialect (remembered_from (members unit) table unit) (earlier ++ unit ∷ []) units (agrees_more dialect table earlier unit agrees h))
+    (λ h. scanned_units dialect (remembered_from (members unit) table unit) (earlier ++ unit ∷ []) units (agrees_more dialect table earlier unit agrees h))
 
 -- the first fault of a deck is found unit by unit
 pub names_found : (dialect : Dialect) (units : List Segment) → fault_in_stage name_rules (places dialect units) ≡ name_scans dialect [] units

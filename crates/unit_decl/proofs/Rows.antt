@@ -1,8 +1,8 @@
 -- What stands in the brackets behind a name, as a list.
-use Rattle.std.proofs.Common.{◌≡◌, List, [], ◌∷◌, ◌++◌, ℕ, length, refl, ap, sym, ◌∙◌, append_assoc}
-use Rattle.std.specs.Prelude.{flat_map, suc}
+use Rattle.std.proofs.Common.{◌≡◌, List, ◌∷◌, ◌++◌, ℕ, length, refl, ap, sym, ◌∙◌, append_assoc}
+use Rattle.std.specs.Prelude.{flat_map}
 use Rattle.fort_syntax.specs.TreePatterns.{listed}
-use Rattle.fort_syntax.specs.Uses.{Use, applied, assigned_element, argument_of, read, Occurrence, occurrence, uses_in, uses_in_row, uses_on_left, uses_of}
+use Rattle.fort_syntax.specs.Uses.{Use, applied, assigned_element, argument_of, read, occurrence, uses_in, uses_in_row, uses_on_left, uses_of}
 use Rattle.fort_syntax.specs.declared.name.Name.{Name}
 use Rattle.fort_syntax.specs.declared.expr.Expr.{Expr, Row_of-Expr, end_of-Expr, more_of-Expr, items-the_row-Expr, items_hidden-the_row-Expr-0}
 use Rattle.fort_syntax.specs.declared.expr.Expr.TheViews as view

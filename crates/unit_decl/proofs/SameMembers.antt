@@ -1,7 +1,7 @@
 -- Lists of another length have other members.
-use Rattle.std.proofs.Common.{◌≡◌, ℕ, suc, Bool, true, false, List, [], ◌∷◌, length, refl, sym, ap, ◌∙◌, rules, arith}
+use Rattle.std.proofs.Common.{◌≡◌, ℕ, suc, Bool, true, false, List, [], ◌∷◌, length, refl, sym, ap, rules, arith}
 use Rattle.std.specs.Prelude.{◌&&◌, nat_eq, map, Option, Some, None}
-use Rattle.fort_syntax.specs.Scopes.{same_name, same_sort, same_option, same_dim, same_dims}
+use Rattle.fort_syntax.specs.Scopes.{same_name, same_option, same_dim, same_dims}
 use Rattle.fort_syntax.specs.NameRules.{Member, same_member, same_members}
 use Rattle.fort_syntax.specs.declared.dialect.Sort.{Sort}
 use Rattle.fort_syntax.specs.declared.dialect.Sort.TheVariants.{Integer, Logical}

@@ -1,7 +1,7 @@
 -- The tables of a unit say what its declarations say.
-use Rattle.std.proofs.Common.{◌≡◌, Bool, true, false, cond, List, [], ◌∷◌, ◌++◌, refl, sym, ap, ◌∙◌, append_assoc}
+use Rattle.std.proofs.Common.{◌≡◌, Bool, true, false, cond, List, [], ◌∷◌, ◌++◌, refl, sym, ap, ◌∙◌}
 use Rattle.std.specs.Prelude.{Option, Some, None, ◌&&◌}
-use Rattle.fort_syntax.specs.Scopes.{Scope, same_name, sort_by_letter, is_given_dims}
+use Rattle.fort_syntax.specs.Scopes.{same_name, sort_by_letter, is_given_dims}
 use Rattle.fort_syntax.specs.Units.{Segment, Typing, typings_by, items_by, gathered, sort_in, dims_in, scope_of}
 use Rattle.fort_syntax.specs.declared.name.Name.{Name}
 use Rattle.fort_syntax.specs.declared.dialect.Sort.{Sort}
@@ -9,7 +9,6 @@ use Rattle.fort_syntax.specs.declared.stmt.Dim.{Dim}
 use Rattle.fort_syntax.specs.declared.stmt.Item.{Item}
 use Rattle.fort_syntax.specs.declared.stmt.Stmt.TheVariants.{Declare}
 use Rattle.fort_syntax.specs.declared.unit.Line.{Line}
-use Rattle.unit_decl.specs.declared.scoped.Scoped.{Scoped}
 use Rattle.unit_decl.specs.Tables.{first_of, told, all_told, pairs_of, typed_from, typed_items, shaped, shaped_from}
 use Rattle.unit_decl.specs.Scoping.{or_else, dims_or, scope_by}
 use Rattle.unit_decl.proofs.Told.{swapped, told_of, all_told_of, one_before}

@@ -1,5 +1,5 @@
 -- The types of expressions, by their forms.
-use Rattle.std.proofs.Common.{◌≡◌, ℕ, List, [], ◌∷◌, ◌++◌, refl, ap, ◌∙◌}
+use Rattle.std.proofs.Common.{◌≡◌, ℕ, List, refl, ap}
 use Rattle.std.specs.Prelude.{◌&&◌}
 use Rattle.fort_syntax.specs.Scopes.{Scope}
 use Rattle.fort_syntax.specs.TypeRules.{type_of, gives_integer, gives_logical, are_fit_arguments, has_fit_operands}

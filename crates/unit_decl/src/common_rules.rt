@@ -9,12 +9,12 @@ ghost use Rattle.unit_decl.specs.Scoping.{scope_by};
 ghost use Rattle.unit_decl.specs.Facts.{facts_by, members_by};
 ghost use Rattle.unit_decl.specs.Commons.{differs, is_bad_with, is_bad_by, bad_in, bad_from, given_from, remembered, remembered_from, facts_with};
 
-use crate::common_table::{commons_of, CommonTable};
+use crate::common_table::{CommonTable, commons_of};
 use crate::heads::{dummies_by, groups_by};
-use crate::members::{are_members, has_adjustable, members_of, Kept};
+use crate::members::{Kept, are_members, has_adjustable, members_of};
 use crate::name_rules::Known;
 use crate::name_set::NameSet;
-use crate::scoped::{scope_of, Scoped};
+use crate::scoped::{Scoped, scope_of};
 use crate::table::Table;
 use edge_io::{List, NoMemory};
 use fort_syntax::{BlockName, Group, Line, Name};
@@ -35,14 +35,26 @@ fn is_bad(earlier: &Table<List<Kept>>, scope: &Scoped, names: &[Name], block: &B
     differs(earlier, scope, names, block) || has_adjustable(scope, names)
 }
 
-fn is_bad_block(earlier: &Table<List<Kept>>, scope: &Scoped, table: &CommonTable, block: &BlockName) -> bool
+fn is_bad_block(
+    earlier: &Table<List<Kept>>,
+    scope: &Scoped,
+    table: &CommonTable,
+    block: &BlockName,
+) -> bool
     ensures { result ≡ is_bad_by earlier.now (scope_by scope.now) table.now (name_of_block block.now) }
 {
     is_bad(earlier, scope, table.names(block), block)
 }
 
 /// Adds a block to those that were seen, and to the bad ones where it is new and bad.
-fn mark(earlier: &Table<List<Kept>>, scope: &Scoped, table: &CommonTable, seen: &mut NameSet, bad: &mut NameSet, block: &BlockName) -> Result<(), NoMemory>
+fn mark(
+    earlier: &Table<List<Kept>>,
+    scope: &Scoped,
+    table: &CommonTable,
+    seen: &mut NameSet,
+    bad: &mut NameSet,
+    block: &BlockName,
+) -> Result<(), NoMemory>
     ensures seen { OnOk result (seen.new ≡ with_name seen.old (name_of_block block.now)) }
     ensures bad { OnOk result (bad.new ≡ cond (not (is_among (name_of_block block.now) seen.old) && is_bad_by earlier.now (scope_by scope.now) table.now (name_of_block block.now)) (with_name bad.old (name_of_block block.now)) bad.old) }
 {
@@ -57,7 +69,14 @@ fn mark(earlier: &Table<List<Kept>>, scope: &Scoped, table: &CommonTable, seen: 
     Ok(())
 }
 
-fn mark_groups(earlier: &Table<List<Kept>>, scope: &Scoped, table: &CommonTable, seen: &mut NameSet, bad: &mut NameSet, groups: &[Group]) -> Result<(), NoMemory>
+fn mark_groups(
+    earlier: &Table<List<Kept>>,
+    scope: &Scoped,
+    table: &CommonTable,
+    seen: &mut NameSet,
+    bad: &mut NameSet,
+    groups: &[Group],
+) -> Result<(), NoMemory>
     ensures seen { OnOk result (seen.new ≡ with_names seen.old (map (λ g. name_of_block g.block) groups.now)) }
     ensures bad { OnOk result (bad.new ≡ bad_in (is_bad_by earlier.now (scope_by scope.now) table.now) seen.old bad.old (map (λ g. name_of_block g.block) groups.now)) }
 {
@@ -69,14 +88,27 @@ fn mark_groups(earlier: &Table<List<Kept>>, scope: &Scoped, table: &CommonTable,
     Ok(())
 }
 
-fn mark_stmt(earlier: &Table<List<Kept>>, scope: &Scoped, table: &CommonTable, seen: &mut NameSet, bad: &mut NameSet, line: &Line) -> Result<(), NoMemory>
+fn mark_stmt(
+    earlier: &Table<List<Kept>>,
+    scope: &Scoped,
+    table: &CommonTable,
+    seen: &mut NameSet,
+    bad: &mut NameSet,
+    line: &Line,
+) -> Result<(), NoMemory>
     ensures seen { OnOk result (seen.new ≡ with_names seen.old (blocks_by line.now.stmt)) }
     ensures bad { OnOk result (bad.new ≡ bad_in (is_bad_by earlier.now (scope_by scope.now) table.now) seen.old bad.old (blocks_by line.now.stmt)) }
 {
     mark_groups(earlier, scope, table, seen, bad, groups_by(&line.stmt))
 }
 
-fn bad_blocks(alloc: Global, earlier: &Table<List<Kept>>, scope: &Scoped, table: &CommonTable, unit: &[Line]) -> Result<NameSet, NoMemory>
+fn bad_blocks(
+    alloc: Global,
+    earlier: &Table<List<Kept>>,
+    scope: &Scoped,
+    table: &CommonTable,
+    unit: &[Line],
+) -> Result<NameSet, NoMemory>
     ensures { IfOk result (λ bad. bad ≡ bad_from (is_bad_by earlier.now (scope_by scope.now) table.now) [] [] unit.now) }
 {
     let mut seen = NameSet::new(alloc);
@@ -103,7 +135,11 @@ pub(crate) fn dummies_of(alloc: Global, unit: &[Line]) -> Result<NameSet, NoMemo
 }
 
 /// What is known of a unit, by what is kept of the blocks of the units before it.
-pub(crate) fn known_of(alloc: Global, earlier: &Table<List<Kept>>, unit: &[Line]) -> Result<Known, NoMemory>
+pub(crate) fn known_of(
+    alloc: Global,
+    earlier: &Table<List<Kept>>,
+    unit: &[Line],
+) -> Result<Known, NoMemory>
     ensures facts { IfOk result (λ known. facts_by known (own_name unit.now) ≡ facts_with earlier.now unit.now) }
     ensures members { IfOk result (λ known. members_by known ≡ members unit.now) }
 {
@@ -128,7 +164,12 @@ pub(crate) fn known_of(alloc: Global, earlier: &Table<List<Kept>>, unit: &[Line]
 }
 
 /// Keeps a block of a unit, where no earlier unit has one of its name.
-fn remember(alloc: Global, earlier: &mut Table<List<Kept>>, known: &Known, block: &BlockName) -> Result<(), NoMemory>
+fn remember(
+    alloc: Global,
+    earlier: &mut Table<List<Kept>>,
+    known: &Known,
+    block: &BlockName,
+) -> Result<(), NoMemory>
     ensures { OnOk result (earlier.new ≡ told earlier.old (name_of_block block.now) (members_by known.now (name_of_block block.now))) }
 {
     if earlier.get_block(block).is_some() {
@@ -140,7 +181,12 @@ fn remember(alloc: Global, earlier: &mut Table<List<Kept>>, known: &Known, block
     earlier.tell_block(block, members)
 }
 
-fn remember_groups(alloc: Global, earlier: &mut Table<List<Kept>>, known: &Known, groups: &[Group]) -> Result<(), NoMemory>
+fn remember_groups(
+    alloc: Global,
+    earlier: &mut Table<List<Kept>>,
+    known: &Known,
+    groups: &[Group],
+) -> Result<(), NoMemory>
     ensures { OnOk result (earlier.new ≡ remembered (members_by known.now) earlier.old (map (λ g. name_of_block g.block) groups.now)) }
 {
     for group in groups {
@@ -151,14 +197,24 @@ fn remember_groups(alloc: Global, earlier: &mut Table<List<Kept>>, known: &Known
     Ok(())
 }
 
-fn remember_stmt(alloc: Global, earlier: &mut Table<List<Kept>>, known: &Known, line: &Line) -> Result<(), NoMemory>
+fn remember_stmt(
+    alloc: Global,
+    earlier: &mut Table<List<Kept>>,
+    known: &Known,
+    line: &Line,
+) -> Result<(), NoMemory>
     ensures { OnOk result (earlier.new ≡ remembered (members_by known.now) earlier.old (blocks_by line.now.stmt)) }
 {
     remember_groups(alloc, earlier, known, groups_by(&line.stmt))
 }
 
 /// Keeps the blocks of a unit that no earlier unit has.
-pub(crate) fn remember_unit(alloc: Global, earlier: &mut Table<List<Kept>>, known: &Known, unit: &[Line]) -> Result<(), NoMemory>
+pub(crate) fn remember_unit(
+    alloc: Global,
+    earlier: &mut Table<List<Kept>>,
+    known: &Known,
+    unit: &[Line],
+) -> Result<(), NoMemory>
     ensures { OnOk result (earlier.new ≡ remembered_from (members_by known.now) earlier.old unit.now) }
 {
     for line in unit {

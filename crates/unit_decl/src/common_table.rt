@@ -62,7 +62,10 @@ impl CommonTable {
         ensures names { IfOk result (λ names. names ≡ listed self.old (name_of_block block.now)) }
         ensures after { OnOk result (self.new ≡ insert_entry same_name self.old (name_of_block block.now) []) }
     {
-        match self.map.insert(Key::of_block(block), List::from_vec(Vec::new(alloc))) {
+        match self
+            .map
+            .insert(Key::of_block(block), List::from_vec(Vec::new(alloc)))
+        {
             Ok(Some(names)) => Ok(names),
             Ok(None) => Ok(List::from_vec(Vec::new(alloc))),
             Err(_) => Err(NoMemory),

@@ -18,7 +18,12 @@ use fort_syntax::{Dialect, Fault, Line};
 use std::alloc::Global;
 
 /// The first fault of a unit, whose blocks are kept.
-fn judged(alloc: Global, dialect: Dialect, earlier: &mut Table<List<Kept>>, unit: &[Line]) -> Result<Option<Fault>, NoMemory>
+fn judged(
+    alloc: Global,
+    dialect: Dialect,
+    earlier: &mut Table<List<Kept>>,
+    unit: &[Line],
+) -> Result<Option<Fault>, NoMemory>
     ensures fault { IfOk result (λ fault. fault ≡ name_scan dialect (facts_with earlier.old unit.now) nothing_done [] unit.now) }
     ensures earlier { OnOk result (earlier.new ≡ remembered_from (members unit.now) earlier.old unit.now) }
 {
@@ -54,7 +59,11 @@ fn scans(alloc: Global, dialect: Dialect, lines: &[Line]) -> Result<Option<Fault
 
 /// The first fault of a deck's statements by the rules on declarations.
 #[tactic(auto, using(crate::proofs::NameUnits::names_found))]
-pub fn deck_name_fault(alloc: Global, dialect: Dialect, lines: &[Line]) -> Result<Option<Fault>, NoMemory>
+pub fn deck_name_fault(
+    alloc: Global,
+    dialect: Dialect,
+    lines: &[Line],
+) -> Result<Option<Fault>, NoMemory>
     ensures { IfOk result (λ fault. fault ≡ fault_in_stage name_rules (places dialect (segments lines.now))) }
 {
     scans(alloc, dialect, lines)

@@ -40,7 +40,11 @@ fn scans(alloc: Global, lines: &[Line]) -> Result<Option<Fault>, NoMemory>
 
 /// The first fault of a deck's statements by the rule on types.
 #[tactic(auto, using(crate::proofs::Fittings::types_found))]
-pub fn deck_type_fault(alloc: Global, dialect: Dialect, lines: &[Line]) -> Result<Option<Fault>, NoMemory>
+pub fn deck_type_fault(
+    alloc: Global,
+    dialect: Dialect,
+    lines: &[Line],
+) -> Result<Option<Fault>, NoMemory>
     ensures { IfOk result (λ fault. fault ≡ fault_in_stage type_rules (places dialect (segments lines.now))) }
 {
     scans(alloc, lines)

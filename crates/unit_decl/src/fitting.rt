@@ -57,10 +57,30 @@ fn parts_fit(check: Check, scope: &Scoped, e: &Expr, ok: bool) -> bool
         Expr::Neg(a) => parts_fit(check, scope, a.get(), here),
         Expr::Power(a, _) => parts_fit(check, scope, a.get(), here),
         Expr::Not(a) => parts_fit(check, scope, a.get(), here),
-        Expr::Bin(_, a, b) => parts_fit(check, scope, b.get(), parts_fit(check, scope, a.get(), here)),
-        Expr::Rel(_, a, b) => parts_fit(check, scope, b.get(), parts_fit(check, scope, a.get(), here)),
-        Expr::And(a, b) => parts_fit(check, scope, b.get(), parts_fit(check, scope, a.get(), here)),
-        Expr::Or(a, b) => parts_fit(check, scope, b.get(), parts_fit(check, scope, a.get(), here)),
+        Expr::Bin(_, a, b) => parts_fit(
+            check,
+            scope,
+            b.get(),
+            parts_fit(check, scope, a.get(), here),
+        ),
+        Expr::Rel(_, a, b) => parts_fit(
+            check,
+            scope,
+            b.get(),
+            parts_fit(check, scope, a.get(), here),
+        ),
+        Expr::And(a, b) => parts_fit(
+            check,
+            scope,
+            b.get(),
+            parts_fit(check, scope, a.get(), here),
+        ),
+        Expr::Or(a, b) => parts_fit(
+            check,
+            scope,
+            b.get(),
+            parts_fit(check, scope, a.get(), here),
+        ),
     }
 }
 
@@ -87,7 +107,10 @@ fn stmt_fits(check: Check, scope: &Scoped, stmt: &Stmt) -> bool
     match stmt {
         Stmt::Assign(left, right) => both_fit(check, scope, left, right),
         Stmt::ArithIf(e, ..) => parts_fit(check, scope, e, true),
-        Stmt::LogicalIf(e, carried) => both(parts_fit(check, scope, e, true), stmt_fits(check, scope, carried.get())),
+        Stmt::LogicalIf(e, carried) => both(
+            parts_fit(check, scope, e, true),
+            stmt_fits(check, scope, carried.get()),
+        ),
         Stmt::Call(_, args) => args_fit(check, scope, args.as_slice(), true),
         Stmt::BlockIf(e) => parts_fit(check, scope, e, true),
         Stmt::ElseIf(e) => parts_fit(check, scope, e, true),
@@ -121,7 +144,10 @@ fn has_fit_places(scope: &Scoped, stmt: &Stmt) -> bool
         Stmt::Assign(left, right) => same_sorts(type_of(scope, left), type_of(scope, right)),
         Stmt::Computed(_, x) => scope.is_integer_scalar(x),
         Stmt::ArithIf(e, ..) => gives_integer(scope, e),
-        Stmt::LogicalIf(e, carried) => both(gives_logical(scope, e), has_fit_places(scope, carried.get())),
+        Stmt::LogicalIf(e, carried) => both(
+            gives_logical(scope, e),
+            has_fit_places(scope, carried.get()),
+        ),
         Stmt::Do(_, x, first, last, step) => {
             scope.is_integer_scalar(x)
                 && is_fit_param(scope, first)

@@ -100,7 +100,11 @@ impl Kept {
 }
 
 /// Names of a unit with their types and dimensions.
-pub(crate) fn members_of(alloc: Global, scope: &Scoped, names: &[Name]) -> Result<List<Kept>, NoMemory>
+pub(crate) fn members_of(
+    alloc: Global,
+    scope: &Scoped,
+    names: &[Name],
+) -> Result<List<Kept>, NoMemory>
     ensures { IfOk result (λ members. members ≡ map (member_of (scope_by scope.now)) names.now) }
 {
     let mut all = Vec::new(alloc);

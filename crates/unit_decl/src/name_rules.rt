@@ -10,7 +10,7 @@ ghost use Rattle.unit_decl.specs.NameScans.{given_of, nothing_done, done_with, n
 
 use crate::common_table::CommonTable;
 use crate::dims::is_bad_shape;
-use crate::done::{given_by, Done, Given};
+use crate::done::{Done, Given, given_by};
 use crate::heads::{dummies_by, groups_by};
 use crate::items::items_by;
 use crate::name_set::NameSet;
@@ -63,7 +63,13 @@ fn mentions_itself(own: &[u8], stmt: &Stmt, given: &Given) -> bool
 }
 
 /// Whether a statement does to a name what it may not.
-fn names_twice(known: &Known, own: &[u8], done: &mut Done, stmt: &Stmt, given: &Given) -> Result<bool, NoMemory>
+fn names_twice(
+    known: &Known,
+    own: &[u8],
+    done: &mut Done,
+    stmt: &Stmt,
+    given: &Given,
+) -> Result<bool, NoMemory>
     ensures twice { IfOk result (λ twice. twice ≡ names_twice (facts_by known.now own.now) done.old stmt.now given.now) }
     ensures after { OnOk result (done.new ≡ done_with done.old stmt.now given.now) }
 {
@@ -136,14 +142,25 @@ fn has_bad_item(dummies: &NameSet, scope: &Scoped, items: &[Item]) -> bool
     ensures { result ≡ list_any (is_bad_item (λ x. is_among x dummies.now) (scope_by scope.now)) items.now }
 {
     for item in items {
-        if has_bad_name(dummies, scope, dummies.has(&item.name), item.dims.as_slice()) {
+        if has_bad_name(
+            dummies,
+            scope,
+            dummies.has(&item.name),
+            item.dims.as_slice(),
+        ) {
             return true;
         }
     }
     false
 }
 
-fn first_rule(twice: bool, untyped: bool, shape: bool, block: bool, adjustable: bool) -> Option<Rule>
+fn first_rule(
+    twice: bool,
+    untyped: bool,
+    shape: bool,
+    block: bool,
+    adjustable: bool,
+) -> Option<Rule>
     ensures { result ≡ first_rule twice untyped shape block adjustable }
 {
     if twice {
@@ -170,7 +187,14 @@ fn stmt_has_untyped(alloc: Global, scope: &Scoped, stmt: &Stmt) -> Result<bool, 
     Ok(has_untyped(scope, names.as_slice()))
 }
 
-fn stmt_is_twice(alloc: Global, known: &Known, own: &[u8], done: &mut Done, stmt: &Stmt, items: &[Item]) -> Result<bool, NoMemory>
+fn stmt_is_twice(
+    alloc: Global,
+    known: &Known,
+    own: &[u8],
+    done: &mut Done,
+    stmt: &Stmt,
+    items: &[Item],
+) -> Result<bool, NoMemory>
     requires { items.now ≡ items_by stmt.now }
     ensures twice { IfOk result (λ twice. twice ≡ names_twice (facts_by known.now own.now) done.old stmt.now (given_of stmt.now)) }
     ensures after { OnOk result (done.new ≡ done_with done.old stmt.now (given_of stmt.now)) }
@@ -193,7 +217,16 @@ fn stmt_add_blocks(blocks: &mut NameSet, stmt: &Stmt) -> Result<(), NoMemory>
     add_blocks(blocks, groups_by(stmt))
 }
 
-fn rule_with(alloc: Global, dialect: Dialect, known: &Known, own: &[u8], done: &mut Done, blocks: &NameSet, stmt: &Stmt, items: &[Item]) -> Result<Option<Rule>, NoMemory>
+fn rule_with(
+    alloc: Global,
+    dialect: Dialect,
+    known: &Known,
+    own: &[u8],
+    done: &mut Done,
+    blocks: &NameSet,
+    stmt: &Stmt,
+    items: &[Item],
+) -> Result<Option<Rule>, NoMemory>
     requires { items.now ≡ items_by stmt.now }
     ensures rule { IfOk result (λ rule. rule ≡ name_rule dialect (facts_by known.now own.now) done.old blocks.now stmt.now) }
     ensures done { OnOk result (done.new ≡ done_with done.old stmt.now (given_of stmt.now)) }
@@ -211,7 +244,15 @@ fn rule_with(alloc: Global, dialect: Dialect, known: &Known, own: &[u8], done: &
 }
 
 /// The first of the rules on declarations that a statement breaks.
-fn name_rule(alloc: Global, dialect: Dialect, known: &Known, own: &[u8], done: &mut Done, blocks: &mut NameSet, stmt: &Stmt) -> Result<Option<Rule>, NoMemory>
+fn name_rule(
+    alloc: Global,
+    dialect: Dialect,
+    known: &Known,
+    own: &[u8],
+    done: &mut Done,
+    blocks: &mut NameSet,
+    stmt: &Stmt,
+) -> Result<Option<Rule>, NoMemory>
     ensures rule { IfOk result (λ rule. rule ≡ name_rule dialect (facts_by known.now own.now) done.old blocks.old stmt.now) }
     ensures done { OnOk result (done.new ≡ done_with done.old stmt.now (given_of stmt.now)) }
     ensures blocks { OnOk result (blocks.new ≡ with_names blocks.old (blocks_by stmt.now)) }
@@ -219,7 +260,16 @@ fn name_rule(alloc: Global, dialect: Dialect, known: &Known, own: &[u8], done: &
     let Ok(items) = items_by(alloc, stmt) else {
         return Err(NoMemory);
     };
-    let Ok(rule) = rule_with(alloc, dialect, known, own, done, blocks, stmt, items.as_slice()) else {
+    let Ok(rule) = rule_with(
+        alloc,
+        dialect,
+        known,
+        own,
+        done,
+        blocks,
+        stmt,
+        items.as_slice(),
+    ) else {
         return Err(NoMemory);
     };
     let Ok(()) = stmt_add_blocks(blocks, stmt) else {
@@ -229,13 +279,27 @@ fn name_rule(alloc: Global, dialect: Dialect, known: &Known, own: &[u8], done: &
 }
 
 /// The first fault of a unit by the rules on declarations.
-pub(crate) fn scan_names(alloc: Global, dialect: Dialect, known: &Known, unit: &[Line], own: &[u8]) -> Result<Option<Fault>, NoMemory>
+pub(crate) fn scan_names(
+    alloc: Global,
+    dialect: Dialect,
+    known: &Known,
+    unit: &[Line],
+    own: &[u8],
+) -> Result<Option<Fault>, NoMemory>
     ensures { IfOk result (λ fault. fault ≡ name_scan dialect (facts_by known.now own.now) nothing_done [] unit.now) }
 {
     let mut done = Done::new(alloc);
     let mut blocks = NameSet::new(alloc);
     for i in 0..unit.len() {
-        let Ok(rule) = name_rule(alloc, dialect, known, own, &mut done, &mut blocks, &unit[i].stmt) else {
+        let Ok(rule) = name_rule(
+            alloc,
+            dialect,
+            known,
+            own,
+            &mut done,
+            &mut blocks,
+            &unit[i].stmt,
+        ) else {
             return Err(NoMemory);
         };
         if let Some(rule) = rule {

@@ -53,7 +53,8 @@ fn is_multiple(scope: &Scoped, e: &Expr) -> bool
 fn plain(scope: &Scoped, op: BinOp, a: &Expr, b: &Expr) -> bool
     ensures { result ≡ plain (scope_by scope.now) op a.now b.now }
 {
-    multiple(scope, op, a, b) || (is_sum_or_difference(op) && is_multiple(scope, a) && is_constant(b))
+    multiple(scope, op, a, b)
+        || (is_sum_or_difference(op) && is_multiple(scope, a) && is_constant(b))
 }
 
 fn is_plain_subscript(scope: &Scoped, e: &Expr) -> bool

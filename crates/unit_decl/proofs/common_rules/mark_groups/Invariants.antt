@@ -1,10 +1,9 @@
-use Rattle.std.proofs.Common.{◌≡◌, ◌++◌, [], ◌∷◌, drop, take}
+use Rattle.std.proofs.Common.{◌≡◌, drop}
 use Rattle.std.specs.Prelude.{map}
-use Rattle.fort_syntax.specs.Units.{name_of_block, dummies_by}
+use Rattle.fort_syntax.specs.Units.{name_of_block}
 use Rattle.unit_decl.specs.Sets.{with_names}
 use Rattle.unit_decl.specs.Scoping.{scope_by}
-use Rattle.unit_decl.specs.Facts.{members_by}
-use Rattle.unit_decl.specs.Commons.{is_bad_by, bad_in, bad_from, given_from, remembered, remembered_from}
+use Rattle.unit_decl.specs.Commons.{is_bad_by, bad_in}
 use Rattle.unit_decl.proofs.common_rules.mark_groups.Given as goal
 
 abbrev pub invariant-loop-group : goal.invariant-loop-group

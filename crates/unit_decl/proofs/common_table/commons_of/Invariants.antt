@@ -1,4 +1,4 @@
-use Rattle.std.proofs.Common.{◌≡◌, ◌++◌, [], ◌∷◌, drop, take}
+use Rattle.std.proofs.Common.{◌≡◌, [], drop}
 use Rattle.unit_decl.specs.Commons.{tabled}
 use Rattle.unit_decl.proofs.common_table.commons_of.Given as goal
 

@@ -1,4 +1,4 @@
-use Rattle.std.proofs.Common.{◌≡◌, ◌++◌, [], ◌∷◌, drop, take}
+use Rattle.std.proofs.Common.{◌≡◌, ◌++◌, drop}
 use Rattle.fort_syntax.specs.Units.{names_of_items}
 use Rattle.unit_decl.proofs.common_table.push_names.Given as goal
 

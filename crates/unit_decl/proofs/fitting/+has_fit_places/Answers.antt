@@ -1,4 +1,4 @@
-use Rattle.std.proofs.Common.{◌≡◌, ap, sym, ◌∙◌}
+use Rattle.std.proofs.Common.{ap, sym, ◌∙◌}
 use Rattle.std.specs.Prelude.{◌&&◌}
 use Rattle.fort_syntax.specs.TypeRules.{has_fit_places}
 use Rattle.unit_decl.specs.Scoping.{scope_by}

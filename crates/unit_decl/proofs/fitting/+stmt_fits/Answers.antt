@@ -1,7 +1,7 @@
-use Rattle.std.proofs.Common.{◌≡◌, ap, sym, ◌∙◌}
+use Rattle.std.proofs.Common.{ap, sym, ◌∙◌}
 use Rattle.std.specs.Prelude.{◌&&◌}
 use Rattle.unit_decl.specs.Scoping.{scope_by}
-use Rattle.unit_decl.specs.Parts.{test_by, holds, stmt_holds}
+use Rattle.unit_decl.specs.Parts.{test_by, stmt_holds}
 use Rattle.unit_decl.proofs.Fittings.{held_by_if}
 use Rattle.unit_decl.proofs.fitting.+stmt_fits.Goals as goal
 

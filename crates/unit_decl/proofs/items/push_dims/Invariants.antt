@@ -1,5 +1,5 @@
-use Rattle.std.proofs.Common.{◌≡◌, ◌++◌, [], drop, take}
-use Rattle.fort_syntax.specs.Units.{names_of_items, names_in_dims, names_in_item}
+use Rattle.std.proofs.Common.{◌≡◌, ◌++◌, drop}
+use Rattle.fort_syntax.specs.Units.{names_in_dims}
 use Rattle.unit_decl.proofs.items.push_dims.Given as goal
 
 abbrev pub invariant-loop-dim : goal.invariant-loop-dim

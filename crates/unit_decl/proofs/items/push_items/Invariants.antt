@@ -1,5 +1,4 @@
-use Rattle.std.proofs.Common.{◌≡◌, ◌++◌, [], drop, take}
-
+use Rattle.std.proofs.Common.{◌≡◌, ◌++◌, take}
 use Rattle.unit_decl.proofs.items.push_items.Given as goal
 
 abbrev pub invariant-loop-item : goal.invariant-loop-item

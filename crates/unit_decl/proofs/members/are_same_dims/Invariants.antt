@@ -1,9 +1,5 @@
-use Rattle.std.proofs.Common.{◌≡◌, ◌++◌, [], ◌∷◌, drop, take}
-use Rattle.std.specs.Prelude.{map}
-use Rattle.std.specs.List.{list_any}
+use Rattle.std.proofs.Common.{◌≡◌, drop}
 use Rattle.fort_syntax.specs.Scopes.{same_dims}
-use Rattle.fort_syntax.specs.NameRules.{member_of, same_members, is_adjustable}
-use Rattle.unit_decl.specs.Scoping.{scope_by}
 use Rattle.unit_decl.proofs.members.are_same_dims.Given as goal
 
 abbrev pub invariant-loop-i : goal.invariant-loop-i

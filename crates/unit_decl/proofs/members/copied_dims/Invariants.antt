@@ -1,5 +1,4 @@
-use Rattle.std.proofs.Common.{◌≡◌, ◌++◌, [], ◌∷◌, drop, take}
-
+use Rattle.std.proofs.Common.{◌≡◌, take}
 use Rattle.unit_decl.proofs.members.copied_dims.Given as goal
 
 abbrev pub invariant-loop-dim : goal.invariant-loop-dim

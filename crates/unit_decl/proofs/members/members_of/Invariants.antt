@@ -1,8 +1,6 @@
-use Rattle.std.proofs.Common.{◌≡◌, ◌++◌, [], ◌∷◌, drop, take}
+use Rattle.std.proofs.Common.{◌≡◌, ◌++◌, drop}
 use Rattle.std.specs.Prelude.{map}
-use Rattle.std.specs.List.{list_any}
-use Rattle.fort_syntax.specs.Scopes.{same_dims}
-use Rattle.fort_syntax.specs.NameRules.{member_of, same_members, is_adjustable}
+use Rattle.fort_syntax.specs.NameRules.{member_of}
 use Rattle.unit_decl.specs.Scoping.{scope_by}
 use Rattle.unit_decl.proofs.members.members_of.Given as goal
 

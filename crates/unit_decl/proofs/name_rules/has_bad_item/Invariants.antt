@@ -1,8 +1,8 @@
-use Rattle.std.proofs.Common.{◌≡◌, ◌++◌, [], ◌∷◌, drop, take}
-use Rattle.fort_syntax.specs.Scopes.{is_among, is_integer_scalar}
+use Rattle.std.proofs.Common.{◌≡◌, drop}
+use Rattle.fort_syntax.specs.Scopes.{is_among}
 use Rattle.std.specs.List.{list_any}
 use Rattle.unit_decl.specs.Scoping.{scope_by}
-use Rattle.unit_decl.specs.NameScans.{has_untyped, has_bad_shape, has_new_bad, is_bad_item, name_scan, nothing_done}
+use Rattle.unit_decl.specs.NameScans.{is_bad_item}
 use Rattle.unit_decl.proofs.name_rules.has_bad_item.Given as goal
 
 abbrev pub invariant-loop-item : goal.invariant-loop-item

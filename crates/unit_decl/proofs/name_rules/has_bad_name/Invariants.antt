@@ -1,4 +1,4 @@
-use Rattle.std.proofs.Common.{◌≡◌, ◌++◌, [], ◌∷◌, drop, take}
+use Rattle.std.proofs.Common.{◌≡◌, drop}
 use Rattle.fort_syntax.specs.Scopes.{is_among, is_integer_scalar}
 use Rattle.std.specs.List.{list_any}
 use Rattle.unit_decl.specs.Scoping.{scope_by}

@@ -1,5 +1,5 @@
-use Rattle.std.proofs.Common.{◌≡◌, ◌++◌, [], ◌∷◌, drop, take}
-use Rattle.unit_decl.specs.NameScans.{has_untyped, has_bad_shape, has_new_bad, is_bad_item, name_scan, nothing_done}
+use Rattle.std.proofs.Common.{◌≡◌, drop}
+use Rattle.unit_decl.specs.NameScans.{has_bad_shape}
 use Rattle.unit_decl.proofs.name_rules.has_bad_shape.Given as goal
 
 abbrev pub invariant-loop-item : goal.invariant-loop-item

@@ -1,6 +1,6 @@
-use Rattle.std.proofs.Common.{◌≡◌, ◌++◌, [], ◌∷◌, drop, take}
-use Rattle.unit_decl.specs.NameScans.{has_untyped, has_bad_shape, has_new_bad, is_bad_item, name_scan, nothing_done}
-use Rattle.fort_syntax.specs.Scopes.{is_among, is_integer_scalar}
+use Rattle.std.proofs.Common.{◌≡◌, drop}
+use Rattle.unit_decl.specs.NameScans.{has_new_bad}
+use Rattle.fort_syntax.specs.Scopes.{is_among}
 use Rattle.std.specs.Prelude.{map}
 use Rattle.fort_syntax.specs.Units.{name_of_block}
 use Rattle.unit_decl.proofs.name_rules.has_new_bad.Given as goal

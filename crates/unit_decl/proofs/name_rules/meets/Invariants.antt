@@ -1,5 +1,5 @@
-use Rattle.std.proofs.Common.{◌≡◌, ◌++◌, [], ◌∷◌, drop, take}
-use Rattle.fort_syntax.specs.Scopes.{is_among, is_integer_scalar}
+use Rattle.std.proofs.Common.{◌≡◌, drop}
+use Rattle.fort_syntax.specs.Scopes.{is_among}
 use Rattle.std.specs.List.{list_any}
 use Rattle.unit_decl.proofs.name_rules.meets.Given as goal
 

@@ -1,5 +1,5 @@
-use Rattle.std.proofs.Common.{◌≡◌, ◌++◌, [], ◌∷◌, drop, take}
-use Rattle.unit_decl.specs.NameScans.{has_untyped, has_bad_shape, has_new_bad, is_bad_item, name_scan, nothing_done}
+use Rattle.std.proofs.Common.{◌≡◌, [], drop}
+use Rattle.unit_decl.specs.NameScans.{name_scan, nothing_done}
 use Rattle.unit_decl.specs.Facts.{facts_by}
 use Rattle.unit_decl.proofs.name_rules.scan_names.Given as goal
 

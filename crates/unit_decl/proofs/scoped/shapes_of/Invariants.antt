@@ -1,5 +1,5 @@
-use Rattle.std.proofs.Common.{◌≡◌, ◌++◌, [], drop, take}
-use Rattle.unit_decl.specs.Tables.{typed_items, typed_from, shaped, shaped_from}
+use Rattle.std.proofs.Common.{◌≡◌, [], drop}
+use Rattle.unit_decl.specs.Tables.{shaped_from}
 use Rattle.unit_decl.proofs.scoped.shapes_of.Given as goal
 
 abbrev pub invariant-loop-line : goal.invariant-loop-line

@@ -1,5 +1,5 @@
-use Rattle.std.proofs.Common.{◌≡◌, ◌++◌, [], drop, take}
-use Rattle.unit_decl.specs.Tables.{typed_items, typed_from, shaped, shaped_from}
+use Rattle.std.proofs.Common.{◌≡◌, drop}
+use Rattle.unit_decl.specs.Tables.{typed_items}
 use Rattle.unit_decl.proofs.scoped.tell_items.Given as goal
 
 abbrev pub invariant-loop-item : goal.invariant-loop-item

@@ -1,4 +1,4 @@
-use Rattle.std.proofs.Common.{◌≡◌, ap, sym, ◌∙◌}
+use Rattle.std.proofs.Common.{ap, sym, ◌∙◌}
 use Rattle.fort_syntax.specs.TypeRules.{is_multiple}
 use Rattle.unit_decl.specs.Scoping.{scope_by}
 use Rattle.unit_decl.specs.PlainForms.{multiple}

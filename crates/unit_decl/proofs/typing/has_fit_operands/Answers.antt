@@ -1,4 +1,4 @@
-use Rattle.std.proofs.Common.{◌≡◌, ap, sym, ◌∙◌}
+use Rattle.std.proofs.Common.{ap, sym, ◌∙◌}
 use Rattle.std.specs.Prelude.{◌&&◌}
 use Rattle.fort_syntax.specs.TypeRules.{gives_integer, gives_logical, are_fit_arguments, has_fit_operands}
 use Rattle.unit_decl.specs.Scoping.{scope_by}

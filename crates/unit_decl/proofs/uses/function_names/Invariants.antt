@@ -1,5 +1,4 @@
-use Rattle.std.proofs.Common.{◌≡◌, ◌++◌, [], ◌∷◌, drop, take}
-
+use Rattle.std.proofs.Common.{◌≡◌, ◌∷◌, take}
 use Rattle.unit_decl.proofs.uses.function_names.Given as goal
 
 abbrev pub invariant-loop-name : goal.invariant-loop-name

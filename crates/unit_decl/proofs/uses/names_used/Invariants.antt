@@ -1,4 +1,4 @@
-use Rattle.std.proofs.Common.{◌≡◌, ◌++◌, [], ◌∷◌, drop, take}
+use Rattle.std.proofs.Common.{◌≡◌, ◌++◌, drop}
 use Rattle.fort_syntax.specs.Units.{names_used}
 use Rattle.unit_decl.proofs.uses.names_used.Given as goal
 
