@@ -13,3 +13,6 @@ pub mod NameUnits
 pub mod Typings
 pub mod Fittings
 pub mod PlainSubscripts
+pub mod CarriedLabels
+pub mod RoleFacts
+pub mod UseScanned

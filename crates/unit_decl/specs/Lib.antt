@@ -10,3 +10,6 @@ pub mod Facts
 pub mod Commons
 pub mod Parts
 pub mod PlainForms
+pub mod Labels
+pub mod UseScans
+pub mod Roles

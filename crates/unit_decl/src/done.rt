@@ -29,7 +29,7 @@ fn typed_by(alloc: Global, stmt: &Stmt, items: &[Item]) -> Result<List<Name>, No
     }
 }
 
-fn commons_by(alloc: Global, stmt: &Stmt, items: &[Item]) -> Result<List<Name>, NoMemory>
+pub(crate) fn commons_by(alloc: Global, stmt: &Stmt, items: &[Item]) -> Result<List<Name>, NoMemory>
     requires { items.now ≡ items_by stmt.now }
     ensures { IfOk result (λ names. names ≡ commons_by stmt.now) }
 {
