@@ -16,3 +16,4 @@ pub mod PlainSubscripts
 pub mod CarriedLabels
 pub mod RoleFacts
 pub mod UseScanned
+pub mod UseSteps
