@@ -108,12 +108,12 @@ held_is unit x =
 data_is : (unit : Segment) (x : Name)
     → is_among x (data_names unit)
     ≡ (is_among x (gathered names_in unit)
-      && (is_among x (dummies_of unit) || is_among x (commons_of unit) || (is_function unit && same_name x (own_name unit))
-        || not (is_among x (references_in (scope_of unit) (gathered uses_of unit)))))
+    && (is_among x (dummies_of unit) || is_among x (commons_of unit) || (is_function unit && same_name x (own_name unit))
+    || not (is_among x (references_in (scope_of unit) (gathered uses_of unit)))))
 data_is unit x =
     among_kept (λ y. is_among y (held_by unit) || not (is_among y (references_of unit))) (once (gathered names_in unit)) x
     ∙ (λ i. among_once (gathered names_in unit) x i
-        && (held_is unit x i || not (among_once (references_in (scope_of unit) (gathered uses_of unit)) x i)))
+    && (held_is unit x i || not (among_once (references_in (scope_of unit) (gathered uses_of unit)) x i)))
 
 -- ---- labels
 
@@ -164,8 +164,15 @@ pub roles_made : (unit : Segment) (scope : Scoped) (dummies commons names refere
     → names ≡ given_from names_in [] unit → references ≡ given_from (λ s. references_in (scope_by scope) (uses_of s)) [] unit
     → lines ≡ lines_from [] unit → assigned ≡ assigned_from (own_name unit) unit → function ≡ is_function unit
     → use_facts_by (record {
-        function = function; assigned = assigned; scope = scope; dummies = dummies; commons = commons; names = names; references = references; lines = lines;
-      }) (own_name unit)
+      function = function;
+      assigned = assigned;
+      scope = scope;
+      dummies = dummies;
+      commons = commons;
+      names = names;
+      references = references;
+      lines = lines;
+    }) (own_name unit)
     ≡ use_facts_of unit
 roles_made unit scope dummies commons names references lines assigned function s d c n r l a f =
     let own = own_name unit in

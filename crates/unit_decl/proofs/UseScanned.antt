@@ -102,7 +102,7 @@ found facts used (o ∷ uses) x h m = by (found facts used uses x (right_false (
     by rest true e n =
         ap (is_both used) (sym (same_names o.name x e))
         ∙ right_false (is_misused facts.scope o.name o.«use» || is_of_other_kind facts o) (is_both used o.name)
-          (left_false (is_bad_use facts used o) (has_bad_use facts used uses) h)
+        (left_false (is_bad_use facts used o) (has_bad_use facts used uses) h)
     by rest false e n = rest n
 
 not_named : (test : Occurrence → Bool) (uses : List Occurrence) (x : Name) → list_any (λ o. same_name o.name x) uses ≡ false
@@ -120,11 +120,11 @@ apart_more facts used uses label apart h x = by (list_any (λ o. same_name o.nam
     by true m = found facts (used_with facts.scope used uses label) uses x h m
     by false m =
         (λ i. (with_names_of used.references (references_in facts.scope uses) x
-            ∙ ap (λ b. is_among x used.references || b) (named (is_reference facts.scope) uses x ∙ not_named (is_reference facts.scope) uses x m)
-            ∙ or_false (is_among x used.references)) i
-          && (with_names_of used.bares (bares_in uses) x
-            ∙ ap (λ b. is_among x used.bares || b) (named (λ o. is_bare o.«use») uses x ∙ not_named (λ o. is_bare o.«use») uses x m)
-            ∙ or_false (is_among x used.bares)) i)
+        ∙ ap (λ b. is_among x used.references || b) (named (is_reference facts.scope) uses x ∙ not_named (is_reference facts.scope) uses x m)
+        ∙ or_false (is_among x used.references)) i
+        && (with_names_of used.bares (bares_in uses) x
+        ∙ ap (λ b. is_among x used.bares || b) (named (λ o. is_bare o.«use») uses x ∙ not_named (λ o. is_bare o.«use») uses x m)
+        ∙ or_false (is_among x used.bares)) i)
         ∙ apart x
 
 -- ---- the rules at a statement
@@ -140,7 +140,7 @@ second_is : (dialect : Dialect) (earlier : List Segment) (unit before lines : Li
 second_is dialect earlier unit before lines line used u apart o =
     let scope = scope_of unit in
     (λ i. (sym (references_with scope used before line u o.name) i && sym (bares_with scope used before line u o.name) i)
-        && not (sym (u.references o.name) i && sym (u.bares o.name) i))
+    && not (sym (u.references o.name) i && sym (u.bares o.name) i))
     ∙ ap (λ b. is_both (used_with scope used (uses_of line.stmt) line.label) o.name && not b) (apart o.name)
     ∙ and_true (is_both (used_with scope used (uses_of line.stmt) line.label) o.name)
 
@@ -151,7 +151,7 @@ rule_is dialect earlier unit before lines line used u apart =
     let p = placed dialect earlier unit before line lines in
     λ i. first_use_rule
     (list_any (λ o. is_misused (scope_of unit) o.name o.«use» || is_of_other_kind (use_facts_of unit) o
-        || second_is dialect earlier unit before lines line used u apart o i) (uses_of line.stmt))
+    || second_is dialect earlier unit before lines line used u apart o i) (uses_of line.stmt))
     (breaks_20 p) (not (line.label == 0) && sym (u.labels line.label) i) (breaks_22 p) (breaks_23 p)
 
 no_bad_use : (a b c d e : Bool) → first_use_rule a b c d e ≡ None → a ≡ false
@@ -178,18 +178,18 @@ scanned dialect earlier unit before (line ∷ lines) used u apart =
     let rest = fault_in_stage use_rules (places_in dialect earlier unit (before ++ line ∷ []) lines) in
     ap (λ r. fault_or r line.card rest) (rule_is dialect earlier unit before lines line used u apart)
     ∙ joined rule line.card rest (use_scan dialect facts false after lines)
-      (λ h.
-        scanned dialect earlier unit (before ++ line ∷ []) lines after (used_more (scope_of unit) used before line u)
-        (apart_more facts used (uses_of line.stmt) line.label apart
-        (no_bad_use (has_bad_use facts after (uses_of line.stmt)) (breaks_20 p) (not (line.label == 0) && is_known line.label used.labels) (breaks_22 p) (breaks_23 p) h))
-        ∙ ap (λ b. use_scan dialect facts b after lines) (not_empty before line))
+    (λ h.
+    scanned dialect earlier unit (before ++ line ∷ []) lines after (used_more (scope_of unit) used before line u)
+    (apart_more facts used (uses_of line.stmt) line.label apart
+    (no_bad_use (has_bad_use facts after (uses_of line.stmt)) (breaks_20 p) (not (line.label == 0) && is_known line.label used.labels) (breaks_22 p) (breaks_23 p) h))
+    ∙ ap (λ b. use_scan dialect facts b after lines) (not_empty before line))
 
 scanned_units : (dialect : Dialect) (earlier units : List Segment) → fault_in_stage use_rules (places_from dialect earlier units) ≡ use_scans dialect units
 scanned_units dialect earlier [] = refl
 scanned_units dialect earlier (unit ∷ units) =
     fault_in_both use_rules (places_in dialect earlier unit [] unit) (places_from dialect (earlier ++ unit ∷ []) units)
     ∙ ap (λ f. fault_before f (fault_in_stage use_rules (places_from dialect (earlier ++ unit ∷ []) units)))
-      (scanned dialect earlier unit [] unit nothing_used (record { references = λ x. refl; bares = λ x. refl; labels = λ l. refl }) (λ x. refl))
+    (scanned dialect earlier unit [] unit nothing_used (record { references = λ x. refl; bares = λ x. refl; labels = λ l. refl }) (λ x. refl))
     ∙ ap (fault_before (use_scan dialect (use_facts_of unit) true nothing_used unit)) (scanned_units dialect (earlier ++ unit ∷ []) units)
 
 -- the first fault of a deck is found unit by unit

@@ -44,7 +44,11 @@ fn scans(alloc: Global, dialect: Dialect, lines: &[Line]) -> Result<Option<Fault
 
 /// The first fault of a deck's statements by the rules on uses.
 #[tactic(auto, using(crate::proofs::UseScanned::uses_found))]
-pub fn deck_use_fault(alloc: Global, dialect: Dialect, lines: &[Line]) -> Result<Option<Fault>, NoMemory>
+pub fn deck_use_fault(
+    alloc: Global,
+    dialect: Dialect,
+    lines: &[Line],
+) -> Result<Option<Fault>, NoMemory>
     ensures { IfOk result (λ fault. fault ≡ fault_in_stage use_rules (places dialect (segments lines.now))) }
 {
     scans(alloc, dialect, lines)

@@ -15,7 +15,7 @@ use crate::label_set::LabelSet;
 use crate::name_set::NameSet;
 use crate::scoped::Scoped;
 use crate::seen::Seen;
-use crate::used::{has_label_in, is_misused, is_reference, lacks_label, Used};
+use crate::used::{Used, has_label_in, is_misused, is_reference, lacks_label};
 use crate::uses::uses_of;
 use edge_io::NoMemory;
 use fort_syntax::{Dialect, Fault, Line, Name, Rule};
@@ -55,7 +55,8 @@ fn is_data(roles: &Roles, own: &[u8], name: &Name) -> bool
 fn is_held_reference(roles: &Roles, seen: &Seen) -> bool
     ensures { result ≡ (is_reference (scope_by roles.now.scope) seen.now && (is_among seen.now.name roles.now.dummies || is_among seen.now.name roles.now.commons)) }
 {
-    is_reference(&roles.scope, seen) && (roles.dummies.has(&seen.name()) || roles.commons.has(&seen.name()))
+    is_reference(&roles.scope, seen)
+        && (roles.dummies.has(&seen.name()) || roles.commons.has(&seen.name()))
 }
 
 fn is_called_data(roles: &Roles, own: &[u8], seen: &Seen) -> bool
@@ -73,13 +74,17 @@ fn is_own_name_used(roles: &Roles, own: &[u8], seen: &Seen) -> bool
 fn is_of_other_kind(roles: &Roles, own: &[u8], seen: &Seen) -> bool
     ensures { result ≡ is_of_other_kind (use_facts_by roles.now own.now) seen.now }
 {
-    is_held_reference(roles, seen) || is_called_data(roles, own, seen) || is_own_name_used(roles, own, seen)
+    is_held_reference(roles, seen)
+        || is_called_data(roles, own, seen)
+        || is_own_name_used(roles, own, seen)
 }
 
 fn is_bad_use(roles: &Roles, own: &[u8], used: &Used, seen: &Seen) -> bool
     ensures { result ≡ is_bad_use (use_facts_by roles.now own.now) used.now seen.now }
 {
-    is_misused(&roles.scope, seen) || is_of_other_kind(roles, own, seen) || used.is_both(&seen.name())
+    is_misused(&roles.scope, seen)
+        || is_of_other_kind(roles, own, seen)
+        || used.is_both(&seen.name())
 }
 
 fn has_bad_use(roles: &Roles, own: &[u8], used: &Used, uses: &[Seen]) -> bool
@@ -93,7 +98,13 @@ fn has_bad_use(roles: &Roles, own: &[u8], used: &Used, uses: &[Seen]) -> bool
     false
 }
 
-fn stmt_has_bad_use(alloc: Global, roles: &Roles, own: &[u8], used: &mut Used, line: &Line) -> Result<bool, NoMemory>
+fn stmt_has_bad_use(
+    alloc: Global,
+    roles: &Roles,
+    own: &[u8],
+    used: &mut Used,
+    line: &Line,
+) -> Result<bool, NoMemory>
     ensures bad { IfOk result (λ bad. bad ≡ has_bad_use (use_facts_by roles.now own.now) (used_with (scope_by roles.now.scope) used.old (uses_of line.now.stmt) line.now.label) (uses_of line.now.stmt)) }
     ensures used { OnOk result (used.new ≡ used_with (scope_by roles.now.scope) used.old (uses_of line.now.stmt) line.now.label) }
 {
@@ -124,7 +135,13 @@ fn is_unset(roles: &Roles, first: bool) -> bool
     first && roles.function && !roles.assigned
 }
 
-fn first_use_rule(use_broken: bool, subscript: bool, twice: bool, missing: bool, unset: bool) -> Option<Rule>
+fn first_use_rule(
+    use_broken: bool,
+    subscript: bool,
+    twice: bool,
+    missing: bool,
+    unset: bool,
+) -> Option<Rule>
     ensures { result ≡ first_use_rule use_broken subscript twice missing unset }
 {
     if use_broken {
@@ -143,7 +160,15 @@ fn first_use_rule(use_broken: bool, subscript: bool, twice: bool, missing: bool,
 }
 
 /// The first of the rules on uses that a statement breaks.
-fn use_rule(alloc: Global, dialect: Dialect, roles: &Roles, own: &[u8], first: bool, used: &mut Used, line: &Line) -> Result<Option<Rule>, NoMemory>
+fn use_rule(
+    alloc: Global,
+    dialect: Dialect,
+    roles: &Roles,
+    own: &[u8],
+    first: bool,
+    used: &mut Used,
+    line: &Line,
+) -> Result<Option<Rule>, NoMemory>
     ensures rule { IfOk result (λ rule. rule ≡ use_rule dialect (use_facts_by roles.now own.now) first used.old line.now) }
     ensures used { OnOk result (used.new ≡ used_with (use_facts_by roles.now own.now).scope used.old (uses_of line.now.stmt) line.now.label) }
 {
@@ -158,7 +183,13 @@ fn use_rule(alloc: Global, dialect: Dialect, roles: &Roles, own: &[u8], first: b
 }
 
 /// The first fault of a unit by the rules on uses.
-pub fn scan_uses(alloc: Global, dialect: Dialect, roles: &Roles, own: &[u8], unit: &[Line]) -> Result<Option<Fault>, NoMemory>
+pub fn scan_uses(
+    alloc: Global,
+    dialect: Dialect,
+    roles: &Roles,
+    own: &[u8],
+    unit: &[Line],
+) -> Result<Option<Fault>, NoMemory>
     ensures { IfOk result (λ fault. fault ≡ use_scan dialect (use_facts_by roles.now own.now) true nothing_used unit.now) }
 {
     let mut used = Used::new(alloc);

@@ -61,7 +61,10 @@ fn is_applied(how: &How) -> bool
 fn is_bare(how: &How) -> bool
     ensures { result ≡ is_bare (use_by how.now) }
 {
-    matches!(how, How::Read | How::Assigned | How::Counted | How::Argument(_) | How::Actual)
+    matches!(
+        how,
+        How::Read | How::Assigned | How::Counted | How::Argument(_) | How::Actual
+    )
 }
 
 /// Whether a name is used as a function.
@@ -78,7 +81,11 @@ fn is_bare_use(seen: &Seen) -> bool
 }
 
 /// The names that are used as functions.
-pub(crate) fn references_in(alloc: Global, scope: &Scoped, uses: &[Seen]) -> Result<List<Name>, NoMemory>
+pub(crate) fn references_in(
+    alloc: Global,
+    scope: &Scoped,
+    uses: &[Seen],
+) -> Result<List<Name>, NoMemory>
     ensures { IfOk result (λ names. names ≡ references_in (scope_by scope.now) uses.now) }
 {
     let mut all = Vec::new(alloc);
@@ -115,7 +122,13 @@ impl Used {
     }
 
     /// Adds the names in a statement, and its label.
-    pub(crate) fn add(&mut self, alloc: Global, scope: &Scoped, uses: &[Seen], label: u32) -> Result<(), NoMemory>
+    pub(crate) fn add(
+        &mut self,
+        alloc: Global,
+        scope: &Scoped,
+        uses: &[Seen],
+        label: u32,
+    ) -> Result<(), NoMemory>
         ensures { OnOk result (self.new ≡ used_with (scope_by scope.now) self.old uses.now label) }
     {
         let Ok(references) = references_in(alloc, scope, uses) else {
