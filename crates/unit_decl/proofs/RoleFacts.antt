@@ -6,10 +6,9 @@ use Rattle.fort_syntax.specs.Scopes.{Scope, same_name, is_among, kept, once}
 use Rattle.fort_syntax.specs.NameRules.{commons_by}
 use Rattle.fort_syntax.specs.Units.{Segment, gathered, class_of, is_performing, executables, own_name, is_function, dummies_by, dummies_of, common_items_by, commons_of, names_of_items, scope_of, names_in, is_reference, references_in, references_of, held_by, own_value_of, data_names}
 use Rattle.fort_syntax.specs.Uses.{Occurrence, uses_of}
-use Rattle.fort_syntax.specs.UseRules.{is_assigned, assigns, has_label}
+use Rattle.fort_syntax.specs.UseRules.{is_assigned, assigns}
 use Rattle.fort_syntax.specs.declared.name.Name.{Name}
 use Rattle.fort_syntax.specs.declared.stmt.Item.{Item}
-use Rattle.fort_syntax.specs.declared.stmt.Stmt.{Stmt}
 use Rattle.fort_syntax.specs.declared.unit.Line.{Line}
 use Rattle.unit_decl.specs.declared.scoped.Scoped.{Scoped}
 use Rattle.unit_decl.specs.Commons.{given_from}

@@ -1,21 +1,21 @@
 -- One pass finds the first fault in the uses of the names and labels of a unit.
 use Rattle.std.proofs.Common.{◌≡◌, ℕ, Bool, true, false, List, [], ◌∷◌, ◌++◌, refl, sym, ap, ◌∙◌, rules}
-use Rattle.std.specs.Prelude.{◌==◌, ◌||◌, ◌&&◌, not, nat_eq, cond, map, Option, Some, None}
+use Rattle.std.specs.Prelude.{◌==◌, ◌||◌, ◌&&◌, not, cond, map, Option, Some, None}
 use Rattle.std.specs.List.{list_any}
 use Rattle.fort_syntax.specs.CardRules.{fault_or}
 use Rattle.fort_syntax.specs.Scopes.{Scope, same_name, is_among, kept}
 use Rattle.fort_syntax.specs.OrderRules.{Place, places_in, places_from, places, is_empty}
 use Rattle.fort_syntax.specs.UnitRules.{use_rules, first_broken, fault_in_stage, fault_before}
 use Rattle.fort_syntax.specs.Units.{Segment, gathered, scope_of, is_reference, references_in}
-use Rattle.fort_syntax.specs.Uses.{Occurrence, uses_of, used_labels}
-use Rattle.fort_syntax.specs.UseRules.{is_misused, is_bare, is_reference_to, is_bare_use_of, is_used_both_ways, is_second_kind_of_use, breaks_18, breaks_20, breaks_21, breaks_22, breaks_23}
+use Rattle.fort_syntax.specs.Uses.{Occurrence, uses_of}
+use Rattle.fort_syntax.specs.UseRules.{is_misused, is_bare, is_reference_to, is_bare_use_of, is_second_kind_of_use, breaks_20, breaks_22, breaks_23}
 use Rattle.fort_syntax.specs.declared.dialect.Dialect.{Dialect}
 use Rattle.fort_syntax.specs.declared.name.Name.{Name}
 use Rattle.fort_syntax.specs.declared.refusal.Fault.{Fault}
 use Rattle.fort_syntax.specs.declared.rule.Rule.{Rule}
 use Rattle.fort_syntax.specs.declared.unit.Line.{Line}
 use Rattle.unit_decl.specs.declared.used.Used.{Used}
-use Rattle.unit_decl.specs.Labels.{is_known, with_label}
+use Rattle.unit_decl.specs.Labels.{is_known}
 use Rattle.unit_decl.specs.Sets.{with_names}
 use Rattle.unit_decl.specs.UseScans.{UseFacts, use_facts_of, nothing_used, bares_in, used_with, is_both, is_of_other_kind, is_bad_use, has_bad_use, first_use_rule, use_rule, use_scan, use_scans}
 use Rattle.unit_decl.proofs.Told.{same_names, swapped}

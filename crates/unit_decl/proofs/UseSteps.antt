@@ -1,5 +1,5 @@
 -- One statement more of a scan for the uses of names.
-use Rattle.std.proofs.Common.{◌≡◌, ◌<◌, ◌+◌, ℕ, suc, zero, Bool, false, List, [], ◌∷◌, length, drop, slice_index_or, refl, sym, ap, ◌∙◌, rules, arith}
+use Rattle.std.proofs.Common.{◌≡◌, ◌<◌, ◌+◌, ℕ, suc, zero, Bool, false, List, [], ◌∷◌, length, drop, slice_index_or, sym, ap, ◌∙◌, rules, arith}
 use Rattle.std.specs.Prelude.{Option, Some, None}
 use Rattle.fort_syntax.specs.CardRules.{fault_or}
 use Rattle.fort_syntax.specs.Uses.{uses_of}

@@ -1,4 +1,4 @@
-use Rattle.std.proofs.Common.{◌≡◌, ◌++◌, [], drop}
+use Rattle.std.proofs.Common.{◌≡◌, drop}
 use Rattle.fort_syntax.specs.UseRules.{assigns}
 use Rattle.unit_decl.proofs.roles.assigns.Given as goal
 

@@ -1,4 +1,4 @@
-use Rattle.std.proofs.Common.{◌≡◌, ◌++◌, [], drop}
+use Rattle.std.proofs.Common.{◌≡◌, [], drop}
 use Rattle.unit_decl.specs.Commons.{given_from}
 use Rattle.fort_syntax.specs.NameRules.{commons_by}
 use Rattle.unit_decl.proofs.roles.commons_of.Given as goal

@@ -1,5 +1,5 @@
-use Rattle.std.proofs.Common.{◌≡◌, ◌++◌, [], drop}
-use Rattle.unit_decl.specs.UseScans.{bares_in, has_label_in, lacks_label, has_bad_use, nothing_used, use_scan, lines_from, assigned_from}
+use Rattle.std.proofs.Common.{◌≡◌, [], drop}
+use Rattle.unit_decl.specs.UseScans.{lines_from}
 use Rattle.unit_decl.proofs.roles.lines_of.Given as goal
 
 abbrev pub invariant-loop-line : goal.invariant-loop-line

@@ -1,4 +1,4 @@
-use Rattle.std.proofs.Common.{◌≡◌, ◌++◌, [], drop}
+use Rattle.std.proofs.Common.{◌≡◌, [], drop}
 use Rattle.unit_decl.specs.Commons.{given_from}
 use Rattle.fort_syntax.specs.Units.{names_in}
 use Rattle.unit_decl.proofs.roles.names_of.Given as goal

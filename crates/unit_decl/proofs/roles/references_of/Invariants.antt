@@ -1,4 +1,4 @@
-use Rattle.std.proofs.Common.{◌≡◌, ◌++◌, [], drop}
+use Rattle.std.proofs.Common.{◌≡◌, [], drop}
 use Rattle.unit_decl.specs.Commons.{given_from}
 use Rattle.unit_decl.specs.Scoping.{scope_by}
 use Rattle.fort_syntax.specs.Units.{references_in}

@@ -1,5 +1,5 @@
-use Rattle.std.proofs.Common.{◌≡◌, ◌++◌, [], drop}
-use Rattle.unit_decl.specs.UseScans.{bares_in, has_label_in, lacks_label, has_bad_use, nothing_used, use_scan, lines_from, assigned_from}
+use Rattle.std.proofs.Common.{◌≡◌, drop}
+use Rattle.unit_decl.specs.UseScans.{has_bad_use}
 use Rattle.unit_decl.specs.Roles.{use_facts_by}
 use Rattle.unit_decl.proofs.use_rules.has_bad_use.Given as goal
 

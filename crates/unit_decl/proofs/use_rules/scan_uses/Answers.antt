@@ -1,4 +1,4 @@
-use Rattle.std.proofs.Common.{◌≡◌, [], true, rules, sym, ◌∙◌}
+use Rattle.std.proofs.Common.{◌≡◌, true, rules, sym, ◌∙◌}
 use Rattle.std.specs.Prelude.{None}
 use Rattle.unit_decl.specs.Roles.{use_facts_by}
 use Rattle.unit_decl.specs.UseScans.{nothing_used, use_scan}

@@ -1,4 +1,4 @@
-use Rattle.std.proofs.Common.{◌≡◌, ap, ◌∙◌}
+use Rattle.std.proofs.Common.{ap, ◌∙◌}
 use Rattle.unit_decl.specs.Roles.{use_facts_by}
 use Rattle.unit_decl.specs.Scoping.{scope_by}
 use Rattle.unit_decl.specs.UseScans.{has_bad_use, used_with}

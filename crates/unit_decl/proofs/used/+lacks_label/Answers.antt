@@ -1,4 +1,4 @@
-use Rattle.std.proofs.Common.{◌≡◌, ap, sym, ◌∙◌}
+use Rattle.std.proofs.Common.{ap, sym, ◌∙◌}
 use Rattle.fort_syntax.specs.Uses.{used_labels}
 use Rattle.unit_decl.specs.UseScans.{has_label_in, lacks_label}
 use Rattle.unit_decl.proofs.CarriedLabels.{labels_by_if}
