@@ -1,3 +1,15 @@
 pub mod Scans
 pub mod BlockScans
+pub mod Sets
+pub mod Keys
 pub mod Tables
+pub mod Usings
+pub mod Scoping
+pub mod NameScans
+pub mod Facts
+pub mod Commons
+pub mod Parts
+pub mod PlainForms
+pub mod Labels
+pub mod UseScans
+pub mod Roles
