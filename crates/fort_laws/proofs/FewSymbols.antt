@@ -19,14 +19,15 @@ use Rattle.fort_model.specs.Symbols.{Symbol, LeastInteger, GreatestInteger, AtEn
 use Rattle.fort_model.specs.Walk.{arrive, at_entry, at_start, entry_facts, smashed_in_order, start_facts, not_negative, from_assert, walk_from}
 use Rattle.fort_model.specs.WalkPlaces.{sorts}
 use Rattle.fort_model.specs.WalkCalls.{Sight}
-use Rattle.fort_laws.specs.FewSymbols.{WalksReadFewSymbols, PathsAreSafe, PathsMakeEntriesSafe, PathsMakeAssertsSafe}
+use Rattle.fort_laws.specs.FewSymbols.{WalksReadFewSymbols, PathsAreSafe, PathsMakeEntriesSafe, PathsMakeAssertsSafe, SafePathsEnd}
 use Rattle.fort_laws.specs.WholeRuns.{clock_of, IsTrueAt}
 use Rattle.fort_laws.specs.Matches.{AllTrue}
 use Rattle.fort_laws.specs.Segments.{NoCheckFails, seen, KeepsUnsmashed}
 use Rattle.fort_laws.proofs.BothSenses.{Pairwise, pairwise_map, Correspond, EventsAlike, note_alike}
 use Rattle.fort_laws.proofs.BothParts.{sorts_alike}
 use Rattle.fort_laws.proofs.Matching.{all_true_append}
-use Rattle.fort_laws.proofs.Descents.{true_left, true_right}
+use Rattle.fort_laws.proofs.Descents.{true_left, true_right, safe_runs_end}
+use Rattle.fort_laws.proofs.WalkKeeps.{statements_keep}
 use Rattle.fort_syntax.specs.declared.condition.Kind.TheVariants.{AssertCheck, ClockCheck}
 use Rattle.fort_laws.proofs.BothWalks.{ClocksAlike, walk_from_alike, arrive_alike, entry_alike, entry_facts_alike}
 use Rattle.fort_laws.proofs.SafeRuns.{rest_safe}
@@ -272,3 +273,11 @@ pub paths_make_asserts_safe : PathsMakeAssertsSafe
 paths_make_asserts_safe fs values program i s safe facts typed a q now st c stood kept t way answers is =
     not_failing fs values program i s now answers kept a safe facts (typed now st stood kept) t q
     (numbered (notes_of program i).asserts q a (assert_is (slice_get s.unit.lines q) (assertion_at (notes_of program i) q) a c)) way is
+
+-- ---- whole runs of a unit
+
+pub safe_paths_end : SafePathsEnd
+safe_paths_end fs values program i s is_reference is_call least greatest strict bounded dialects dims references calls good cut table is_unit blocks parts same safe typed st facts stood =
+    safe_runs_end fs values program i s is_reference is_call least greatest strict bounded dialects dims references calls good cut
+    (statements_keep fs values program i s table is_unit blocks) parts same (paths_make_asserts_safe fs values program i s safe facts typed)
+    0 (at_entry (seen fs values program i s)) st stood (λ x h. refl) (paths_make_entries_safe fs values program i s safe facts)

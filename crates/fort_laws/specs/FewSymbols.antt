@@ -1,5 +1,5 @@
 -- Which symbols a walk reads, and how conditions that hold give walks that do not fail.
-use Rattle.std.specs.Prelude.{ℕ, ◌≡◌, List, Option}
+use Rattle.std.specs.Prelude.{ℕ, ◌≡◌, Bool, true, false, nat_lt, int_le, pos, List, Option, Some, slice_get}
 use Rattle.formula.specs.declared.value.Value.{Value}
 use Rattle.formula.specs.Worth.{Function}
 use Rattle.fort_syntax.specs.declared.name.Name.{Name}
@@ -15,10 +15,17 @@ use Rattle.fort_model.specs.Symbols.{Symbol, LeastInteger, GreatestInteger, AtEn
 use Rattle.fort_model.specs.Walk.{at_entry, entry_facts, smashed_in_order, walk_from, walk}
 use Rattle.fort_model.specs.WalkPlaces.{sorts}
 use Rattle.fort_model.specs.Storage.{Storage}
-use Rattle.fort_laws.specs.GoodStatements.{Stood}
+use Rattle.fort_laws.specs.GoodStatements.{Stood, HasScalarDims, ReferencesMatch, CallStatementsMatch, IsGood}
 use Rattle.fort_laws.specs.Matches.{AllTrue}
 use Rattle.fort_laws.specs.Segments.{NoCheckFails, seen, KeepsUnsmashed}
-use Rattle.fort_laws.specs.WholeRuns.{IsSafeIn, AssertsAreSafe}
+use Rattle.fort_laws.specs.WholeRuns.{IsSafeIn, AssertsAreSafe, BlocksAreCommon, ClocksHave, ComesToEnd}
+use Rattle.fort_laws.specs.Ways.{IsCutUp}
+use Rattle.fort_model.specs.Run.{run}
+use Rattle.fort_model.specs.Smashes.{HoldsSmashed}
+use Rattle.fort_syntax.specs.declared.dialect.Sort.{Sort}
+use Rattle.fort_syntax.specs.declared.expr.Expr.{Expr}
+use Rattle.fort_syntax.specs.declared.unit.Line.{Line}
+use Rattle.formula.specs.declared.value.Value.TheVariants.{Int}
 
 -- from a point, with told answers of calls, a walk reads the bounds of the processor and values at the entry, and no other symbol
 abbrev pub WalksReadFewSymbols : Type 0
@@ -50,3 +57,20 @@ abbrev pub PathsMakeAssertsSafe : Type 0
 PathsMakeAssertsSafe =
     (fs : List Function) (values : Symbol → Value) (program : Program) (i : ℕ) (s : Scene) → PathsAreSafe fs program i s.unit
     → AllTrue (takes (entry_facts (seen fs values program i s))) → SortsHold fs values program i s → AssertsAreSafe fs values program i s
+
+-- A unit whose paths are safe: a strict run from its first statement comes to the end, where all of OUTPUT is true. Calls are taken to
+-- match, statements to be good, and what is taken at the entry to be true.
+abbrev pub SafePathsEnd : Type 0
+SafePathsEnd =
+    (fs : List Function) (values : Symbol → Value) (program : Program) (i : ℕ) (s : Scene) (is_reference : Sort → Name → Bool) (is_call : Name → List Expr → Bool)
+    → values LeastInteger ≡ Int s.processor.least → values GreatestInteger ≡ Int s.processor.greatest → s.processor.lazy ≡ false
+    → ((n : ℕ) → nat_lt program.bound n ≡ false → int_le (pos n) s.processor.greatest ≡ true)
+    → s.processor.dialect ≡ program.dialect → HasScalarDims s.unit s.environment
+    → ReferencesMatch fs values program i s (run s.processor s.units) (λ q a. is_reference q a ≡ true) → CallStatementsMatch fs values program i s (run s.processor s.units) (λ g args. is_call g args ≡ true)
+    → ((pc : ℕ) (line : Line) → slice_get s.unit.lines pc ≡ Some line → IsGood s.unit s.environment (λ q a. is_reference q a ≡ true) (λ g args. is_call g args ≡ true) pc line.stmt)
+    → IsCutUp program.dialect s.unit (notes_of program i)
+    → HoldsSmashed program → slice_get program.units i ≡ Some s.unit → BlocksAreCommon s.unit
+    → (parts : ℕ) → ClocksHave fs values program i s parts
+    → PathsAreSafe fs program i s.unit → SortsHold fs values program i s
+    → (st : Storage) → AllTrue (takes (entry_facts (seen fs values program i s))) → Stood s.unit s.environment (at_entry (seen fs values program i s)) st
+    → ComesToEnd fs values program i s 0 st

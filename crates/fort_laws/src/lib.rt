@@ -25,5 +25,7 @@ pub use statements::statements_match;
 pub use steps::{
     fewer_steps_are_not_enough, fuel_does_not_matter, more_steps_change_nothing, runs_unfold,
 };
-pub use symbols::{paths_make_asserts_safe, paths_make_entries_safe, walks_read_few_symbols};
+pub use symbols::{
+    paths_make_asserts_safe, paths_make_entries_safe, safe_paths_end, walks_read_few_symbols,
+};
 pub use ways::{statements_lead_on, ways_can_be_completed};

@@ -2,6 +2,7 @@
 ghost use Rattle.fort_laws.specs.FewSymbols.{
   PathsMakeAssertsSafe,
   PathsMakeEntriesSafe,
+  SafePathsEnd,
   WalksReadFewSymbols,
 };
 
@@ -24,4 +25,13 @@ pub fn paths_make_entries_safe()
 /// names have their types. It does nothing.
 pub fn paths_make_asserts_safe()
     ensures { PathsMakeAssertsSafe }
+{}
+
+/// Let no walk along a path of a unit have a check as its first false event, whatever its symbols
+/// stand for, no cycle go uncut, and all clocks have equally many parts. Then a strict run from the
+/// first statement comes to the end of the unit in some number of steps and without error, and all
+/// of OUTPUT is true there. Calls are taken to match, statements to be good, smashed names to have
+/// their types at ASSERTs, and what is taken at the entry to be true. It does nothing.
+pub fn safe_paths_end()
+    ensures { SafePathsEnd }
 {}
