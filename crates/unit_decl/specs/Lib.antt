@@ -13,3 +13,4 @@ pub mod PlainForms
 pub mod Labels
 pub mod UseScans
 pub mod Roles
+pub mod Decks
