@@ -21,6 +21,7 @@ pub mod MatchedStatements
 pub mod MatchedTests
 pub mod Matching
 pub mod Near
+pub mod NoteRules
 pub mod PlaceBounds
 pub mod References
 pub mod RulesKept
@@ -29,6 +30,7 @@ pub mod SameValues
 pub mod SpelledSymbols
 pub mod Stepping
 pub mod StorageLaws
+pub mod Tests
 pub mod Tied
 pub mod TiedParts
 pub mod TiedRuns

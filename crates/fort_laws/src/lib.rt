@@ -2,6 +2,7 @@
 #![tactic(auto)]
 
 mod clocks;
+mod decks;
 mod exactness;
 mod expressions;
 mod frames;
@@ -13,6 +14,7 @@ mod symbols;
 mod ways;
 
 pub use clocks::clocks_fall_only_so_often;
+pub use decks::{clocks_are_equal, units_are_cut_up};
 pub use exactness::{
     checks_do_not_depend_on_values, conditions_are_exact, valid_conditions_make_paths_safe,
     words_tell_symbols,

@@ -1,0 +1,31 @@
+-- What well-formed decks that keep the rules give: all that the laws of runs take of their units.
+use Rattle.std.specs.Prelude.{ℕ, ◌≡◌, ◌≤◌, List, length, Some, slice_get}
+use Rattle.formula.specs.declared.value.Value.{Value}
+use Rattle.formula.specs.Worth.{Function}
+use Rattle.fort_syntax.specs.declared.unit.Unit.{Unit as Routine}
+use Rattle.fort_model.specs.Evaluate.{Scene}
+use Rattle.fort_model.specs.Lists.{IsAmong}
+use Rattle.fort_model.specs.Program.{Program, Assertion, notes_of}
+use Rattle.fort_model.specs.Rules.{KeepsRules}
+use Rattle.fort_model.specs.Symbols.{Symbol}
+use Rattle.fort_laws.specs.Ways.{IsCutUp}
+use Rattle.fort_laws.specs.WholeRuns.{ClocksHave}
+
+-- ---- notes
+
+-- in a program that keeps the rules no statement lies on an uncut cycle
+abbrev pub UnitsAreCutUp : Type 0
+UnitsAreCutUp = (p : Program) → KeepsRules p → (i : ℕ) (u : Routine) → slice_get p.units i ≡ Some u → IsCutUp p.dialect u (notes_of p i)
+
+-- the clocks of some ASSERTs have equally many parts, 1 to 4
+pub record HaveEqualClocks (asserts : List Assertion) : Type 0 where
+  pub parts : ℕ
+  pub at_least : 1 ≤ parts
+  pub at_most : parts ≤ 4
+  pub equal : (a : Assertion) → IsAmong a asserts → length a.clock ≡ parts
+
+-- in a program that keeps the rules the clocks of a unit have equally many parts, 1 to 4
+abbrev pub ClocksAreEqual : Type 0
+ClocksAreEqual =
+    (fs : List Function) (values : Symbol → Value) (p : Program) (i : ℕ) (s : Scene) → KeepsRules p → slice_get p.units i ≡ Some s.unit
+    → (parts : ℕ) × (1 ≤ parts) × (parts ≤ 4) × ClocksHave fs values p i s parts
