@@ -1,6 +1,8 @@
 pub mod BothParts
 pub mod BothSenses
 pub mod BothWalks
+pub mod DeclaredNames
+pub mod DeclaredUnits
 pub mod Descents
 pub mod Exact
 pub mod Falling

@@ -2,14 +2,29 @@
 use Rattle.std.specs.Prelude.{ℕ, ◌≡◌, ◌≤◌, List, length, Some, slice_get}
 use Rattle.formula.specs.declared.value.Value.{Value}
 use Rattle.formula.specs.Worth.{Function}
+use Rattle.fort_syntax.specs.WellFormed.{IsWellFormedUnit}
+use Rattle.fort_syntax.specs.declared.dialect.Dialect.{Dialect}
 use Rattle.fort_syntax.specs.declared.unit.Unit.{Unit as Routine}
 use Rattle.fort_model.specs.Evaluate.{Scene}
+use Rattle.fort_model.specs.Fits.{HaveShapes}
 use Rattle.fort_model.specs.Lists.{IsAmong}
 use Rattle.fort_model.specs.Program.{Program, Assertion, notes_of}
 use Rattle.fort_model.specs.Rules.{KeepsRules}
+use Rattle.fort_model.specs.Storage.{Storage, Environment}
 use Rattle.fort_model.specs.Symbols.{Symbol}
+use Rattle.fort_laws.specs.GoodStatements.{HasScalarDims}
 use Rattle.fort_laws.specs.Ways.{IsCutUp}
-use Rattle.fort_laws.specs.WholeRuns.{ClocksHave}
+use Rattle.fort_laws.specs.WholeRuns.{ClocksHave, BlocksAreCommon}
+
+-- ---- units
+
+-- what stands in the COMMON blocks of a well-formed unit are COMMON entities
+abbrev pub BlocksHoldCommons : Type 0
+BlocksHoldCommons = (dialect : Dialect) (u : Routine) → IsWellFormedUnit dialect u → BlocksAreCommon u
+
+-- in a well-formed unit whose visible names have their shapes the adjustable dimensions are scalars that have a cell
+abbrev pub DimensionsAreScalars : Type 0
+DimensionsAreScalars = (dialect : Dialect) (u : Routine) → IsWellFormedUnit dialect u → (env : Environment) (st : Storage) → HaveShapes u env st → HasScalarDims u env
 
 -- ---- notes
 

@@ -1,5 +1,21 @@
 // What well-formed decks that keep the rules give.
-ghost use Rattle.fort_laws.specs.GoodDecks.{ClocksAreEqual, UnitsAreCutUp};
+ghost use Rattle.fort_laws.specs.GoodDecks.{
+  BlocksHoldCommons,
+  ClocksAreEqual,
+  DimensionsAreScalars,
+  UnitsAreCutUp,
+};
+
+/// What stands in the COMMON blocks of a well-formed unit are COMMON entities. It does nothing.
+pub fn blocks_are_common()
+    ensures { BlocksHoldCommons }
+{}
+
+/// In a well-formed unit whose dummies and COMMON entities have the shapes that their dimensions
+/// say, each adjustable dimension is a name of the unit that has a cell. It does nothing.
+pub fn dimensions_are_scalars()
+    ensures { DimensionsAreScalars }
+{}
 
 /// In a program that keeps the rules no statement lies on a cycle of the flow without an ASSERT. It
 /// does nothing.

@@ -1,0 +1,259 @@
+-- The names of a well-formed unit: their roles, dimensions and types.
+use Rattle.std.proofs.Common.{◌≡◌, ◌≤◌, ℕ, zero, suc, Bool, true, false, cond, not, ◌&&◌, ◌||◌, pos, List, [], ◌∷◌, ◌++◌, map, flat_map, length, Option, Some, None, is_some, slice_get, nat_lt, refl, sym, ap, ◌∙◌, subst, arith, rules}
+use Rattle.std.specs.Prelude.{◌==◌}
+use Rattle.std.specs.List.{list_any, list_all}
+use Rattle.fort_syntax.specs.NameRules.{is_zero_dim, is_bad_shape, most_dims, fixed_size}
+use Rattle.fort_syntax.specs.Scopes.{is_among, has_twin, same_sort, same_option, is_given_dims, is_array, is_integer, is_integer_scalar}
+use Rattle.fort_syntax.specs.Units.{names_in_dims, names_of_items}
+use Rattle.fort_syntax.specs.WellFormed.{IsWellFormedUnit, names_of_unit, commons_of_unit, own_value_of_unit, role_in_unit, same_role, scope_of_unit, has_right_role, has_right_dims}
+use Rattle.fort_syntax.specs.declared.dialect.Dialect.{Dialect}
+use Rattle.fort_syntax.specs.declared.dialect.Sort.{Sort}
+use Rattle.fort_syntax.specs.declared.dialect.Sort.TheVariants.{Integer, Logical}
+use Rattle.fort_syntax.specs.declared.name.Name.{Name}
+use Rattle.fort_syntax.specs.declared.stmt.Dim.{Dim}
+use Rattle.fort_syntax.specs.declared.stmt.Dim.TheVariants.{Fixed, Named}
+use Rattle.fort_syntax.specs.declared.stmt.Group.{Group}
+use Rattle.fort_syntax.specs.declared.unit.DataName.{DataName}
+use Rattle.fort_syntax.specs.declared.unit.Role.{Role}
+use Rattle.fort_syntax.specs.declared.unit.Role.TheVariants.{Dummy, InCommon, OwnValue, Local}
+use Rattle.fort_syntax.specs.declared.unit.Unit.{Unit as Routine}
+use Rattle.fort_model.specs.Fits.{HaveShapes, HasShape}
+use Rattle.fort_model.specs.Lists.{IsAmong}
+use Rattle.fort_model.specs.Names.{data_name, is_own}
+use Rattle.fort_model.specs.Places.{stretch, dim_values}
+use Rattle.fort_model.specs.Program.{commons, items_of, has_common, has_role, is_in_common}
+use Rattle.fort_model.specs.Storage.{Storage, Environment}
+use Rattle.fort_laws.specs.GoodDecks.{BlocksHoldCommons, DimensionsAreScalars}
+use Rattle.fort_laws.specs.GoodStatements.{DimsAreScalars}
+use Rattle.fort_laws.specs.Typed.{IsScalar, AreDims}
+use Rattle.fort_laws.proofs.DeclaredNames.{IsNamed, named, named_among, among_named, names_in, has_own_name, one_data_name, data_among, among_joined_left, among_joined_right, no_twin_left, no_twin_apart}
+use Rattle.fort_laws.proofs.FrameSeats.{clash}
+use Rattle.fort_laws.proofs.Near.{known}
+use Rattle.fort_laws.proofs.Tests.{both, neither, is_false, all_among, none_among}
+
+-- ---- roles
+
+abbrev role_by : Bool → Bool → Bool → Role
+role_by a b c = cond a Dummy (cond b InCommon (cond c OwnValue Local))
+
+by_dummy : (a b c : Bool) → role_by a b c ≡ Dummy → a ≡ true
+by_dummy true b c h = refl
+by_dummy false true c h = absurd (cc)
+by_dummy false false true h = absurd (cc)
+by_dummy false false false h = absurd (cc)
+
+by_common : (a b c : Bool) → role_by a b c ≡ InCommon → b ≡ true
+by_common true b c h = absurd (cc)
+by_common false true c h = refl
+by_common false false true h = absurd (cc)
+by_common false false false h = absurd (cc)
+
+by_own : (a b c : Bool) → role_by a b c ≡ OwnValue → c ≡ true
+by_own true b c h = absurd (cc)
+by_own false true c h = absurd (cc)
+by_own false false true h = refl
+by_own false false false h = absurd (cc)
+
+one_role : (r q : Role) → same_role r q ≡ true → r ≡ q
+one_role Dummy Dummy h = refl
+one_role Dummy InCommon h = absurd (cc)
+one_role Dummy OwnValue h = absurd (cc)
+one_role Dummy Local h = absurd (cc)
+one_role InCommon Dummy h = absurd (cc)
+one_role InCommon InCommon h = refl
+one_role InCommon OwnValue h = absurd (cc)
+one_role InCommon Local h = absurd (cc)
+one_role OwnValue Dummy h = absurd (cc)
+one_role OwnValue InCommon h = absurd (cc)
+one_role OwnValue OwnValue h = refl
+one_role OwnValue Local h = absurd (cc)
+one_role Local Dummy h = absurd (cc)
+one_role Local InCommon h = absurd (cc)
+one_role Local OwnValue h = absurd (cc)
+one_role Local Local h = refl
+
+-- ---- types and dimensions
+
+pub one_sort : (q r : Sort) → same_sort q r ≡ true → q ≡ r
+one_sort Integer Integer h = refl
+one_sort Integer Logical h = absurd (cc)
+one_sort Logical Integer h = absurd (cc)
+one_sort Logical Logical h = refl
+
+pub no_dims : (ds : List Dim) → is_given_dims ds ≡ false → ds ≡ []
+no_dims [] h = refl
+no_dims (d ∷ ds) h = absurd (cc)
+
+among_dim_names : (ds : List Dim) (x : Name) → IsAmong (Named x) ds → IsAmong x (names_in_dims ds)
+among_dim_names [] x m = absurd (cc)
+among_dim_names (Fixed n ∷ ds) x (zero, e) = absurd (cc)
+among_dim_names (Fixed n ∷ ds) x (suc k, e) = among_dim_names ds x (k, e)
+among_dim_names (Named y ∷ ds) x (zero, e) = (0, same_named e)
+  where
+    same_named : Some (Named y) ≡ Some (Named x) → Some y ≡ Some x
+    same_named q = cc
+among_dim_names (Named y ∷ ds) x (suc k, e) = let m = among_dim_names ds x (k, e) in (suc m.0, m.1)
+
+not_below_one : (n : ℕ) → nat_lt n 1 ≡ false → 1 ≤ n
+not_below_one n h = search rules
+
+-- ---- COMMON entities
+
+same_commons : (u : Routine) → commons_of_unit u ≡ commons u
+same_commons u = go u.blocks
+  where
+    go : (gs : List Group) → flat_map (λ group. names_of_items group.items) gs ≡ items_of gs
+    go [] = refl
+    go (g ∷ gs) = ap (λ xs. map (λ item. item.name) g.items ++ xs) (go gs)
+
+module _ (dialect : Dialect) (u : Routine) (w : IsWellFormedUnit dialect u) where
+  -- ---- which names are data names
+
+  parts : ((not (has_twin (names_of_unit u)) ≡ true) × (list_all (λ x. is_among x (names_of_unit u)) (u.dummies ++ commons_of_unit u ++ own_value_of_unit u) ≡ true))
+  parts =
+      both (not (has_twin (names_of_unit u))) (list_all (λ x. is_among x (names_of_unit u)) (u.dummies ++ commons_of_unit u ++ own_value_of_unit u))
+      (both (not (has_twin (names_of_unit u)) && list_all (λ x. is_among x (names_of_unit u)) (u.dummies ++ commons_of_unit u ++ own_value_of_unit u)) (is_some u.sort || not (is_among u.name (names_of_unit u))) w.data_names).0
+
+  pub no_twins : has_twin (names_in u.names) ≡ false
+  no_twins = is_false (has_twin (names_of_unit u)) parts.0
+
+  pub has_data : (x : Name) → is_among x (names_of_unit u) ≡ true → IsNamed u.names x
+  has_data x h = named u.names x h
+
+  held_data : (x : Name) → is_among x (u.dummies ++ commons_of_unit u ++ own_value_of_unit u) ≡ true → IsNamed u.names x
+  held_data x h =
+      has_data x (all_among (λ x. is_among x (names_of_unit u)) (u.dummies ++ commons_of_unit u ++ own_value_of_unit u) x parts.1 (named_among (u.dummies ++ commons_of_unit u ++ own_value_of_unit u) x h))
+
+  pub dummy_data : (x : Name) → is_among x u.dummies ≡ true → IsNamed u.names x
+  dummy_data x h = held_data x (among_joined_left (u.dummies ++ commons_of_unit u) (own_value_of_unit u) x (among_joined_left u.dummies (commons_of_unit u) x h))
+
+  pub common_data : (x : Name) → is_among x (commons_of_unit u) ≡ true → IsNamed u.names x
+  common_data x h = held_data x (among_joined_left (u.dummies ++ commons_of_unit u) (own_value_of_unit u) x (among_joined_right u.dummies (commons_of_unit u) x h))
+
+  pub own_data : (x : Name) → is_among x (own_value_of_unit u) ≡ true → IsNamed u.names x
+  own_data x h = held_data x (among_joined_right (u.dummies ++ commons_of_unit u) (own_value_of_unit u) x h)
+
+  -- the names that come from outside are held once
+  pub no_twins_held : has_twin (u.dummies ++ commons_of_unit u) ≡ false
+  no_twins_held =
+      (neither (is_among u.name (u.dummies ++ commons_of_unit u)) (has_twin (u.dummies ++ commons_of_unit u))
+      (is_false (has_twin (u.name ∷ u.dummies ++ commons_of_unit u)) w.held)).1
+
+  -- ---- roles
+
+  right_role : (d : DataName) → IsAmong d u.names → (d.role ≡ role_in_unit u d.name) × ((not (same_role d.role OwnValue) || same_option (Some d.sort) u.sort) ≡ true)
+  right_role d m =
+      let b = both (same_role d.role (role_in_unit u d.name)) (not (same_role d.role OwnValue) || same_option (Some d.sort) u.sort) (all_among (has_right_role u) u.names d w.roles m) in
+      (one_role d.role (role_in_unit u d.name) b.0, b.1)
+
+  pub is_dummy : (d : DataName) → IsAmong d u.names → d.role ≡ Dummy → is_among d.name u.dummies ≡ true
+  is_dummy d m r = by_dummy (is_among d.name u.dummies) (is_among d.name (commons_of_unit u)) (is_among d.name (own_value_of_unit u)) (sym (right_role d m).0 ∙ r)
+
+  pub dummy_role : (d : DataName) → IsAmong d u.names → is_among d.name u.dummies ≡ true → d.role ≡ Dummy
+  dummy_role d m h = (right_role d m).0 ∙ ap (λ a. cond a Dummy (cond (is_among d.name (commons_of_unit u)) InCommon (cond (is_among d.name (own_value_of_unit u)) OwnValue Local))) h
+
+  pub is_common : (d : DataName) → IsAmong d u.names → d.role ≡ InCommon → is_among d.name (commons_of_unit u) ≡ true
+  is_common d m r = by_common (is_among d.name u.dummies) (is_among d.name (commons_of_unit u)) (is_among d.name (own_value_of_unit u)) (sym (right_role d m).0 ∙ r)
+
+  pub common_role : (d : DataName) → IsAmong d u.names → is_among d.name (commons_of_unit u) ≡ true → d.role ≡ InCommon
+  common_role d m h =
+      (right_role d m).0
+      ∙ (ap (λ a. cond a Dummy (cond (is_among d.name (commons_of_unit u)) InCommon (cond (is_among d.name (own_value_of_unit u)) OwnValue Local))) no_dummy
+      ∙ ap (λ b. cond b InCommon (cond (is_among d.name (own_value_of_unit u)) OwnValue Local)) h)
+    where
+      no_dummy : is_among d.name u.dummies ≡ false
+      no_dummy = known (is_among d.name u.dummies)
+          (λ t. absurd (clash (is_among d.name (commons_of_unit u)) h (no_twin_apart u.dummies (commons_of_unit u) d.name no_twins_held t)))
+          (λ f. f)
+
+  -- what stands in blocks are COMMON entities
+  pub blocks_hold_commons : (x : Name) → IsAmong x (commons u) → has_common u x ≡ true
+  blocks_hold_commons x m =
+      let among : is_among x (commons_of_unit u) ≡ true = among_named (commons_of_unit u) x (subst (λ xs. IsAmong x xs) (sym (same_commons u)) m) in
+      let d : IsNamed u.names x = common_data x among in
+      ap (has_role is_in_common) d.is ∙ ap is_in_common (common_role d.its d.among (ap (λ y. is_among y (commons_of_unit u)) d.name ∙ among))
+
+  -- ---- dimensions
+
+  right_dims : (d : DataName) → IsAmong d u.names
+      → (is_bad_shape dialect d.dims ≡ false) × (list_all (λ x. same_role d.role Dummy && is_among x u.dummies && is_integer_scalar (scope_of_unit u) x) (names_in_dims d.dims) ≡ true)
+  right_dims d m =
+      let b = both (not (is_bad_shape dialect d.dims)) (list_all (λ x. same_role d.role Dummy && is_among x u.dummies && is_integer_scalar (scope_of_unit u) x) (names_in_dims d.dims))
+          (all_among (has_right_dims dialect u) u.names d w.dimensions m) in
+      (is_false (is_bad_shape dialect d.dims) b.0, b.1)
+
+  pub constant_dim : (d : DataName) (n : ℕ) → IsAmong d u.names → IsAmong (Fixed n) d.dims → 1 ≤ n
+  constant_dim d n m k =
+      let a = neither (nat_lt (most_dims dialect) (length d.dims) || list_any is_zero_dim d.dims) (nat_lt 1000000 (fixed_size d.dims)) (right_dims d m).0 in
+      let b = neither (nat_lt (most_dims dialect) (length d.dims)) (list_any is_zero_dim d.dims) a.0 in
+      not_below_one n (none_among is_zero_dim d.dims (Fixed n) b.1 k)
+
+  -- an integer scalar
+  pub integer_scalar : (x : Name) → is_among x (names_of_unit u) ≡ true → is_integer_scalar (scope_of_unit u) x ≡ true → IsScalar u Integer x
+  integer_scalar x h t =
+      let d : IsNamed u.names x = has_data x h in
+      let b = both (is_integer (scope_of_unit u) x) (not (is_array (scope_of_unit u) x)) t in
+      record {
+        data_of = d.its;
+        is = d.is;
+        scalar = no_dims d.its.dims (ap is_given_dims (sym d.dims) ∙ is_false (is_array (scope_of_unit u) x) b.1);
+        sort_is = one_sort d.its.sort Integer (ap (λ o. same_option o (Some Integer)) (sym (d.sort u.functions)) ∙ b.0);
+      }
+
+  -- an adjustable dimension: its array is a dummy, and it is an integer scalar and a dummy
+  pub record IsRightDim (d : DataName) (x : Name) : Type 0 where
+    pub array_is_dummy : d.role ≡ Dummy
+    pub dummy : is_among x u.dummies ≡ true
+    pub data_is : is_among x (names_of_unit u) ≡ true
+    pub scalar : IsScalar u Integer x
+
+  pub right_dim : (d : DataName) (x : Name) → IsAmong d u.names → IsAmong (Named x) d.dims → IsRightDim d x
+  right_dim d x m k =
+      let t = all_among (λ x. same_role d.role Dummy && is_among x u.dummies && is_integer_scalar (scope_of_unit u) x) (names_in_dims d.dims) x (right_dims d m).1 (among_dim_names d.dims x k) in
+      let b = both (same_role d.role Dummy && is_among x u.dummies) (is_integer_scalar (scope_of_unit u) x) t in
+      let c = both (same_role d.role Dummy) (is_among x u.dummies) b.0 in
+      let own : IsNamed u.names x = dummy_data x c.1 in
+      let data_is : is_among x (names_of_unit u) ≡ true = ap (λ y. is_among y (names_of_unit u)) (sym own.name) ∙ has_own_name u.names own.its own.among in
+      record { array_is_dummy = one_role d.role Dummy c.0; dummy = c.1; data_is = data_is; scalar = integer_scalar x data_is b.1 }
+
+  -- the adjustable dimensions of a name are integer scalars
+  pub dims_are_integers : (d : DataName) → IsAmong d u.names → AreDims u d.dims
+  dims_are_integers d m = go d.dims (λ x k. (right_dim d x m k).scalar)
+    where
+      go : (ds : List Dim) → ((x : Name) → IsAmong (Named x) ds → IsScalar u Integer x) → AreDims u ds
+      go [] h = tt
+      go (Fixed n ∷ ds) h = go ds (λ x k. h x (suc k.0, k.1))
+      go (Named x ∷ ds) h = (h x (0, refl), go ds (λ y k. h y (suc k.0, k.1)))
+
+  -- ---- environments
+
+  module _ (env : Environment) (st : Storage) (shapes : HaveShapes u env st) where
+    one_cell : (d : DataName) (x : Name) → IsAmong d u.names → IsAmong (Named x) d.dims → (e : DataName) × (data_name u x ≡ Some e) × (1 ≤ (env x).size)
+    one_cell d x m k =
+        let r : IsRightDim d x = right_dim d x m k in
+        let own : IsNamed u.names x = dummy_data x r.dummy in
+        let role : own.its.role ≡ Dummy = dummy_role own.its own.among (ap (λ y. is_among y u.dummies) own.name ∙ r.dummy) in
+        let shape : HasShape env st own.its = shapes own.its (record { among = own.among; not_own = ap is_own role }) in
+        let dims_are : own.its.dims ≡ [] = ap (λ (e : DataName). e.dims) (same_data own.its r.scalar.data_of (sym own.is ∙ r.scalar.is)) ∙ r.scalar.scalar in
+        let one : pos (env own.its.name).size ≡ pos 1 = shape.size ∙ ap (λ ds. stretch (dim_values env st ds)) dims_are in
+        (own.its, own.is, at_least (env x).size (ap (λ y. pos (env y).size) (sym own.name) ∙ one))
+      where
+        same_data : (a b : DataName) → Some a ≡ Some b → a ≡ b
+        same_data a b q = cc
+
+        at_least : (n : ℕ) → pos n ≡ pos 1 → 1 ≤ n
+        at_least n q = grind arith
+
+    pub scalar_dims : (y : Name) (d : DataName) → data_name u y ≡ Some d → DimsAreScalars u env d.dims
+    scalar_dims y d is = go d.dims (λ x k. one_cell d x (data_among u.names y d is) k)
+      where
+        go : (ds : List Dim) → ((x : Name) → IsAmong (Named x) ds → (e : DataName) × (data_name u x ≡ Some e) × (1 ≤ (env x).size)) → DimsAreScalars u env ds
+        go [] h = tt
+        go (Fixed n ∷ ds) h = go ds (λ x k. h x (suc k.0, k.1))
+        go (Named x ∷ ds) h = (h x (0, refl), go ds (λ z k. h z (suc k.0, k.1)))
+
+pub blocks_are_common : BlocksHoldCommons
+blocks_are_common = blocks_hold_commons
+
+pub dimensions_are_scalars : DimensionsAreScalars
+dimensions_are_scalars = scalar_dims
