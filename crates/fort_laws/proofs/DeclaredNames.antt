@@ -1,7 +1,7 @@
 -- Names in lists, and what a unit's data names say of a name.
 use Rattle.std.proofs.Common.{◌≡◌, ◌≢◌, ℕ, zero, suc, Bool, true, false, cond, ◌&&◌, ◌||◌, List, [], ◌∷◌, ◌++◌, map, flat_map, Option, Some, None, slice_get, refl, sym, ap, ◌∙◌, subst}
 use Rattle.std.specs.List.{list_any}
-use Rattle.fort_syntax.specs.Scopes.{is_among, has_twin, do_meet}
+use Rattle.fort_syntax.specs.Scopes.{is_among, has_twin, do_meet, is_given_dims}
 use Rattle.fort_syntax.specs.WellFormed.{sort_of_function, sort_among, dims_among}
 use Rattle.fort_syntax.specs.declared.dialect.Sort.{Sort}
 use Rattle.fort_syntax.specs.declared.name.Name.{Name}
@@ -181,3 +181,26 @@ data_among (e ∷ ds) x d h = by_test (same_name e.name x) h (data_among ds x d)
     by_test : (t : Bool) → cond t (Some e) (data_name_in ds x) ≡ Some d → (data_name_in ds x ≡ Some d → IsAmong d ds) → IsAmong d (e ∷ ds)
     by_test true k rec = (0, k)
     by_test false k rec = let m = rec k in (suc m.0, m.1)
+
+-- an array is a data name
+pub named_data : (ds : List DataName) (x : Name) → is_given_dims (dims_among ds x) ≡ true → is_among x (names_in ds) ≡ true
+named_data [] x h = absurd (cc)
+named_data (d ∷ ds) x h = by_name (same_or_not d.name x) (same_or_not x d.name) (named_data ds x)
+  where
+    by_name : SameOrNot d.name x → SameOrNot x d.name → (is_given_dims (dims_among ds x) ≡ true → is_among x (names_in ds) ≡ true) → is_among x (names_in (d ∷ ds)) ≡ true
+    by_name a (same e t) rec = ap (λ (b : Bool). b || is_among x (names_in ds)) t
+    by_name (same e f) (other n t) rec = absurd (n (sym e))
+    by_name (other m f) (other n t) rec =
+        ap (λ (b : Bool). b || is_among x (names_in ds)) t ∙ rec (ap (λ (b : Bool). is_given_dims (cond b d.dims (dims_among ds x))) (sym f) ∙ h)
+
+-- a data name has the name by which it is found
+pub found_named : (ds : List DataName) (x : Name) (d : DataName) → data_name_in ds x ≡ Some d → d.name ≡ x
+found_named [] x d h = absurd (cc)
+found_named (e ∷ ds) x d h = by_name (same_or_not e.name x) (found_named ds x d)
+  where
+    same_item : Some e ≡ Some d → e ≡ d
+    same_item q = cc
+
+    by_name : SameOrNot e.name x → (data_name_in ds x ≡ Some d → d.name ≡ x) → d.name ≡ x
+    by_name (same q t) rec = ap (λ (z : DataName). z.name) (sym (same_item (ap (λ (b : Bool). cond b (Some e) (data_name_in ds x)) (sym t) ∙ h))) ∙ q
+    by_name (other n t) rec = rec (ap (λ (b : Bool). cond b (Some e) (data_name_in ds x)) (sym t) ∙ h)

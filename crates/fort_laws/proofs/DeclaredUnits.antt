@@ -29,7 +29,7 @@ use Rattle.fort_laws.specs.Typed.{IsScalar, AreDims}
 use Rattle.fort_laws.proofs.DeclaredNames.{IsNamed, named, named_among, among_named, names_in, has_own_name, one_data_name, data_among, among_joined_left, among_joined_right, no_twin_left, no_twin_apart}
 use Rattle.fort_laws.proofs.FrameSeats.{clash}
 use Rattle.fort_laws.proofs.Near.{known}
-use Rattle.fort_laws.proofs.Tests.{both, neither, is_false, all_among, none_among}
+use Rattle.fort_laws.proofs.Tests.{both, neither, is_false, all_among, none_among, among_given}
 
 -- ---- roles
 
@@ -99,7 +99,7 @@ not_below_one n h = search rules
 
 -- ---- COMMON entities
 
-same_commons : (u : Routine) → commons_of_unit u ≡ commons u
+pub same_commons : (u : Routine) → commons_of_unit u ≡ commons u
 same_commons u = go u.blocks
   where
     go : (gs : List Group) → flat_map (λ group. names_of_items group.items) gs ≡ items_of gs
@@ -154,6 +154,10 @@ module _ (dialect : Dialect) (u : Routine) (w : IsWellFormedUnit dialect u) wher
 
   pub is_common : (d : DataName) → IsAmong d u.names → d.role ≡ InCommon → is_among d.name (commons_of_unit u) ≡ true
   is_common d m r = by_common (is_among d.name u.dummies) (is_among d.name (commons_of_unit u)) (is_among d.name (own_value_of_unit u)) (sym (right_role d m).0 ∙ r)
+
+  -- a COMMON entity stands in a block
+  pub common_block : (d : DataName) → IsAmong d u.names → d.role ≡ InCommon → (g : Group) × IsAmong g u.blocks × IsAmong d.name (names_of_items g.items)
+  common_block d m r = among_given (λ group. names_of_items group.items) u.blocks d.name (named_among (commons_of_unit u) d.name (is_common d m r))
 
   pub common_role : (d : DataName) → IsAmong d u.names → is_among d.name (commons_of_unit u) ≡ true → d.role ≡ InCommon
   common_role d m h =

@@ -1,8 +1,10 @@
 pub mod BothParts
 pub mod BothSenses
 pub mod BothWalks
+pub mod DeclaredDecks
 pub mod DeclaredNames
 pub mod DeclaredUnits
+pub mod DeclaredUses
 pub mod Descents
 pub mod Exact
 pub mod Falling

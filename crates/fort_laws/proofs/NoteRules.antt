@@ -10,7 +10,7 @@ use Rattle.fort_model.specs.Paths.{AtAssert, cut_in, cut_at, Edge, Uncut, one, m
 use Rattle.fort_model.specs.Program.{Program, Assertion, Notes, notes_of, assertion_in, assertion_at}
 use Rattle.fort_model.specs.Rules.{KeepsRules, is_bad_clock, bad_clocks, all_clocks}
 use Rattle.fort_laws.specs.GoodDecks.{HaveEqualClocks, ClocksAreEqual, UnitsAreCutUp}
-use Rattle.fort_laws.proofs.Tests.{neither, is_false, not_true}
+use Rattle.fort_laws.proofs.Tests.{neither, not_true, not_not}
 
 -- ---- uncut cycles
 
@@ -56,12 +56,8 @@ clock_parts : (parts n : ℕ) → ((n == 0) || (nat_lt 4 n || not (n == parts)))
 clock_parts parts n h =
     let first = neither (n == 0) (nat_lt 4 n || not (n == parts)) h in
     let second = neither (nat_lt 4 n) (not (n == parts)) first.1 in
-    (same n parts (is_true (n == parts) second.1), not_zero n first.0, at_most n second.0)
+    (same n parts (not_not (n == parts) second.1), not_zero n first.0, at_most n second.0)
   where
-    is_true : (b : Bool) → not b ≡ false → b ≡ true
-    is_true true k = refl
-    is_true false k = absurd (cc)
-
     same : (m k : ℕ) → (m == k) ≡ true → m ≡ k
     same m k t = search rules
 

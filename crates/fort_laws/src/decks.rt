@@ -4,6 +4,7 @@ ghost use Rattle.fort_laws.specs.GoodDecks.{
   ClocksAreEqual,
   DimensionsAreScalars,
   UnitsAreCutUp,
+  WellFormedIsDeclared,
 };
 
 /// What stands in the COMMON blocks of a well-formed unit are COMMON entities. It does nothing.
@@ -27,4 +28,10 @@ pub fn units_are_cut_up()
 /// one to four. It does nothing.
 pub fn clocks_are_equal()
     ensures { ClocksAreEqual }
+{}
+
+/// The units of a well-formed deck are as declarations make them, which the laws of runs take, if
+/// each unit has the COMMON blocks of those that it calls. It does nothing.
+pub fn well_formed_is_declared()
+    ensures { WellFormedIsDeclared }
 {}
