@@ -3,6 +3,7 @@ pub mod BothSenses
 pub mod BothWalks
 pub mod DeclaredDecks
 pub mod DeclaredNames
+pub mod DeclaredTypes
 pub mod DeclaredUnits
 pub mod DeclaredUses
 pub mod Descents
@@ -16,6 +17,7 @@ pub mod FrameParts
 pub mod FrameReads
 pub mod FrameRuns
 pub mod FrameSeats
+pub mod GoodLines
 pub mod Kept
 pub mod MatchedAssignments
 pub mod MatchedExpressions

@@ -3,6 +3,7 @@ ghost use Rattle.fort_laws.specs.GoodDecks.{
   BlocksHoldCommons,
   ClocksAreEqual,
   DimensionsAreScalars,
+  StatementsAreGood,
   UnitsAreCutUp,
   WellFormedIsDeclared,
 };
@@ -34,4 +35,11 @@ pub fn clocks_are_equal()
 /// each unit has the COMMON blocks of those that it calls. It does nothing.
 pub fn well_formed_is_declared()
     ensures { WellFormedIsDeclared }
+{}
+
+/// In a well-formed unit of a program that smashes none of its dimensions, where the cells of
+/// smashed names lie apart from all others, each statement is good: its parts have the types that
+/// their places demand, and it writes only what may be written. It does nothing.
+pub fn statements_are_good()
+    ensures { StatementsAreGood }
 {}

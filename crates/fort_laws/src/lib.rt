@@ -15,8 +15,8 @@ mod ways;
 
 pub use clocks::clocks_fall_only_so_often;
 pub use decks::{
-    blocks_are_common, clocks_are_equal, dimensions_are_scalars, units_are_cut_up,
-    well_formed_is_declared,
+    blocks_are_common, clocks_are_equal, dimensions_are_scalars, statements_are_good,
+    units_are_cut_up, well_formed_is_declared,
 };
 pub use exactness::{
     checks_do_not_depend_on_values, conditions_are_exact, valid_conditions_make_paths_safe,
