@@ -1,16 +1,14 @@
 -- The units of a well-formed deck are as declarations make them, and share blocks where no block is missing.
-use Rattle.std.proofs.Common.{◌≡◌, ◌≤◌, ℕ, zero, suc, Bool, true, false, cond, not, ◌&&◌, ◌||◌, List, [], ◌∷◌, ◌++◌, map, flat_map, Option, Some, None, slice_get, refl, sym, ap, ◌∙◌, subst, rules}
+use Rattle.std.proofs.Common.{◌≡◌, ℕ, zero, suc, Bool, true, false, cond, not, List, [], ◌∷◌, map, Option, Some, None, slice_get, refl, sym, ap, ◌∙◌, subst, rules}
 use Rattle.std.specs.Prelude.{◌==◌}
-use Rattle.std.specs.List.{list_any, list_all}
-use Rattle.std.specs.Cmp.Lexicographic.{pointwise, same_text}
-use Rattle.fort_syntax.specs.NameRules.{Member, member_of, same_member, same_members}
+use Rattle.std.specs.List.{list_all}
+use Rattle.std.specs.Cmp.Lexicographic.{same_text}
+use Rattle.fort_syntax.specs.NameRules.{member_of, same_member, same_members}
 use Rattle.fort_syntax.specs.Scopes.{Scope, is_among, same_dim, same_dims, same_option}
 use Rattle.fort_syntax.specs.Scopes as syntax
 use Rattle.fort_syntax.specs.Units.{name_of_block, names_of_items}
-use Rattle.fort_syntax.specs.WellFormed.{IsWellFormedUnit, AreWellFormedUnits, IsWellFormed, commons_of_unit, scope_of_unit, members_of_group, agree_groups, agree_on_blocks}
-use Rattle.fort_syntax.specs.declared.deck.Deck.{Deck}
+use Rattle.fort_syntax.specs.WellFormed.{IsWellFormedUnit, AreWellFormedUnits, commons_of_unit, scope_of_unit, members_of_group, agree_groups, agree_on_blocks}
 use Rattle.fort_syntax.specs.declared.dialect.Dialect.{Dialect}
-use Rattle.fort_syntax.specs.declared.expr.Expr.TheVariants.{Var}
 use Rattle.fort_syntax.specs.declared.name.Name.{Name}
 use Rattle.fort_syntax.specs.declared.rule.Rule.TheVariants.{BlockMissing}
 use Rattle.fort_syntax.specs.declared.stmt.BlockName.{BlockName}
@@ -27,16 +25,15 @@ use Rattle.fort_syntax.specs.declared.unit.Unit.{Unit as Routine}
 use Rattle.fort_model.specs.CallRules.{in_unit, of_unit, some_call, same_block, declares, lacks_block}
 use Rattle.fort_model.specs.Calls.{Calls, callee_of, sites_of}
 use Rattle.fort_model.specs.Lists.{IsAmong}
-use Rattle.fort_model.specs.Names.{same_name, data_name}
+use Rattle.fort_model.specs.Names.{data_name}
 use Rattle.fort_model.specs.Program.{Program, has_common, has_role, is_in_common, items_of, commons}
 use Rattle.fort_model.specs.Rules.{cards_of_lines}
-use Rattle.fort_model.specs.Smashes.{set_by}
 use Rattle.fort_laws.specs.Declared.{IsDimension, IsDeclared, AreDeclared}
 use Rattle.fort_laws.specs.Frame.{HasName}
 use Rattle.fort_laws.specs.GoodDecks.{KeepsRule, WellFormedIsDeclared}
-use Rattle.fort_laws.proofs.DeclaredNames.{IsNamed, named_among, among_named, only_once, no_twin_left, one_data_name, found_name, has_own_name, data_among, found_named}
+use Rattle.fort_laws.proofs.DeclaredNames.{IsNamed, named_among, among_named, only_once, no_twin_left, one_data_name, has_own_name, data_among, found_named}
 use Rattle.fort_laws.proofs.DeclaredUnits as unit
-use Rattle.fort_laws.proofs.DeclaredUses.{IsRightLine, right_line, set_data, pass_data}
+use Rattle.fort_laws.proofs.DeclaredUses.{right_line, set_data, pass_data}
 use Rattle.fort_laws.proofs.FrameSeats.{clash, same_is}
 use Rattle.fort_laws.proofs.Kept.{among_left, among_right}
 use Rattle.fort_laws.proofs.Tests.{both, one_holds, not_true, not_not, all_among, none_among, some_passes}

@@ -1,11 +1,8 @@
 -- Names in lists, and what a unit's data names say of a name.
-use Rattle.std.proofs.Common.{◌≡◌, ◌≢◌, ℕ, zero, suc, Bool, true, false, cond, ◌&&◌, ◌||◌, List, [], ◌∷◌, ◌++◌, map, flat_map, Option, Some, None, slice_get, refl, sym, ap, ◌∙◌, subst}
-use Rattle.std.specs.List.{list_any}
+use Rattle.std.proofs.Common.{◌≡◌, ℕ, zero, suc, Bool, true, false, cond, ◌||◌, List, [], ◌∷◌, ◌++◌, map, Some, slice_get, refl, sym, ap, ◌∙◌, subst}
 use Rattle.fort_syntax.specs.Scopes.{is_among, has_twin, do_meet, is_given_dims}
 use Rattle.fort_syntax.specs.WellFormed.{sort_of_function, sort_among, dims_among}
-use Rattle.fort_syntax.specs.declared.dialect.Sort.{Sort}
 use Rattle.fort_syntax.specs.declared.name.Name.{Name}
-use Rattle.fort_syntax.specs.declared.stmt.Dim.{Dim}
 use Rattle.fort_syntax.specs.declared.unit.DataName.{DataName}
 use Rattle.fort_syntax.specs.declared.unit.FunctionName.{FunctionName}
 use Rattle.fort_model.specs.Lists.{IsAmong}

@@ -1,15 +1,15 @@
 -- Expressions in a well-formed unit have the types that their places demand.
-use Rattle.std.proofs.Common.{◌≡◌, ◌≤◌, ℕ, zero, suc, ◌⊎◌, inl, inr, Bool, true, false, cond, not, ◌&&◌, ◌||◌, List, [], ◌∷◌, ◌++◌, map, length, Option, Some, None, nat_le, codes, refl, sym, ap, ◌∙◌, subst, arith, rules}
+use Rattle.std.proofs.Common.{◌≡◌, ◌≤◌, ℕ, suc, ◌⊎◌, inl, inr, Bool, true, false, cond, not, ◌&&◌, ◌||◌, List, [], ◌∷◌, ◌++◌, map, length, Option, Some, None, nat_le, codes, refl, sym, ap, ◌∙◌, subst, arith, rules}
 use Rattle.std.specs.Prelude.{◌==◌}
 use Rattle.std.specs.List.{list_any, list_all}
 use mathlib.Core.Former.{Count}
-use Rattle.fort_syntax.specs.Scopes.{is_among, has_twin, do_meet, same_sort, same_option, is_intrinsic_name, takes_so_many, is_given_dims, is_array, is_intrinsic}
-use Rattle.fort_syntax.specs.TypeRules.{type_applied, type_of, gives_integer, gives_logical, are_fit_arguments, has_fit_operands}
+use Rattle.fort_syntax.specs.Scopes.{Scope, is_among, has_twin, do_meet, same_option, is_intrinsic_name, takes_so_many, is_given_dims, is_array, is_intrinsic}
+use Rattle.fort_syntax.specs.TypeRules.{type_applied, type_of, gives_integer, are_fit_arguments, has_fit_operands}
 use Rattle.fort_syntax.specs.TreePatterns as syntax
 use Rattle.fort_syntax.specs.UseRules.{is_misused}
 use Rattle.fort_syntax.specs.Uses.{Use, Occurrence, occurrence, read, argument_of, actual, uses_in, uses_in_row, parts, parts_of_row}
 use Rattle.fort_syntax.specs.Uses as use_as
-use Rattle.fort_syntax.specs.WellFormed.{IsWellFormedUnit, names_of_unit, functions_of_unit, sort_of_function, sort_among, dims_among, scope_of_unit, is_known}
+use Rattle.fort_syntax.specs.WellFormed.{IsWellFormedUnit, names_of_unit, functions_of_unit, sort_of_function, dims_among, scope_of_unit, is_known}
 use Rattle.fort_syntax.specs.declared.dialect.Dialect.{Dialect}
 use Rattle.fort_syntax.specs.declared.dialect.Sort.{Sort}
 use Rattle.fort_syntax.specs.declared.dialect.Sort.TheVariants.{Integer, Logical}
@@ -17,16 +17,15 @@ use Rattle.fort_syntax.specs.declared.expr.Expr.{Expr, Row_of-Expr, end_of-Expr,
 use Rattle.fort_syntax.specs.declared.expr.Expr.TheVariants.{Const, Truth, Var, Apply', Paren', Pos', Neg', Power', Bin', Rel', Not', And', Or'}
 use Rattle.fort_syntax.specs.declared.name.Name.{Name}
 use Rattle.fort_syntax.specs.declared.stmt.Dim.{Dim}
-use Rattle.fort_syntax.specs.declared.unit.DataName.{DataName}
 use Rattle.fort_syntax.specs.declared.unit.FunctionName.{FunctionName}
 use Rattle.fort_syntax.specs.declared.unit.Unit.{Unit as Routine}
 use Rattle.fort_model.specs.Arguments.{reference_sort}
 use Rattle.fort_model.specs.Calls.{CallSite, listed, own_site, sites_in, sites_in_row}
 use Rattle.fort_model.specs.Lists.{IsAmong}
-use Rattle.fort_model.specs.Names.{Intrinsic, Absolute, Modulo, Greatest, Least, Applied, Element, BuiltIn, Reference, intrinsic, applied_by, applied, same_name, dims_of}
+use Rattle.fort_model.specs.Names.{Intrinsic, Absolute, Modulo, Greatest, Least, intrinsic, applied_by, applied, same_name, dims_of}
 use Rattle.fort_model.specs.Trees.{only}
 use Rattle.fort_laws.specs.GoodDecks.{AreReferred}
-use Rattle.fort_laws.specs.Typed.{AreDims, IsCount, row_length, IsScalar, IsArray, HasData, IsActual, IsApplied, IsTyped, AreInteger, AreActual}
+use Rattle.fort_laws.specs.Typed.{AreDims, IsCount, row_length, IsScalar, IsArray, IsActual, IsApplied, IsTyped, AreInteger, AreActual}
 use Rattle.fort_laws.proofs.DeclaredNames.{IsNamed, do_not_meet, unnamed_sort, same_dims_told, named_data}
 use Rattle.fort_laws.proofs.DeclaredUnits as unit
 use Rattle.fort_laws.proofs.DeclaredUses.{AreRight, right_left, right_right, right_behind, right_first}
@@ -126,35 +125,38 @@ takes_scalars u f h x k m = (k, known (is_array (scope_of_unit u) x) (λ t. absu
     by_first false b e n = absurd (cc)
 
 module _ (dialect : Dialect) (u : Routine) (w : IsWellFormedUnit dialect u) where
+  abbrev scope : Scope
+  scope = scope_of_unit u
+
   -- ---- names before brackets
 
-  pub array_sort : (f : Name) → is_array (scope_of_unit u) f ≡ true → type_applied (scope_of_unit u) f ≡ (scope_of_unit u).sort f
-  array_sort f h = ap (λ b. cond (is_intrinsic_name f && not b) (Some Integer) ((scope_of_unit u).sort f)) h ∙ ap (λ b. cond b (Some Integer) ((scope_of_unit u).sort f)) (and_false (is_intrinsic_name f))
+  pub array_sort : (f : Name) → is_array scope f ≡ true → type_applied scope f ≡ scope.sort f
+  array_sort f h = ap (λ b. cond (is_intrinsic_name f && not b) (Some Integer) (scope.sort f)) h ∙ ap (λ b. cond b (Some Integer) (scope.sort f)) (and_false (is_intrinsic_name f))
     where
       and_false : (b : Bool) → (b && false) ≡ false
       and_false true = refl
       and_false false = refl
 
   -- an intrinsic function gives an integer
-  intrinsic_sort : (f : Name) → is_array (scope_of_unit u) f ≡ false → is_intrinsic_name f ≡ true → type_applied (scope_of_unit u) f ≡ Some Integer
+  intrinsic_sort : (f : Name) → is_array scope f ≡ false → is_intrinsic_name f ≡ true → type_applied scope f ≡ Some Integer
   intrinsic_sort f h t =
-      ap (λ b. cond (is_intrinsic_name f && not b) (Some Integer) ((scope_of_unit u).sort f)) h ∙ ap (λ b. cond (b && true) (Some Integer) ((scope_of_unit u).sort f)) t
+      ap (λ b. cond (is_intrinsic_name f && not b) (Some Integer) (scope.sort f)) h ∙ ap (λ b. cond (b && true) (Some Integer) (scope.sort f)) t
 
   -- a function of the unit gives the type that the unit says
-  function_type : (f : Name) → is_array (scope_of_unit u) f ≡ false → is_intrinsic_name f ≡ false → is_among f (functions_of_unit u) ≡ true
-      → type_applied (scope_of_unit u) f ≡ reference_sort u.functions f
+  function_type : (f : Name) → is_array scope f ≡ false → is_intrinsic_name f ≡ false → is_among f (functions_of_unit u) ≡ true
+      → type_applied scope f ≡ reference_sort u.functions f
   function_type f h t m =
       let alone = both (not (has_twin (functions_of_unit u)) && not (do_meet (functions_of_unit u) (names_of_unit u))) (not (list_any is_intrinsic_name (functions_of_unit u)))
-          (both _ (not (is_among u.name (functions_of_unit u))) w.functions).0 in
+      (both _ (not (is_among u.name (functions_of_unit u))) w.functions).0 in
       let apart : do_meet (functions_of_unit u) (names_of_unit u) ≡ false = is_false _ (both (not (has_twin (functions_of_unit u))) _ alone.0).1 in
-      ap (λ b. cond (b && not (is_array (scope_of_unit u) f)) (Some Integer) ((scope_of_unit u).sort f)) t
+      ap (λ b. cond (b && not (is_array scope f)) (Some Integer) (scope.sort f)) t
       ∙ (unnamed_sort u.names u.functions f (do_not_meet (functions_of_unit u) (names_of_unit u) f apart m) ∙ sym (function_sort u.functions f))
 
   -- a name before a bracket that is no array and no intrinsic function is a function
-  is_function : (f : Name) (n : ℕ) → is_known u f (use_as.applied n) ≡ true → is_array (scope_of_unit u) f ≡ false → is_intrinsic_name f ≡ false → is_among f (functions_of_unit u) ≡ true
+  is_function : (f : Name) (n : ℕ) → is_known u f (use_as.applied n) ≡ true → is_array scope f ≡ false → is_intrinsic_name f ≡ false → is_among f (functions_of_unit u) ≡ true
   is_function f n k h t =
-      one_holds (is_array (scope_of_unit u) f || is_intrinsic (scope_of_unit u) f) (is_among f (functions_of_unit u)) k
-      (ap (λ b. b || is_intrinsic (scope_of_unit u) f) h ∙ ap (λ b. b && not (is_array (scope_of_unit u) f)) t)
+      one_holds (is_array scope f || is_intrinsic scope f) (is_among f (functions_of_unit u)) k
+      (ap (λ b. b || is_intrinsic scope f) h ∙ ap (λ b. b && not (is_array scope f)) t)
 
   some_function : (fs : List FunctionName) (f : Name) → is_among f (map (λ g. g.name) fs) ≡ true → (q : Sort) × (reference_sort fs f ≡ Some q)
   some_function [] f h = absurd (cc)
@@ -168,15 +170,15 @@ module _ (dialect : Dialect) (u : Routine) (w : IsWellFormedUnit dialect u) wher
           (r.0, ap (λ b. cond b (Some g.sort) (reference_sort fs f)) t ∙ r.1)
 
   -- each name before a bracket has a type
-  type_before : (f : Name) (n : ℕ) → is_known u f (use_as.applied n) ≡ true → (q : Sort) × (type_applied (scope_of_unit u) f ≡ Some q)
-  type_before f n k = known (is_array (scope_of_unit u) f)
+  type_before : (f : Name) (n : ℕ) → is_known u f (use_as.applied n) ≡ true → (q : Sort) × (type_applied scope f ≡ Some q)
+  type_before f n k = known (is_array scope f)
       (λ h. let d : IsNamed u.names f = unit.has_data dialect u w f (named_data u.names f h) in (d.its.sort, array_sort f h ∙ d.sort u.functions))
       (λ h. known (is_intrinsic_name f)
       (λ t. (Integer, intrinsic_sort f h t))
       (λ t. let r = some_function u.functions f (is_function f n k h t) in (r.0, function_type f h t (is_function f n k h t) ∙ r.1)))
 
   -- each expression has a type
-  type_found : (e : Expr) → AreRight u (uses_in read e) → (q : Sort) × (type_of (scope_of_unit u) e ≡ Some q)
+  type_found : (e : Expr) → AreRight u (uses_in read e) → (q : Sort) × (type_of scope e ≡ Some q)
   type_found (Const n) h = (Integer, refl)
   type_found (Truth b) h = (Logical, refl)
   type_found (Var x) h = let d : IsNamed u.names x = unit.has_data dialect u w x (right_first u x read [] h).0 in (d.its.sort, d.sort u.functions)
@@ -191,14 +193,18 @@ module _ (dialect : Dialect) (u : Routine) (w : IsWellFormedUnit dialect u) wher
   type_found (And' q a r b) h = (Logical, refl)
   type_found (Or' q a r b) h = (Logical, refl)
 
+  -- subscripts and the arguments of intrinsic functions are integers
+  pub integers_demanded : (f : Name) (es : List Expr) → are_fit_arguments scope f es ≡ true → (is_array scope f || is_intrinsic scope f) ≡ true → list_all (gives_integer scope) es ≡ true
+  integers_demanded f es fit h = one_holds (not (is_array scope f || is_intrinsic scope f)) (list_all (gives_integer scope) es) fit (ap not h)
+
   -- a scalar has the type that its name has
-  pub scalar_of : (q : Sort) (x : Name) → is_among x (names_of_unit u) ≡ true → is_array (scope_of_unit u) x ≡ false → (scope_of_unit u).sort x ≡ Some q → IsScalar u q x
+  pub scalar_of : (q : Sort) (x : Name) → is_among x (names_of_unit u) ≡ true → is_array scope x ≡ false → scope.sort x ≡ Some q → IsScalar u q x
   scalar_of q x h a t =
       let d : IsNamed u.names x = unit.has_data dialect u w x h in
       record { data_of = d.its; is = d.is; scalar = unit.no_dims d.its.dims (ap is_given_dims (sym d.dims) ∙ a); sort_is = one_type d.its.sort q (sym (d.sort u.functions) ∙ t) }
 
   -- an array has its dimensions, and the type that its name has
-  pub array_of : (q : Sort) (a : Name) (ds : List Dim) → is_array (scope_of_unit u) a ≡ true → dims_among u.names a ≡ ds → (scope_of_unit u).sort a ≡ Some q → IsArray u q a ds
+  pub array_of : (q : Sort) (a : Name) (ds : List Dim) → is_array scope a ≡ true → dims_among u.names a ≡ ds → scope.sort a ≡ Some q → IsArray u q a ds
   array_of q a ds h e t =
       let d : IsNamed u.names a = unit.has_data dialect u w a (named_data u.names a h) in
       record {
@@ -212,9 +218,9 @@ module _ (dialect : Dialect) (u : Routine) (w : IsWellFormedUnit dialect u) wher
   module _ (IsReference : Sort → Name → Type 0) where
     -- a name before a bracket, by what it is
     applied_typed : (q : Sort) (f : Name) {m : Count} (args : Row_of-Expr m)
-        → (is_known u f (use_as.applied (length (syntax.listed args))) ≡ true) × (is_misused (scope_of_unit u) f (use_as.applied (length (syntax.listed args))) ≡ false)
-        → are_fit_arguments (scope_of_unit u) f (syntax.listed args) ≡ true → type_applied (scope_of_unit u) f ≡ Some q
-        → ((is_array (scope_of_unit u) f || is_intrinsic_name f) ≡ true → list_all (gives_integer (scope_of_unit u)) (syntax.listed args) ≡ true → AreInteger u IsReference args)
+        → (is_known u f (use_as.applied (length (syntax.listed args))) ≡ true) × (is_misused scope f (use_as.applied (length (syntax.listed args))) ≡ false)
+        → are_fit_arguments scope f (syntax.listed args) ≡ true → type_applied scope f ≡ Some q
+        → ((is_array scope f || is_intrinsic_name f) ≡ true → list_all (gives_integer scope) (syntax.listed args) ≡ true → AreInteger u IsReference args)
         → AreActual u IsReference args → AreReferred u IsReference (own_site (applied u f) f (listed args))
         → IsApplied u IsReference q f (applied u f) (row_length args) (AreInteger u IsReference args) (AreActual u IsReference args)
     applied_typed q f args right fit t integers actuals refer = go (dims_of u f) (intrinsic f) refl refl refer
@@ -222,29 +228,29 @@ module _ (dialect : Dialect) (u : Routine) (w : IsWellFormedUnit dialect u) wher
         n : ℕ
         n = length (syntax.listed args)
 
-        no_use : ((is_array (scope_of_unit u) f && not (n == length (dims_among u.names f))) ≡ false) × ((is_intrinsic (scope_of_unit u) f && not (takes_so_many f n)) ≡ false)
-        no_use = neither (is_array (scope_of_unit u) f && not (n == length (dims_among u.names f))) (is_intrinsic (scope_of_unit u) f && not (takes_so_many f n)) right.1
-
-        integers_by : (is_array (scope_of_unit u) f || is_intrinsic (scope_of_unit u) f) ≡ true → list_all (gives_integer (scope_of_unit u)) (syntax.listed args) ≡ true
-        integers_by h = one_holds (not (is_array (scope_of_unit u) f || is_intrinsic (scope_of_unit u) f)) (list_all (gives_integer (scope_of_unit u)) (syntax.listed args)) fit (ap not h)
+        no_use : ((is_array scope f && not (n == length (dims_among u.names f))) ≡ false) × ((is_intrinsic scope f && not (takes_so_many f n)) ≡ false)
+        no_use = neither (is_array scope f && not (n == length (dims_among u.names f))) (is_intrinsic scope f && not (takes_so_many f n)) right.1
 
         go : (ds : List Dim) (o : Option Intrinsic) → dims_of u f ≡ ds → intrinsic f ≡ o → AreReferred u IsReference (own_site (applied_by ds o) f (listed args))
             → IsApplied u IsReference q f (applied_by ds o) (row_length args) (AreInteger u IsReference args) (AreActual u IsReference args)
         go (d ∷ ds) o e k refer =
             let dims_are : dims_among u.names f ≡ d ∷ ds = sym (same_dims_told u.names f) ∙ e in
-            let array : is_array (scope_of_unit u) f ≡ true = ap is_given_dims dims_are in
-            let many : n ≡ length (d ∷ ds) = same_number n (length (d ∷ ds)) (ap (λ zs. n == length zs) (sym dims_are) ∙ not_not (n == length (dims_among u.names f)) (one_fails (is_array (scope_of_unit u) f) _ no_use.0 array)) in
-            (array_of q f (d ∷ ds) array dims_are (sym (array_sort f array) ∙ t), row_count args ∙ many,
-            integers (ap (λ b. b || is_intrinsic_name f) array) (integers_by (ap (λ b. b || is_intrinsic (scope_of_unit u) f) array)))
+            let array : is_array scope f ≡ true = ap is_given_dims dims_are in
+            let many : n ≡ length (d ∷ ds) = same_number n (length (d ∷ ds)) (ap (λ zs. n == length zs) (sym dims_are) ∙ not_not (n == length (dims_among u.names f)) (one_fails (is_array scope f) _ no_use.0 array)) in (
+              array_of q f (d ∷ ds) array dims_are (sym (array_sort f array) ∙ t),
+              row_count args ∙ many,
+              integers (ap (λ b. b || is_intrinsic_name f) array) (integers_demanded f (syntax.listed args) fit (ap (λ b. b || is_intrinsic scope f) array)),
+            )
         go [] (Some g) e k refer =
-            let scalar : is_array (scope_of_unit u) f ≡ false = ap is_given_dims (sym (same_dims_told u.names f) ∙ e) in
+            let scalar : is_array scope f ≡ false = ap is_given_dims (sym (same_dims_told u.names f) ∙ e) in
             let is : is_intrinsic_name f ≡ true = known (is_intrinsic_name f) (λ y. y) (λ y. absurd (unlike g (sym k ∙ not_intrinsic f y))) in
-            let whole : is_intrinsic (scope_of_unit u) f ≡ true = ap (λ b. is_intrinsic_name f && not b) scalar ∙ ap (λ b. b && true) is in
+            let whole : is_intrinsic scope f ≡ true = ap (λ b. is_intrinsic_name f && not b) scalar ∙ ap (λ b. b && true) is in
             let of = intrinsic_named f is in
-            let takes : takes_so_many f n ≡ true = not_not (takes_so_many f n) (one_fails (is_intrinsic (scope_of_unit u) f) _ no_use.1 whole) in
-            (sym (one_type Integer q (sym (intrinsic_sort f scalar is) ∙ t)),
-            subst (λ z. IsCount z (row_length args)) (same_one of.0 g (sym of.1 ∙ k)) (subst (IsCount of.0) (sym (row_count args)) (of.2 n takes)),
-            integers (ap (λ b. b || is_intrinsic_name f) scalar ∙ is) (integers_by (ap (λ b. b || is_intrinsic (scope_of_unit u) f) scalar ∙ whole)))
+            let takes : takes_so_many f n ≡ true = not_not (takes_so_many f n) (one_fails (is_intrinsic scope f) _ no_use.1 whole) in (
+              sym (one_type Integer q (sym (intrinsic_sort f scalar is) ∙ t)),
+              subst (λ z. IsCount z (row_length args)) (same_one of.0 g (sym of.1 ∙ k)) (subst (IsCount of.0) (sym (row_count args)) (of.2 n takes)),
+              integers (ap (λ b. b || is_intrinsic_name f) scalar ∙ is) (integers_demanded f (syntax.listed args) fit (ap (λ b. b || is_intrinsic scope f) scalar ∙ whole)),
+            )
           where
             unlike : (g : Intrinsic) → Some g ≡ None → ⊥
             unlike g h = absurd (cc)
@@ -252,7 +258,7 @@ module _ (dialect : Dialect) (u : Routine) (w : IsWellFormedUnit dialect u) wher
             same_one : (a b : Intrinsic) → Some a ≡ Some b → a ≡ b
             same_one a b h = cc
         go [] None e k refer =
-            let scalar : is_array (scope_of_unit u) f ≡ false = ap is_given_dims (sym (same_dims_told u.names f) ∙ e) in
+            let scalar : is_array scope f ≡ false = ap is_given_dims (sym (same_dims_told u.names f) ∙ e) in
             let is_not : is_intrinsic_name f ≡ false = known (is_intrinsic_name f) (λ y. absurd (unlike (sym k ∙ (intrinsic_named f y).1))) (λ y. y) in
             let type : reference_sort u.functions f ≡ Some q = sym (function_type f scalar is_not (is_function f n right.0 scalar is_not)) ∙ t in
             (refer (record { reference = true; callee = f; actuals = listed args }) q (0, refl) refl type, actuals)
@@ -267,18 +273,19 @@ module _ (dialect : Dialect) (u : Routine) (w : IsWellFormedUnit dialect u) wher
     referred_right xs ys h site q m = h site q (among_right site xs ys m)
 
     -- both operands have a type
-    two_types : (q : Sort) (a b : Expr) → (same_option (type_of (scope_of_unit u) a) (Some q) && same_option (type_of (scope_of_unit u) b) (Some q)) ≡ true
-        → (type_of (scope_of_unit u) a ≡ Some q) × (type_of (scope_of_unit u) b ≡ Some q)
+    two_types : (q : Sort) (a b : Expr) → (same_option (type_of scope a) (Some q) && same_option (type_of scope b) (Some q)) ≡ true
+        → (type_of scope a ≡ Some q) × (type_of scope b ≡ Some q)
     two_types q a b h = let t = both _ _ h in (same_type _ q t.0, same_type _ q t.1)
 
     two_typed : (q : Sort) (a b : Expr)
-        → (AreRight u (uses_in read a) → AreFit u (parts a) → AreReferred u IsReference (sites_in u a) → type_of (scope_of_unit u) a ≡ Some q → IsTyped u IsReference q a)
-        → (AreRight u (uses_in read b) → AreFit u (parts b) → AreReferred u IsReference (sites_in u b) → type_of (scope_of_unit u) b ≡ Some q → IsTyped u IsReference q b)
+        → (AreRight u (uses_in read a) → AreFit u (parts a) → AreReferred u IsReference (sites_in u a) → type_of scope a ≡ Some q → IsTyped u IsReference q a)
+        → (AreRight u (uses_in read b) → AreFit u (parts b) → AreReferred u IsReference (sites_in u b) → type_of scope b ≡ Some q → IsTyped u IsReference q b)
         → AreRight u (uses_in read a ++ uses_in read b) → AreFit u (parts a ++ parts b) → AreReferred u IsReference (sites_in u a ++ sites_in u b)
-        → (type_of (scope_of_unit u) a ≡ Some q) × (type_of (scope_of_unit u) b ≡ Some q) → IsTyped u IsReference q a × IsTyped u IsReference q b
-    two_typed q a b f g h fit refer t =
-        (f (right_left u (uses_in read a) (uses_in read b) h) (fit_left u (parts a) (parts b) fit) (referred_left (sites_in u a) (sites_in u b) refer) t.0,
-        g (right_right u (uses_in read a) (uses_in read b) h) (fit_right u (parts a) (parts b) fit) (referred_right (sites_in u a) (sites_in u b) refer) t.1)
+        → (type_of scope a ≡ Some q) × (type_of scope b ≡ Some q) → IsTyped u IsReference q a × IsTyped u IsReference q b
+    two_typed q a b f g h fit refer t = (
+      f (right_left u (uses_in read a) (uses_in read b) h) (fit_left u (parts a) (parts b) fit) (referred_left (sites_in u a) (sites_in u b) refer) t.0,
+      g (right_right u (uses_in read a) (uses_in read b) h) (fit_right u (parts a) (parts b) fit) (referred_right (sites_in u a) (sites_in u b) refer) t.1,
+    )
 
     by_sort : (e : Expr) (q : Sort) → IsTyped u IsReference q e → IsTyped u IsReference Integer e ⊎ IsTyped u IsReference Logical e
     by_sort e Integer h = inl h
@@ -286,7 +293,7 @@ module _ (dialect : Dialect) (u : Routine) (w : IsWellFormedUnit dialect u) wher
 
     -- an actual that is no bare name has a type
     is_actual : (how : Use) → IsOfData u how → (e : Expr) → AreRight u (uses_in how e)
-        → ((q : Sort) → AreRight u (uses_in read e) → type_of (scope_of_unit u) e ≡ Some q → IsTyped u IsReference q e)
+        → ((q : Sort) → AreRight u (uses_in read e) → type_of scope e ≡ Some q → IsTyped u IsReference q e)
         → IsActual u e (IsTyped u IsReference Integer e ⊎ IsTyped u IsReference Logical e)
     is_actual how of (Var x) h on = let d : IsNamed u.names x = unit.has_data dialect u w x (of x (right_first u x how [] h).0) in record { data_of = d.its; is = d.is }
     is_actual how of (Const n) h on = let t = type_found (Const n) h in by_sort (Const n) t.0 (on t.0 h t.1)
@@ -304,7 +311,7 @@ module _ (dialect : Dialect) (u : Routine) (w : IsWellFormedUnit dialect u) wher
 
     mutual
       pub typed : (how : Use) → IsOfScalars u how → (q : Sort) (e : Expr) → AreRight u (uses_in how e) → AreFit u (parts e) → AreReferred u IsReference (sites_in u e)
-          → type_of (scope_of_unit u) e ≡ Some q → IsTyped u IsReference q e
+          → type_of scope e ≡ Some q → IsTyped u IsReference q e
       typed how of q (Const n) h fit refer t = sym (one_type Integer q t)
       typed how of q (Truth b) h fit refer t = sym (one_type Logical q t)
       typed how of q (Var x) h fit refer t = let r = right_first u x how [] h in let s = of x r.0 r.1 in scalar_of q x s.0 s.1 t
@@ -335,17 +342,19 @@ module _ (dialect : Dialect) (u : Routine) (w : IsWellFormedUnit dialect u) wher
           (sym (one_type Logical q t), two_typed Logical a b (typed read (reads_scalars u) Logical a) (typed read (reads_scalars u) Logical b) h (fit_behind u (Or' r (only a) s (only b)) (parts a ++ parts b) fit) refer (two_types Logical a b (fit (Or' r (only a) s (only b)) (0, refl))))
 
       pub integers : (how : Use) → IsOfScalars u how → {m : Count} (args : Row_of-Expr m) → AreRight u (uses_in_row how args) → AreFit u (parts_of_row args) → AreReferred u IsReference (sites_in_row u args)
-          → list_all (gives_integer (scope_of_unit u)) (syntax.listed args) ≡ true → AreInteger u IsReference args
+          → list_all (gives_integer scope) (syntax.listed args) ≡ true → AreInteger u IsReference args
       integers how of end_of-Expr h fit refer t = tt
       integers how of (more_of-Expr e es) h fit refer t =
-          let b = both (gives_integer (scope_of_unit u) e) (list_all (gives_integer (scope_of_unit u)) (syntax.listed es)) t in
-          (typed how of Integer e (right_left u (uses_in how e) (uses_in_row how es) h) (fit_left u (parts e) (parts_of_row es) fit) (referred_left (sites_in u e) (sites_in_row u es) refer) (same_type _ Integer b.0),
-          integers how of es (right_right u (uses_in how e) (uses_in_row how es) h) (fit_right u (parts e) (parts_of_row es) fit) (referred_right (sites_in u e) (sites_in_row u es) refer) b.1)
+          let b = both (gives_integer scope e) (list_all (gives_integer scope) (syntax.listed es)) t in (
+            typed how of Integer e (right_left u (uses_in how e) (uses_in_row how es) h) (fit_left u (parts e) (parts_of_row es) fit) (referred_left (sites_in u e) (sites_in_row u es) refer) (same_type _ Integer b.0),
+            integers how of es (right_right u (uses_in how e) (uses_in_row how es) h) (fit_right u (parts e) (parts_of_row es) fit) (referred_right (sites_in u e) (sites_in_row u es) refer) b.1,
+          )
 
       pub actuals : (how : Use) → IsOfData u how → {m : Count} (args : Row_of-Expr m) → AreRight u (uses_in_row how args) → AreFit u (parts_of_row args) → AreReferred u IsReference (sites_in_row u args)
           → AreActual u IsReference args
       actuals how of end_of-Expr h fit refer = tt
-      actuals how of (more_of-Expr e es) h fit refer =
-          (is_actual how of e (right_left u (uses_in how e) (uses_in_row how es) h)
-          (λ q r t. typed read (reads_scalars u) q e r (fit_left u (parts e) (parts_of_row es) fit) (referred_left (sites_in u e) (sites_in_row u es) refer) t),
-          actuals how of es (right_right u (uses_in how e) (uses_in_row how es) h) (fit_right u (parts e) (parts_of_row es) fit) (referred_right (sites_in u e) (sites_in_row u es) refer))
+      actuals how of (more_of-Expr e es) h fit refer = (
+        is_actual how of e (right_left u (uses_in how e) (uses_in_row how es) h)
+            (λ q r t. typed read (reads_scalars u) q e r (fit_left u (parts e) (parts_of_row es) fit) (referred_left (sites_in u e) (sites_in_row u es) refer) t),
+        actuals how of es (right_right u (uses_in how e) (uses_in_row how es) h) (fit_right u (parts e) (parts_of_row es) fit) (referred_right (sites_in u e) (sites_in_row u es) refer),
+      )

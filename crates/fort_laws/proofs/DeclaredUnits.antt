@@ -1,6 +1,5 @@
 -- The names of a well-formed unit: their roles, dimensions and types.
-use Rattle.std.proofs.Common.{◌≡◌, ◌≤◌, ℕ, zero, suc, Bool, true, false, cond, not, ◌&&◌, ◌||◌, pos, List, [], ◌∷◌, ◌++◌, map, flat_map, length, Option, Some, None, is_some, slice_get, nat_lt, refl, sym, ap, ◌∙◌, subst, arith, rules}
-use Rattle.std.specs.Prelude.{◌==◌}
+use Rattle.std.proofs.Common.{◌≡◌, ◌≤◌, ℕ, zero, suc, Bool, true, false, cond, not, ◌&&◌, ◌||◌, pos, List, [], ◌∷◌, ◌++◌, map, flat_map, length, Some, is_some, nat_lt, refl, sym, ap, ◌∙◌, subst, arith, rules}
 use Rattle.std.specs.List.{list_any, list_all}
 use Rattle.fort_syntax.specs.NameRules.{is_zero_dim, is_bad_shape, most_dims, fixed_size}
 use Rattle.fort_syntax.specs.Scopes.{is_among, has_twin, same_sort, same_option, is_given_dims, is_array, is_integer, is_integer_scalar}
@@ -26,7 +25,7 @@ use Rattle.fort_model.specs.Storage.{Storage, Environment}
 use Rattle.fort_laws.specs.GoodDecks.{BlocksHoldCommons, DimensionsAreScalars}
 use Rattle.fort_laws.specs.GoodStatements.{DimsAreScalars}
 use Rattle.fort_laws.specs.Typed.{IsScalar, AreDims}
-use Rattle.fort_laws.proofs.DeclaredNames.{IsNamed, named, named_among, among_named, names_in, has_own_name, one_data_name, data_among, among_joined_left, among_joined_right, no_twin_left, no_twin_apart}
+use Rattle.fort_laws.proofs.DeclaredNames.{IsNamed, named, named_among, among_named, names_in, has_own_name, data_among, among_joined_left, among_joined_right, no_twin_apart}
 use Rattle.fort_laws.proofs.FrameSeats.{clash}
 use Rattle.fort_laws.proofs.Near.{known}
 use Rattle.fort_laws.proofs.Tests.{both, neither, is_false, all_among, none_among, among_given}
@@ -183,7 +182,7 @@ module _ (dialect : Dialect) (u : Routine) (w : IsWellFormedUnit dialect u) wher
       → (is_bad_shape dialect d.dims ≡ false) × (list_all (λ x. same_role d.role Dummy && is_among x u.dummies && is_integer_scalar (scope_of_unit u) x) (names_in_dims d.dims) ≡ true)
   right_dims d m =
       let b = both (not (is_bad_shape dialect d.dims)) (list_all (λ x. same_role d.role Dummy && is_among x u.dummies && is_integer_scalar (scope_of_unit u) x) (names_in_dims d.dims))
-          (all_among (has_right_dims dialect u) u.names d w.dimensions m) in
+      (all_among (has_right_dims dialect u) u.names d w.dimensions m) in
       (is_false (is_bad_shape dialect d.dims) b.0, b.1)
 
   pub constant_dim : (d : DataName) (n : ℕ) → IsAmong d u.names → IsAmong (Fixed n) d.dims → 1 ≤ n

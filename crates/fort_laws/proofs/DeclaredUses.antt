@@ -1,13 +1,12 @@
 -- The statements of a well-formed unit: their forms, and that the names that they set or pass are data names.
-use Rattle.std.proofs.Common.{◌≡◌, ℕ, zero, suc, ◌⊎◌, inl, inr, Bool, true, false, not, ◌&&◌, ◌||◌, List, [], ◌∷◌, ◌++◌, flat_map, length, Some, slice_get, refl, sym, ap, ◌∙◌, subst}
-use Rattle.std.specs.List.{list_all}
+use Rattle.std.proofs.Common.{◌≡◌, ℕ, zero, suc, ◌⊎◌, inl, inr, true, false, not, ◌&&◌, List, [], ◌∷◌, ◌++◌, flat_map, length, Some, slice_get, refl, sym, ap, ◌∙◌, subst}
 use mathlib.Core.Former.{Count}
-use Rattle.fort_syntax.specs.Scopes.{is_among, is_given_dims, is_array}
+use Rattle.fort_syntax.specs.Scopes.{is_among}
 use Rattle.fort_syntax.specs.TypeRules.{is_well_typed}
 use Rattle.fort_syntax.specs.Units.{class_of, is_performing}
 use Rattle.fort_syntax.specs.UseRules.{is_misused}
 use Rattle.fort_syntax.specs.Uses.{Use, Occurrence, occurrence, read, assigned, assigned_element, counted, argument_of, actual, called, uses_in, uses_in_row, uses_on_left, uses_of}
-use Rattle.fort_syntax.specs.WellFormed.{IsWellFormedUnit, names_of_unit, dims_among, scope_of_unit, is_known, is_left_side, may_be_carried, has_right_uses, has_right_form, is_right_statement}
+use Rattle.fort_syntax.specs.WellFormed.{IsWellFormedUnit, names_of_unit, scope_of_unit, is_known, is_left_side, may_be_carried, has_right_form, is_right_statement}
 use Rattle.fort_syntax.specs.declared.dialect.Dialect.{Dialect}
 use Rattle.fort_syntax.specs.declared.expr.Expr.{Expr, Row_of-Expr, end_of-Expr, more_of-Expr}
 use Rattle.fort_syntax.specs.declared.expr.Expr.TheVariants.{Const, Truth, Var, Apply', Paren', Pos', Neg', Power', Bin', Rel', Not', And', Or'}

@@ -1,20 +1,19 @@
 -- Statements of a well-formed unit are good: they have the types that their places demand, and write only what may be written.
-use Rattle.std.proofs.Common.{◌≡◌, ◌≢◌, ℕ, zero, suc, Bool, true, false, cond, not, ◌&&◌, ◌||◌, List, [], ◌∷◌, ◌++◌, flat_map, length, Option, Some, None, is_some, slice_get, nat_lt, refl, sym, ap, ◌∙◌, subst}
+use Rattle.std.proofs.Common.{◌≡◌, ℕ, suc, Bool, true, false, cond, not, ◌&&◌, ◌||◌, List, [], ◌∷◌, ◌++◌, flat_map, length, Option, Some, None, is_some, slice_get, nat_lt, refl, sym, ap, ◌∙◌, subst}
 use Rattle.std.specs.Prelude.{◌==◌}
 use Rattle.std.specs.List.{list_any, list_all}
 use Rattle.std.specs.Cmp.Lexicographic.{same_text}
-use mathlib.Core.Former.{Count}
-use Rattle.fort_syntax.specs.Scopes.{is_among, is_given_dims, is_array, is_intrinsic, is_integer_scalar, same_option}
+use Rattle.fort_syntax.specs.Scopes.{Scope, is_among, is_given_dims, is_array, is_intrinsic, is_integer_scalar, same_option}
 use Rattle.fort_syntax.specs.TreePatterns as syntax
-use Rattle.fort_syntax.specs.TypeRules.{type_of, gives_integer, gives_logical, is_fit_param, is_fit_step, has_fit_places, has_fit_operands}
+use Rattle.fort_syntax.specs.TypeRules.{type_of, gives_logical, is_fit_param, is_fit_step, has_fit_places, has_fit_operands}
 use Rattle.fort_syntax.specs.Units.{class_of, is_performing}
 use Rattle.fort_syntax.specs.UseRules.{is_misused, is_assigned}
-use Rattle.fort_syntax.specs.Uses.{Use, Occurrence, occurrence, read, assigned, assigned_element, counted, applied as before_bracket, argument_of, actual, called, uses_in, uses_in_row, uses_on_left, uses_of_param, uses_of_step, uses_of, parts, parts_of_row, all_parts}
+use Rattle.fort_syntax.specs.Uses.{Use, occurrence, read, assigned, assigned_element, counted, applied as before_bracket, argument_of, actual, called, uses_in, uses_in_row, uses_on_left, uses_of_param, uses_of_step, uses_of, parts, parts_of_row, all_parts}
 use Rattle.fort_syntax.specs.WellFormed.{IsWellFormedUnit, names_of_unit, dims_among, scope_of_unit, is_known, is_left_side, is_given, may_be_carried, has_right_form}
 use Rattle.fort_syntax.specs.declared.dialect.Dialect.{Dialect}
 use Rattle.fort_syntax.specs.declared.dialect.Sort.{Sort}
 use Rattle.fort_syntax.specs.declared.dialect.Sort.TheVariants.{Integer, Logical}
-use Rattle.fort_syntax.specs.declared.expr.Expr.{Expr, Row_of-Expr, end_of-Expr, more_of-Expr}
+use Rattle.fort_syntax.specs.declared.expr.Expr.{Expr}
 use Rattle.fort_syntax.specs.declared.expr.Expr.TheVariants.{Const, Truth, Var, Apply', Paren', Pos', Neg', Power', Bin', Rel', Not', And', Or'}
 use Rattle.fort_syntax.specs.declared.name.Name.{Name}
 use Rattle.fort_syntax.specs.declared.rule.Rule.TheVariants.{DimensionSmashed}
@@ -29,27 +28,27 @@ use Rattle.fort_syntax.specs.declared.unit.Line.{Line}
 use Rattle.fort_syntax.specs.declared.unit.Unit.{Unit as Routine}
 use Rattle.fort_model.specs.Calls.{CallSite, own_site, listed, sites_in, sites_in_row, sites_of}
 use Rattle.fort_model.specs.Fits.{IsIn}
-use Rattle.fort_model.specs.Flow.{target, Loop, loop_of, loops_from, loops_at, around, loops_around}
+use Rattle.fort_model.specs.Flow.{target, Loop, loop_of, loops_from, loops_at, around}
 use Rattle.fort_model.specs.Lists.{IsAmong}
-use Rattle.fort_model.specs.Names.{intrinsic, applied, applied_by, Element, dims_of, is_function, same_name}
+use Rattle.fort_model.specs.Names.{intrinsic, applied, applied_by, dims_of, is_function, same_name}
 use Rattle.fort_model.specs.Program.{Program, is_smashed}
 use Rattle.fort_model.specs.Rules.{dim_smashed}
 use Rattle.fort_model.specs.Smashes.{Smashes, sets, HoldsSmashed, set_name, set_by}
 use Rattle.fort_model.specs.Storage.{Environment}
-use Rattle.fort_model.specs.Trees.{only, carried, row_of}
+use Rattle.fort_model.specs.Trees.{carried, row_of}
 use Rattle.fort_model.specs.Walk.{is_dim, is_some_dim}
 use Rattle.fort_laws.specs.GoodDecks.{KeepsRule, AreReferred, AreCalled, LieApart, StatementsAreGood}
-use Rattle.fort_laws.specs.GoodStatements.{DimsAreOther, MayBeWritten, IsParameter, IsStep, IsGoodLoop, AreGoodLoops, IsGoodElement, IsLeft, HasLabels, HasResult, HasGoodLoops, IsGood}
-use Rattle.fort_laws.specs.Typed.{row_length, IsScalar, IsTyped, AreInteger, AreActual}
+use Rattle.fort_laws.specs.GoodStatements.{DimsAreOther, MayBeWritten, IsParameter, IsStep, AreGoodLoops, IsGoodElement, IsLeft, HasLabels, HasResult, IsGood}
+use Rattle.fort_laws.specs.Typed.{IsScalar, IsTyped, AreInteger}
 use Rattle.fort_laws.specs.Ways.{IsExecutable}
 use Rattle.fort_laws.proofs.DeclaredNames.{IsNamed, same_dims_told, named_data, data_among, found_named}
 use Rattle.fort_laws.proofs.DeclaredTypes as types
 use Rattle.fort_laws.proofs.DeclaredTypes.{AreFit, fit_left, fit_right}
 use Rattle.fort_laws.proofs.DeclaredUnits as unit
-use Rattle.fort_laws.proofs.DeclaredUses.{AreRight, right_left, right_right, right_behind, right_first, IsRightLine, right_line, row_uses, set_data}
+use Rattle.fort_laws.proofs.DeclaredUses.{AreRight, right_left, right_right, right_behind, right_first, IsRightLine, right_line, row_uses}
 use Rattle.fort_laws.proofs.FrameSeats.{clash, same_is}
-use Rattle.fort_laws.proofs.Kept.{among_left, among_right}
-use Rattle.fort_laws.proofs.Tests.{both, one_fails, one_holds, is_false, not_true, not_not, all_among, none_among, some_among, some_passes, among_given}
+use Rattle.fort_laws.proofs.Kept.{among_right}
+use Rattle.fort_laws.proofs.Tests.{both, one_fails, one_holds, not_true, not_not, all_among, none_among, some_among, some_passes, among_given}
 
 -- ---- forms
 
@@ -103,6 +102,9 @@ row_parts (e ∷ es) = ap (λ xs. parts e ++ xs) (row_parts es)
 
 module _ (dialect : Dialect) (p : Program) (i : ℕ) (u : Routine) (is : slice_get p.units i ≡ Some u) (w : IsWellFormedUnit dialect u)
     (keeps : KeepsRule p DimensionSmashed) (table : HoldsSmashed p) (env : Environment) (apart : LieApart p.units i u env) where
+  abbrev scope : Scope
+  scope = scope_of_unit u
+
   -- ---- what may be written
 
   no_dim_smashed : dim_smashed p i u ≡ false
@@ -152,20 +154,20 @@ module _ (dialect : Dialect) (p : Program) (i : ℕ) (u : Routine) (is : slice_g
     pub performs : is_performing (class_of s) ≡ true
     pub form : has_right_form s ≡ true
     pub uses : AreRight u (uses_of s)
-    pub places : has_fit_places (scope_of_unit u) s ≡ true
+    pub places : has_fit_places scope s ≡ true
     pub operands : AreFit u (all_parts s)
     pub smashed : (x : Name) → IsAmong x (set_by s) → Smashes p.units i x
 
   fit_line : (line : Line) → IsAmong line u.lines → IsFitLine line.stmt
   fit_line line m =
       let r : IsRightLine u line.stmt = right_line dialect u w line m in
-      let typed = both (has_fit_places (scope_of_unit u) line.stmt) (list_all (has_fit_operands (scope_of_unit u)) (all_parts line.stmt)) r.typed in
+      let typed = both (has_fit_places scope line.stmt) (list_all (has_fit_operands scope) (all_parts line.stmt)) r.typed in
       record {
         performs = r.performs;
         form = r.form;
         uses = r.uses;
         places = typed.0;
-        operands = λ e k. all_among (has_fit_operands (scope_of_unit u)) (all_parts line.stmt) e typed.1 k;
+        operands = λ e k. all_among (has_fit_operands scope) (all_parts line.stmt) e typed.1 k;
         smashed = λ x k. sets u line is m k;
       }
 
@@ -177,18 +179,18 @@ module _ (dialect : Dialect) (p : Program) (i : ℕ) (u : Routine) (is : slice_g
         performs = carried_performs s form.0;
         form = form.1;
         uses = right_right u (uses_in read e) (uses_of s) h.uses;
-        places = (both (gives_logical (scope_of_unit u) e) (has_fit_places (scope_of_unit u) s) h.places).1;
+        places = (both (gives_logical scope e) (has_fit_places scope s) h.places).1;
         operands = fit_right u (parts e) (all_parts s) h.operands;
         smashed = h.smashed;
       }
 
   -- ---- DOs
 
-  parameter : (m : Param) → AreRight u (uses_of_param m) → is_fit_param (scope_of_unit u) m ≡ true → IsParameter u m
+  parameter : (m : Param) → AreRight u (uses_of_param m) → is_fit_param scope m ≡ true → IsParameter u m
   parameter (param.Fixed n) h t = tt
   parameter (param.Named x) h t = unit.integer_scalar dialect u w x (right_first u x read [] h).0 t
 
-  step_parameter : (o : Option Param) → AreRight u (uses_of_step o) → is_fit_step (scope_of_unit u) o ≡ true → IsStep u o
+  step_parameter : (o : Option Param) → AreRight u (uses_of_step o) → is_fit_step scope o ≡ true → IsStep u o
   step_parameter None h t = tt
   step_parameter (Some m) h t = parameter m h t
 
@@ -205,9 +207,9 @@ module _ (dialect : Dialect) (p : Program) (i : ℕ) (u : Routine) (is : slice_g
       let data_is = (right_first u x counted (uses_of_param first ++ uses_of_param last ++ uses_of_step step) h.uses).0 in
       let behind = right_behind u (occurrence x counted) (uses_of_param first ++ uses_of_param last ++ uses_of_step step) h.uses in
       let two = right_left u (uses_of_param first ++ uses_of_param last) (uses_of_step step) behind in
-      let three = both _ (is_fit_step (scope_of_unit u) step) h.places in
-      let both_params = both _ (is_fit_param (scope_of_unit u) last) three.0 in
-      let own = both (is_integer_scalar (scope_of_unit u) x) (is_fit_param (scope_of_unit u) first) both_params.0 in
+      let three = both _ (is_fit_step scope step) h.places in
+      let both_params = both _ (is_fit_param scope last) three.0 in
+      let own = both (is_integer_scalar scope x) (is_fit_param scope first) both_params.0 in
       record {
         variable = unit.integer_scalar dialect u w x data_is own.0;
         writes = may x data_is (h.smashed x (0, refl));
@@ -261,8 +263,8 @@ module _ (dialect : Dialect) (p : Program) (i : ℕ) (u : Routine) (is : slice_g
 
   -- ---- the value of a FUNCTION
 
-  assigned_scalar : (x : Name) (how : Use) → is_assigned how ≡ true → (is_known u x how ≡ true) × (is_misused (scope_of_unit u) x how ≡ false)
-      → (is_among x (names_of_unit u) ≡ true) × (is_array (scope_of_unit u) x ≡ false)
+  assigned_scalar : (x : Name) (how : Use) → is_assigned how ≡ true → (is_known u x how ≡ true) × (is_misused scope x how ≡ false)
+      → (is_among x (names_of_unit u) ≡ true) × (is_array scope x ≡ false)
   assigned_scalar x assigned h r = r
   assigned_scalar x read h r = absurd (cc)
   assigned_scalar x (assigned_element n) h r = absurd (cc)
@@ -272,7 +274,7 @@ module _ (dialect : Dialect) (p : Program) (i : ℕ) (u : Routine) (is : slice_g
   assigned_scalar x actual h r = absurd (cc)
   assigned_scalar x called h r = absurd (cc)
 
-  scalar_by_name : (x : Name) → (is_among x (names_of_unit u) ≡ true) × (is_array (scope_of_unit u) x ≡ false) → (q : Sort) × IsScalar u q x
+  scalar_by_name : (x : Name) → (is_among x (names_of_unit u) ≡ true) × (is_array scope x ≡ false) → (q : Sort) × IsScalar u q x
   scalar_by_name x h = let d : IsNamed u.names x = unit.has_data dialect u w x h.0 in (d.its.sort, types.scalar_of dialect u w d.its.sort x h.0 h.1 (d.sort u.functions))
 
   module _ (IsReference : Sort → Name → Type 0) (IsCall : Name → List Expr → Type 0) where
@@ -292,7 +294,7 @@ module _ (dialect : Dialect) (p : Program) (i : ℕ) (u : Routine) (is : slice_g
 
     -- the left side of an assignment has a type, and may be written
     abbrev IsFitLeft : Expr → Type 0
-    IsFitLeft e = (q : Sort) × (type_of (scope_of_unit u) e ≡ Some q) × IsLeft u env IsReference IsCall q e
+    IsFitLeft e = (q : Sort) × (type_of scope e ≡ Some q) × IsLeft u env IsReference IsCall q e
 
     left_name : (x : Name) → AreRight u (uses_on_left (Var x)) → Smashes p.units i x → IsFitLeft (Var x)
     left_name x h s =
@@ -315,7 +317,7 @@ module _ (dialect : Dialect) (p : Program) (i : ℕ) (u : Routine) (is : slice_g
     left_side (Or' q a r b) t h fit refer s = absurd (cc)
     left_side (Apply' f shape args) t h fit refer s = (d.its.sort, type_is, element (dims_among u.names f) refl)
       where
-        r : (is_array (scope_of_unit u) f ≡ true) × (not (is_array (scope_of_unit u) f && (length (syntax.listed args) == length (dims_among u.names f))) ≡ false)
+        r : (is_array scope f ≡ true) × (not (is_array scope f && (length (syntax.listed args) == length (dims_among u.names f))) ≡ false)
         r = right_first u f (assigned_element (length (syntax.listed args))) (uses_in_row read args) h
 
         data_is : is_among f (names_of_unit u) ≡ true
@@ -324,24 +326,20 @@ module _ (dialect : Dialect) (p : Program) (i : ℕ) (u : Routine) (is : slice_g
         d : IsNamed u.names f
         d = unit.has_data dialect u w f data_is
 
-        type_is : type_of (scope_of_unit u) (Apply' f shape args) ≡ Some d.its.sort
+        type_is : type_of scope (Apply' f shape args) ≡ Some d.its.sort
         type_is = types.array_sort dialect u w f r.0 ∙ d.sort u.functions
 
         many : length (syntax.listed args) ≡ length (dims_among u.names f)
-        many = types.same_number _ _ (both (is_array (scope_of_unit u) f) (length (syntax.listed args) == length (dims_among u.names f)) (not_not _ r.1)).1
-
-        all_integers : list_all (gives_integer (scope_of_unit u)) (syntax.listed args) ≡ true
-        all_integers =
-            one_holds (not (is_array (scope_of_unit u) f || is_intrinsic (scope_of_unit u) f)) (list_all (gives_integer (scope_of_unit u)) (syntax.listed args)) (fit (Apply' f shape args) (0, refl))
-            (ap (λ b. not (b || is_intrinsic (scope_of_unit u) f)) r.0)
+        many = types.same_number _ _ (both (is_array scope f) (length (syntax.listed args) == length (dims_among u.names f)) (not_not _ r.1)).1
 
         subscripts : AreInteger u IsReference args
         subscripts =
             types.integers dialect u w IsReference read (types.reads_scalars u) args (right_behind u _ (uses_in_row read args) h) (types.fit_behind u (Apply' f shape args) (parts_of_row args) fit)
-            (types.referred_right dialect u w IsReference (own_site (applied u f) f (listed args)) (sites_in_row u args) refer) all_integers
+            (types.referred_right dialect u w IsReference (own_site (applied u f) f (listed args)) (sites_in_row u args) refer)
+            (types.integers_demanded dialect u w f (syntax.listed args) (fit (Apply' f shape args) (0, refl)) (ap (λ b. b || is_intrinsic scope f) r.0))
 
         element : (ds : List Dim) → dims_among u.names f ≡ ds → IsGoodElement u env IsReference IsCall d.its.sort f args
-        element [] e = absurd (clash (is_array (scope_of_unit u) f) r.0 (ap is_given_dims e))
+        element [] e = absurd (clash (is_array scope f) r.0 (ap is_given_dims e))
         element (b ∷ bs) e =
             let dims_are : dims_of u f ≡ b ∷ bs = same_dims_told u.names f ∙ e in
             record {
@@ -361,13 +359,13 @@ module _ (dialect : Dialect) (p : Program) (i : ℕ) (u : Routine) (is : slice_g
     called_right xs ys h site m = h site (among_right site xs ys m)
 
     -- the only expression of a statement
-    one_typed : (q : Sort) (e : Expr) → AreRight u (uses_in read e) → AreFit u (parts e ++ []) → AreReferred u IsReference (sites_in u e) → same_option (type_of (scope_of_unit u) e) (Some q) ≡ true → IsTyped u IsReference q e
+    one_typed : (q : Sort) (e : Expr) → AreRight u (uses_in read e) → AreFit u (parts e ++ []) → AreReferred u IsReference (sites_in u e) → same_option (type_of scope e) (Some q) ≡ true → IsTyped u IsReference q e
     one_typed q e h fit refer t = types.typed dialect u w IsReference read (types.reads_scalars u) q e h (fit_left u (parts e) [] fit) refer (types.same_type _ q t)
 
     good_assignment : (pc : ℕ) (left right : Expr) → IsFitLine (Assign left right) → AreReferred u IsReference (sites_of u (Assign left right)) → IsGood u env IsReference IsCall pc (Assign left right)
     good_assignment pc left right h refer = (l.0, l.2, right_typed, good_loops pc)
       where
-        l : (q : Sort) × (type_of (scope_of_unit u) left ≡ Some q) × IsLeft u env IsReference IsCall q left
+        l : (q : Sort) × (type_of scope left ≡ Some q) × IsLeft u env IsReference IsCall q left
         l = left_side left h.form (right_left u (uses_on_left left) (uses_in read right) h.uses) (fit_left u (parts left) (parts right ++ []) h.operands)
             (types.referred_left dialect u w IsReference (sites_in u left) (sites_in u right) refer) h.smashed
 
@@ -375,17 +373,18 @@ module _ (dialect : Dialect) (p : Program) (i : ℕ) (u : Routine) (is : slice_g
         right_typed =
             types.typed dialect u w IsReference read (types.reads_scalars u) l.0 right (right_right u (uses_on_left left) (uses_in read right) h.uses)
             (fit_left u (parts right) [] (fit_right u (parts left) (parts right ++ []) h.operands)) (types.referred_right dialect u w IsReference (sites_in u left) (sites_in u right) refer)
-            (types.same_type_as l.0 _ (ap (λ o. same_option o (type_of (scope_of_unit u) right)) (sym l.1) ∙ h.places))
+            (types.same_type_as l.0 _ (ap (λ o. same_option o (type_of scope right)) (sym l.1) ∙ h.places))
 
     good_call : (pc : ℕ) (g : Name) (args : List Expr) → IsFitLine (Call g args) → AreReferred u IsReference (sites_of u (Call g args)) → AreCalled IsCall (sites_of u (Call g args))
         → IsGood u env IsReference IsCall pc (Call g args)
-    good_call pc g args h refer calls =
-        (calls (record { reference = false; callee = g; actuals = args }) (0, refl) refl,
-        types.actuals dialect u w IsReference actual (λ x k. k) (row_of args)
-        (subst (AreRight u) (sym (row_uses actual args)) (right_behind u (occurrence g called) (flat_map (uses_in actual) args) h.uses))
-        (subst (AreFit u) (sym (row_parts args)) h.operands)
-        (types.referred_right dialect u w IsReference (record { reference = false; callee = g; actuals = args } ∷ []) (sites_in_row u (row_of args)) refer),
-        good_loops pc)
+    good_call pc g args h refer calls = (
+      calls (record { reference = false; callee = g; actuals = args }) (0, refl) refl,
+      types.actuals dialect u w IsReference actual (λ x k. k) (row_of args)
+          (subst (AreRight u) (sym (row_uses actual args)) (right_behind u (occurrence g called) (flat_map (uses_in actual) args) h.uses))
+          (subst (AreFit u) (sym (row_parts args)) h.operands)
+          (types.referred_right dialect u w IsReference (record { reference = false; callee = g; actuals = args } ∷ []) (sites_in_row u (row_of args)) refer),
+      good_loops pc,
+    )
 
     has_labels : (ls : List ℕ) → is_given ls ≡ true → HasLabels u env IsReference IsCall ls
     has_labels [] h = absurd (cc)
@@ -397,11 +396,13 @@ module _ (dialect : Dialect) (p : Program) (i : ℕ) (u : Routine) (is : slice_g
     good pc (Computed ls x) h refer calls = (unit.integer_scalar dialect u w x (right_first u x read [] h.uses).0 h.places, has_labels ls h.form, good_loops pc)
     good pc (ArithIf e l m n) h refer calls = one_typed Integer e h.uses h.operands refer h.places
     good pc (LogicalIf' e shape (carried b)) h refer calls =
-        let inner : IsFitLine b = fit_carried e b h in
-        (types.typed dialect u w IsReference read (types.reads_scalars u) Logical e (right_left u (uses_in read e) (uses_of b) h.uses) (fit_left u (parts e) (all_parts b) h.operands)
-        (types.referred_left dialect u w IsReference (sites_in u e) (sites_of u b) refer) (types.same_type _ Logical (both (gives_logical (scope_of_unit u) e) (has_fit_places (scope_of_unit u) b) h.places).0),
-        good_loops pc, executable b inner.performs inner.form,
-        good pc b inner (types.referred_right dialect u w IsReference (sites_in u e) (sites_of u b) refer) (called_right (sites_in u e) (sites_of u b) calls))
+        let inner : IsFitLine b = fit_carried e b h in (
+          types.typed dialect u w IsReference read (types.reads_scalars u) Logical e (right_left u (uses_in read e) (uses_of b) h.uses) (fit_left u (parts e) (all_parts b) h.operands)
+              (types.referred_left dialect u w IsReference (sites_in u e) (sites_of u b) refer) (types.same_type _ Logical (both (gives_logical scope e) (has_fit_places scope b) h.places).0),
+          good_loops pc,
+          executable b inner.performs inner.form,
+          good pc b inner (types.referred_right dialect u w IsReference (sites_in u e) (sites_of u b) refer) (called_right (sites_in u e) (sites_of u b) calls),
+        )
     good pc (Do label x first last step) h refer calls =
         let d = fit_do label x first last step h in
         (d.variable, d.writes, d.begins, d.ends, d.steps, some_good pc (loops_at u (target u.lines label)) (good_loops (target u.lines label)))
@@ -419,7 +420,14 @@ module _ (dialect : Dialect) (p : Program) (i : ℕ) (u : Routine) (is : slice_g
     good pc (Common groups) h refer calls = let bad : false ≡ true = h.performs in absurd (cc)
     good pc End h refer calls = let bad : false ≡ true = h.performs in absurd (cc)
 
+-- the law for any kinds of references and CALLs
+module _ (dialect : Dialect) (p : Program) (i : ℕ) (u : Routine) (is : slice_get p.units i ≡ Some u) (w : IsWellFormedUnit dialect u)
+    (keeps : KeepsRule p DimensionSmashed) (table : HoldsSmashed p) (env : Environment) (apart : LieApart p.units i u env) where
+  pub line_is_good : (IsReference : Sort → Name → Type 0) (IsCall : Name → List Expr → Type 0) (pc : ℕ) (line : Line) → slice_get u.lines pc ≡ Some line
+      → AreReferred u IsReference (sites_of u line.stmt) → AreCalled IsCall (sites_of u line.stmt) → IsGood u env IsReference IsCall pc line.stmt
+  line_is_good IsReference IsCall pc line at refer calls =
+      good dialect p i u is w keeps table env apart IsReference IsCall pc line.stmt (fit_line dialect p i u is w keeps table env apart line (pc, at)) refer calls
+
 pub statements_are_good : StatementsAreGood
-statements_are_good dialect p i u is w keeps table env apart is_reference is_call pc line at refer calls =
-    good dialect p i u is w keeps table env apart (λ q a. is_reference q a ≡ true) (λ g args. is_call g args ≡ true) pc line.stmt
-    (fit_line dialect p i u is w keeps table env apart line (pc, at)) refer calls
+statements_are_good dialect p i u is w keeps table env apart is_reference is_call =
+    line_is_good dialect p i u is w keeps table env apart (λ q a. is_reference q a ≡ true) (λ g args. is_call g args ≡ true)

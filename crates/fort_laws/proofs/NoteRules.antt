@@ -6,9 +6,9 @@ use Rattle.fort_syntax.specs.declared.rule.Rule.TheVariants.{UncutCycle, ClockLe
 use Rattle.fort_syntax.specs.declared.unit.Line.{Line}
 use Rattle.fort_syntax.specs.declared.unit.Unit.{Unit as Routine}
 use Rattle.fort_model.specs.Lists.{IsAmong}
-use Rattle.fort_model.specs.Paths.{AtAssert, cut_in, cut_at, Edge, Uncut, one, more}
-use Rattle.fort_model.specs.Program.{Program, Assertion, Notes, notes_of, assertion_in, assertion_at}
-use Rattle.fort_model.specs.Rules.{KeepsRules, is_bad_clock, bad_clocks, all_clocks}
+use Rattle.fort_model.specs.Paths.{AtAssert, cut_in, Uncut, one, more}
+use Rattle.fort_model.specs.Program.{Assertion, Notes, notes_of, assertion_in, assertion_at}
+use Rattle.fort_model.specs.Rules.{is_bad_clock, bad_clocks, all_clocks}
 use Rattle.fort_laws.specs.GoodDecks.{HaveEqualClocks, ClocksAreEqual, UnitsAreCutUp}
 use Rattle.fort_laws.proofs.Tests.{neither, not_true, not_not}
 
