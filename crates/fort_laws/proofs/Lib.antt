@@ -1,6 +1,8 @@
 pub mod BothParts
 pub mod BothSenses
 pub mod BothWalks
+pub mod CallEntry
+pub mod CallNames
 pub mod Descents
 pub mod Exact
 pub mod Falling

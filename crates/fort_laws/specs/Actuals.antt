@@ -69,10 +69,9 @@ HoldsSort p st q (Fresh c) = has_sort p q c ≡ true
 
 -- on a walk a bare name is an operand that is one, and no other expression is
 abbrev pub IsOperandOf : Named Value → Expr → Operand Value → Type 0
-IsOperandOf now (Var x) o = o ≡ Bare x (now x)
-IsOperandOf now e (Bare x v) = ⊥
-IsOperandOf now e (Part v) = Unit {0}
-IsOperandOf now e (Computed v) = Unit {0}
+IsOperandOf now e (Bare x v) = (e ≡ Var x) × (v ≡ now x)
+IsOperandOf now e (Part v) = (x : Name) → e ≡ Var x → ⊥
+IsOperandOf now e (Computed v) = (x : Name) → e ≡ Var x → ⊥
 
 module _ (s : Scene) (st : Storage) (now : Named Value) where
   -- an actual, its operand on a walk, and what a run takes for it
