@@ -22,7 +22,7 @@ use Rattle.fort_laws.proofs.FrameSeats.{old_cells, at_fit, inner, begun, long, s
 use Rattle.fort_laws.proofs.StorageLaws.{width, widths, widths_apart, length-new_cells, copy_holds, at_passed, length-written_back, load-written_back, copies_hold}
 use Rattle.fort_laws.proofs.Tied.{at_most_or}
 
-copy_of : (t : Bool) (x : Taken) (e : Extent) → passed_by t x ≡ ByCopy e → x ≡ Cells e
+pub copy_of : (t : Bool) (x : Taken) (e : Extent) → passed_by t x ≡ ByCopy e → x ≡ Cells e
 copy_of true (Cells f) e h = cc
 copy_of false (Cells f) e h = absurd (cc)
 copy_of true (Fresh v) e h = absurd (cc)

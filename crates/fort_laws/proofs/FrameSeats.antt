@@ -360,7 +360,7 @@ module _ (units : List Routine) (i j : ℕ) (c : Calls units i j) (of_caller : I
       let has : HasName c.caller b.0 = of_call.names s.at b.0 is_actual in
       record { name = b.0; is = b.1; has = has; smashed = subst (λ (z : Name). Smashes units i z) (sym has.name) (passes c s.at s.dummy is_actual h) }
 
-  bare_cells : (d : Name) (s : Seated d) (b : Bare d s) (e : Extent) → s.taken ≡ Cells e → e ≡ env b.has.its.name
+  pub bare_cells : (d : Name) (s : Seated d) (b : Bare d s) (e : Extent) → s.taken ≡ Cells e → e ≡ env b.has.its.name
   bare_cells d s b e q =
       let f : IsTakenAs env (IsPart c.caller env) (Var b.name) (Cells e) =
       subst (λ (z : Expr). IsTakenAs env (IsPart c.caller env) z (Cells e)) b.is (subst (λ (z : Taken). IsTakenAs env (IsPart c.caller env) s.actual z) q s.fits) in
@@ -375,7 +375,7 @@ module _ (units : List Routine) (i j : ℕ) (c : Calls units i j) (of_caller : I
       let b : Bare d s = bare d s h in
       record { its = b.has.its; among = b.has.among; smashed = b.smashed; cell = subst (λ (z : Extent). IsIn k z) (bare_cells d s b e q) inside }
 
-  shared_smashed : (d : DataName) → IsAmong d c.callee.names → d.role ≡ InCommon → (s : Shared d) → Smashes units j d.name → Smashes units i s.its.name
+  pub shared_smashed : (d : DataName) → IsAmong d c.callee.names → d.role ≡ InCommon → (s : Shared d) → Smashes units j d.name → Smashes units i s.its.name
   shared_smashed d m r s h =
       subst (λ (z : Name). Smashes units i z) (sym s.name)
       (shares c (is_common units i c.caller of_caller s.its s.among d.name s.name s.role) (is_common units j c.callee of_callee d m d.name refl r) h)
@@ -406,10 +406,10 @@ module _ (units : List Routine) (i j : ℕ) (c : Calls units i j) (of_caller : I
   pub inside_by : (k : ℕ) (e f : Extent) → e ≡ f → IsIn k e → IsIn k f
   inside_by k e f q h = subst (λ (z : Extent). IsIn k z) q h
 
-  old_inside : (k : ℕ) (actual : Expr) (e : Extent) (o : IsOld c.caller env actual e) → IsIn k e → IsIn k (env o.its.name)
+  pub old_inside : (k : ℕ) (actual : Expr) (e : Extent) (o : IsOld c.caller env actual e) → IsIn k e → IsIn k (env o.its.name)
   old_inside k actual e o h = (let l = o.low in let a = h.0 in omega arith, let l = o.high in let a = h.1 in omega arith)
 
-  shared_inside : (d : DataName) (s : Shared d) (k : ℕ) → IsIn k (inner d.name) → IsIn k (env s.its.name)
+  pub shared_inside : (d : DataName) (s : Shared d) (k : ℕ) → IsIn k (inner d.name) → IsIn k (env s.its.name)
   shared_inside d s k h = subst (λ (z : Name). IsIn k (env z)) (sym s.name) (inside_by k _ _ s.place h)
 
   pub shared_below : (d : DataName) (s : Shared d) (k : ℕ) → IsIn k (inner d.name) → k < length st

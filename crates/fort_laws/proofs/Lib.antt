@@ -1,7 +1,9 @@
 pub mod BothParts
 pub mod BothSenses
 pub mod BothWalks
+pub mod CallBack
 pub mod CallEntry
+pub mod CallHits
 pub mod CallNames
 pub mod Descents
 pub mod Exact
@@ -27,6 +29,7 @@ pub mod PlaceBounds
 pub mod References
 pub mod RulesKept
 pub mod SafeRuns
+pub mod Small
 pub mod Stepping
 pub mod StorageLaws
 pub mod Tied

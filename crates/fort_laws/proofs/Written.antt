@@ -49,7 +49,7 @@ contents_written st c first (suc size) (suc k) h l =
     ∙ ap (λ (x : Cell). x ∷ contents (store st (suc first + k) c) (suc first) size) (load_store_other st (suc first + k) first c (λ e. absurd (omega (arith, e))))
     ∙ ap (λ (xs : List Cell). load st first ∷ xs) (contents_written st c (suc first) size k (omega arith) (omega arith))
 
-equal_or_not : (j k : ℕ) → (j ≡ k) ⊎ (j ≢ k)
+pub equal_or_not : (j k : ℕ) → (j ≡ k) ⊎ (j ≢ k)
 equal_or_not j k = known (eqb j k) (λ e. inl (grind arith)) (λ e. inr (grind arith))
 
 -- ---- names
