@@ -5,6 +5,7 @@ pub mod CallBack
 pub mod CallEntry
 pub mod CallHits
 pub mod CallNames
+pub mod CallSorts
 pub mod Descents
 pub mod Exact
 pub mod Falling
