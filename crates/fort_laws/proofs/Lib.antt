@@ -1,10 +1,12 @@
 pub mod BothParts
 pub mod BothSenses
 pub mod BothWalks
+pub mod CallAfter
 pub mod CallBack
 pub mod CallEntry
 pub mod CallHits
 pub mod CallNames
+pub mod CallPassed
 pub mod CallSorts
 pub mod Descents
 pub mod Exact
