@@ -5,6 +5,7 @@ pub mod CallAfter
 pub mod CallBack
 pub mod CallEntry
 pub mod CallHits
+pub mod CallMatched
 pub mod CallNames
 pub mod CallPassed
 pub mod CallSorts

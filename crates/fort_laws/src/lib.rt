@@ -1,6 +1,7 @@
 //! Laws of runs and walks: what holds of every deck.
 #![tactic(auto)]
 
+mod calls;
 mod clocks;
 mod exactness;
 mod expressions;
@@ -12,6 +13,7 @@ mod steps;
 mod symbols;
 mod ways;
 
+pub use calls::calls_are_matched;
 pub use clocks::clocks_fall_only_so_often;
 pub use exactness::{checks_do_not_depend_on_values, conditions_are_exact};
 pub use expressions::expressions_match;
