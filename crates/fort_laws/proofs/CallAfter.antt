@@ -36,7 +36,7 @@ use Rattle.fort_model.specs.Symbols.{Symbol}
 use Rattle.fort_model.specs.WalkCalls as walk
 use Rattle.fort_model.specs.WalkCalls.{Sight, Operand, Bare, Part, Computed, stands_for, seen_by, hits, smashed_actuals, smashed_commons, stands_after}
 use Rattle.fort_laws.specs.Actuals.{IsPart, AreTakenAs, HoldsSort, IsOperandOf, ArePassed}
-use Rattle.fort_laws.specs.CallLaw.{HasNames, AgreesInSorts, HoldsName}
+use Rattle.fort_laws.specs.CallLaw.{HasNames, Agrees, HoldsName}
 use Rattle.fort_laws.specs.Frame.{IsPlaced, HasName, IsSoundUnit, IsSoundCall, SharesBlocks, IsSmashedCell, OthersKept, DimsAgree}
 use Rattle.fort_laws.specs.GoodStatements.{Stood}
 use Rattle.fort_laws.specs.Standing.{ActualOf}
@@ -73,7 +73,7 @@ alike_back (a ∷ ds) [] h = absurd h
 alike_back (a ∷ ds) (b ∷ bs) h = tt
 
 module _ (program : Program) (i j : ℕ) (c : Calls program.units i j) (of_caller : IsSoundUnit program.units i c.caller) (of_callee : IsSoundUnit program.units j c.callee) (of_call : IsSoundCall c)
-    (table : HoldsSmashed program) (blocks : SharesBlocks program.units) (agree : AgreesInSorts c) (names : HasNames c.callee) (fs : List Function) (values : Symbol → Value) (p : Processor)
+    (table : HoldsSmashed program) (blocks : SharesBlocks program.units) (agree : Agrees c) (names : HasNames c.callee) (fs : List Function) (values : Symbol → Value) (p : Processor)
     (env : Environment) (st : Storage) (now : Named Value) (stood : Stood c.caller env now st) (sorted : (d : DataName) → IsAmong d c.caller.names → HoldsName p env st d) (placed : IsPlaced program.units i c.caller env st)
     (copies : ℕ → Bool) (os : List (Operand Value)) (xs : List Taken)
     (passing : ArePassed (record { processor = p; units = program.units; unit = c.caller; environment = env }) st now c.site.actuals os xs) where
@@ -349,9 +349,9 @@ module _ (program : Program) (i j : ℕ) (c : Calls program.units i j) (of_calle
 
     -- ---- values afterwards
 
-    -- what is answered: what the names hold then
+    -- what is answered: the value of the called unit, and what the names hold then
     abbrev pub new_names : Named Value
-    new_names x = held_in (dims_of c.caller x) left (env x)
+    new_names x = cond (same_name g.name x) (of_cell value) (held_in (dims_of c.caller x) left (env x))
 
     abbrev pub after_names : Named Value
     after_names = walk.changed w hit_names new_names now
@@ -361,9 +361,19 @@ module _ (program : Program) (i j : ℕ) (c : Calls program.units i j) (of_calle
 
     pub left_named : (d : DataName) → IsAmong d c.caller.names → after_names d.name ≡ held_in d.dims left (env d.name)
     left_named d m = known (is_among hit_names d.name)
-        (λ t. ap (λ (b : Bool). cond b (new_names d.name) (now d.name)) t ∙ ap (λ (o : Option DataName). held_in (dims_in o) left (env d.name)) (found program.units i c.caller of_caller d m d.name refl))
+        (λ t. ap (λ (b : Bool). cond b (new_names d.name) (now d.name)) t
+        ∙ (ap (λ (b : Bool). cond b (of_cell value) (held_in (dims_of c.caller d.name) left (env d.name))) (other_name (same_or_not g.name d.name))
+        ∙ ap (λ (o : Option DataName). held_in (dims_in o) left (env d.name)) (found program.units i c.caller of_caller d m d.name refl)))
         (λ f. ap (λ (b : Bool). cond b (new_names d.name) (now d.name)) f
         ∙ (named d m ∙ sym (held_same d.dims d.dims left st (env d.name) (env d.name) (alike_same d.dims d.dims refl) (caller_one d m) (unhit_cells d m (λ h. clash (is_among hit_names d.name) (hit_among d.name h) f)))))
+      where
+        other_name : SameOrNot g.name d.name → same_name g.name d.name ≡ false
+        other_name (same e t) = absurd (agree.apart d m (sym e))
+        other_name (other n t) = t
+
+    -- the value of the called unit is answered for its name
+    pub new_result : new_names g.name ≡ of_cell value
+    new_result = ap (λ (b : Bool). cond b (of_cell value) (held_in (dims_of c.caller g.name) left (env g.name))) (same_self g.name)
 
     unhit_name : (y : Name) → (Hit y → ⊥) → after_names y ≡ now y
     unhit_name y n = known (is_among hit_names y) (λ t. absurd (n (among_hit y t))) (λ f. ap (λ (b : Bool). cond b (new_names y) (now y)) f)
@@ -427,6 +437,6 @@ module _ (program : Program) (i j : ℕ) (c : Calls program.units i j) (of_calle
         unsmashed u = unhit_name d.name (unhit_common d m r u) ∙ (entry_common d m r ∙ kept_held d v u)
 
     -- at the end names stand for what they hold
-    pub after_seen : (x : Name) → seen_by w g (map (stands_after w after_names) os) after_names (of_cell value) x ≡ names_hold g cells_in after value x
-    after_seen = seen_is fs values program i c.caller program.units j g of_callee names (map (stands_after w after_names) os) after_names (of_cell value) cells_in after value
-        (λ d n m r k. let s = seen d n m r k in (stands_after w after_names s.operand, map_at (stands_after w after_names) os n s.operand s.is_operand, dummy_after d n m r k s)) common_after refl nothing
+    pub after_seen : (x : Name) → seen_by w g (map (stands_after w after_names) os) after_names (new_names g.name) x ≡ names_hold g cells_in after value x
+    after_seen = seen_is fs values program i c.caller program.units j g of_callee names (map (stands_after w after_names) os) after_names (new_names g.name) cells_in after value
+        (λ d n m r k. let s = seen d n m r k in (stands_after w after_names s.operand, map_at (stands_after w after_names) os n s.operand s.is_operand, dummy_after d n m r k s)) common_after new_result nothing

@@ -28,7 +28,7 @@ use Rattle.fort_model.specs.Seen.{Named}
 use Rattle.fort_model.specs.Storage.{Storage, Extent, Environment, load, contents}
 use Rattle.fort_model.specs.WalkCalls.{Operand, Bare, Part, Computed, stands_for}
 use Rattle.fort_laws.specs.Actuals.{IsPart, AreTakenAs, HoldsSort, IsOperandOf}
-use Rattle.fort_laws.specs.CallLaw.{AgreesInSorts, HoldsName}
+use Rattle.fort_laws.specs.CallLaw.{Agrees, HoldsName}
 use Rattle.fort_laws.specs.Frame.{IsPlaced, HasName, IsSoundUnit, IsSoundCall, DimsAgree}
 use Rattle.fort_laws.specs.Standing.{ActualOf}
 use Rattle.fort_laws.proofs.FrameParts.{good_dims, size_positive}
@@ -157,7 +157,7 @@ module _ (units : List Routine) (i j : ℕ) (c : Calls units i j) (of_caller : I
 
   -- ---- types
 
-  module _ (p : Processor) (agree : AgreesInSorts c) (sorted : (d : DataName) → IsAmong d c.caller.names → HoldsName p env st d)
+  module _ (p : Processor) (agree : Agrees c) (sorted : (d : DataName) → IsAmong d c.caller.names → HoldsName p env st d)
       (typed : (n : ℕ) (e : Expr) (t : Taken) → slice_get c.site.actuals n ≡ Some e → slice_get xs n ≡ Some t → (q : Sort) × (sort_of_expr c.caller e ≡ Some q) × HoldsSort p st q t) where
     taken_sorts : (q : Sort) (e : Extent) (t : Taken) → HoldsTaken e t → HoldsSort p st q t → (k : ℕ) → k < e.size → has_sort p q (load start (e.first + k)) ≡ true
     taken_sorts q e (Cells f) h holds k lt = let s = h.size in ap (has_sort p q) (h.cells k (omega arith)) ∙ holds k (omega arith)

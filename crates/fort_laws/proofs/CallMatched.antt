@@ -28,7 +28,7 @@ use Rattle.fort_model.specs.Places.{dim_values, stretch}
 use Rattle.fort_model.specs.Processor.{Processor}
 use Rattle.fort_model.specs.Program.{Program, notes_of}
 use Rattle.fort_model.specs.Run.{run}
-use Rattle.fort_model.specs.Seen.{Named, Answer, Answers}
+use Rattle.fort_model.specs.Seen.{Named, Answers}
 use Rattle.fort_model.specs.Senses.{of_values}
 use Rattle.fort_model.specs.Smashes.{HoldsSmashed}
 use Rattle.fort_model.specs.Storage.{Storage, Environment, load}
@@ -37,12 +37,12 @@ use Rattle.fort_model.specs.WalkCalls as walk
 use Rattle.fort_model.specs.WalkCalls.{Sight, Operand, stands_for, stands_after, seen_by, notes_told, result_facts}
 use Rattle.fort_model.specs.WalkPlaces.{sorts}
 use Rattle.fort_laws.specs.Actuals.{ArePassed}
-use Rattle.fort_laws.specs.CallLaw.{HasNames, AgreesInSorts, HoldsName, EndsRight, IsRight, Leaves, CallsAreMatched}
+use Rattle.fort_laws.specs.CallLaw.{HasNames, Agrees, HoldsName, EndsRight, IsRight, Leaves, CallsAreMatched}
 use Rattle.fort_laws.specs.Frame.{IsPlaced, AreSound, SharesBlocks, IsSmashedCell, Changes}
 use Rattle.fort_laws.specs.GoodStatements.{Stood}
 use Rattle.fort_laws.specs.Matches.{AllTrue, FirstFails, of_callee, Matches, moves, fails}
 use Rattle.fort_laws.specs.Standing.{MayBe}
-use Rattle.fort_laws.proofs.CallAfter.{fit, cells_in, begun, entry_fits, entry_seen, left, hit_names, new_names, after_names, left_frame, left_placed, left_sorted, left_named, after_seen}
+use Rattle.fort_laws.proofs.CallAfter.{fit, cells_in, begun, entry_fits, entry_seen, left, hit_names, new_names, after_names, left_frame, left_placed, left_sorted, left_named, new_result, after_seen}
 use Rattle.fort_laws.proofs.CallNames.{data_name_is, notes_same}
 use Rattle.fort_laws.proofs.CallSorts.{cell_sorted, sorts_true}
 use Rattle.fort_laws.proofs.FrameCalls.{runs_change_only_smashed}
@@ -72,7 +72,7 @@ first_false kind card (v ∷ vs) h = known (holds v)
     (λ f. inr (f, refl, refl))
 
 -- an answer before others
-abbrev in_front : Answer Value → Answers Value → Answers Value
+abbrev in_front : Named Value → Answers Value → Answers Value
 in_front a answers zero = a
 in_front a answers (suc n) = answers n
 
@@ -86,7 +86,7 @@ may_be p Logical cell.Undefined h = tt
 
 module _ (values : Symbol → Value) (program : Program) (p : Processor) (i j : ℕ) (c : Calls program.units i j) (env : Environment)
     (least : values LeastInteger ≡ Int p.least) (greatest : values GreatestInteger ≡ Int p.greatest) (sound : AreSound program.units) (table : HoldsSmashed program) (blocks : SharesBlocks program.units)
-    (agree : AgreesInSorts c) (names : HasNames c.callee) (right : IsRight p program j c.callee) (st : Storage) (now : Named Value) (stood : Stood c.caller env now st)
+    (agree : Agrees c) (names : HasNames c.callee) (right : IsRight p program j c.callee) (st : Storage) (now : Named Value) (stood : Stood c.caller env now st)
     (sorted : (d : DataName) → IsAmong d c.caller.names → HoldsName p env st d) (placed : IsPlaced program.units i c.caller env st) (card k : ℕ) (os : List (Operand Value)) (xs : List Taken)
     (passing : ArePassed (record { processor = p; units = program.units; unit = c.caller; environment = env }) st now c.site.actuals os xs) where
   abbrev here : Scene
@@ -148,10 +148,6 @@ module _ (values : Symbol → Value) (program : Program) (p : Processor) (i j : 
     final_placed = left_placed program i j c (sound.units_are i c.caller c.is_caller) (sound.units_are j c.callee c.is_callee) (sound.calls_are i j c) table blocks agree names program.functions values p env st now stood sorted placed
         (p.copies c.caller.name k) os xs passing ends.after ends.value frame.0 frame.1 ends.sorts ends.nothing
 
-    seen_at_end : (x : Name) → seen_by w c.callee (map (stands_after w after) os) after (of_cell ends.value) x ≡ names_hold c.callee inner ends.after ends.value x
-    seen_at_end = after_seen program i j c (sound.units_are i c.caller c.is_caller) (sound.units_are j c.callee c.is_callee) (sound.calls_are i j c) table blocks agree names program.functions values p env st now stood sorted placed
-        (p.copies c.caller.name k) os xs passing ends.after ends.value frame.0 frame.1 ends.sorts ends.nothing
-
     abbrev smashed : List Name
     smashed = hit_names program i j c (sound.units_are i c.caller c.is_caller) (sound.units_are j c.callee c.is_callee) (sound.calls_are i j c) table blocks agree names program.functions values p env st now stood sorted placed
         (p.copies c.caller.name k) os xs passing
@@ -167,31 +163,39 @@ module _ (values : Symbol → Value) (program : Program) (p : Processor) (i j : 
       within = λ x d e. let m = data_name_is c.caller.names x d e in subst (λ (z : Name). (env z).first + (env z).size ≤ length final) m.1 (final_placed.shapes d m.0).within;
     }
 
-    result_true : (o : Option Sort) → c.callee.sort ≡ o → AllTrue (takes (result_facts w o (of_cell ends.value)))
-    result_true None e = tt
-    result_true (Some q) e = let r = ends.result q e in (r.0, (cell_sorted program.functions values p least greatest q ends.value r.1, tt))
-
-    output_true : AllTrue (takes (notes_told w before (seen_by w c.callee (map (stands_after w after) os) after (of_cell ends.value)) (notes_of program j).output))
-    output_true = all_taken _ (ap (list_all holds) (notes_same program.functions values p least greatest _ _ _ _ seen_at_entry seen_at_end (notes_of program j).output) ∙ ends.met)
-
     sorts_are_true : AllTrue (takes (sorts w.sense c.caller after smashed))
     sorts_are_true = sorts_true program.functions values p least greatest program.units i c.caller (sound.units_are i c.caller c.is_caller) env final after named final_sorted
         (λ d m. (one_cell program.units i c.caller (sound.units_are i c.caller c.is_caller) env final final_placed d m, (final_placed.shapes d m).size)) smashed
 
-    abbrev answer : Answer Value
-    answer = record {
-      names = new_names program i j c (sound.units_are i c.caller c.is_caller) (sound.units_are j c.callee c.is_callee) (sound.calls_are i j c) table blocks agree names program.functions values p env st now stood sorted placed
-          (p.copies c.caller.name k) os xs passing ends.after ends.value frame.0 frame.1 ends.sorts ends.nothing;
-      result = λ f. of_cell ends.value;
-    }
+    abbrev answer : Named Value
+    answer = new_names program i j c (sound.units_are i c.caller c.is_caller) (sound.units_are j c.callee c.is_callee) (sound.calls_are i j c) table blocks agree names program.functions values p env st now stood sorted placed
+        (p.copies c.caller.name k) os xs passing ends.after ends.value frame.0 frame.1 ends.sorts ends.nothing
+
+    answered : answer c.callee.name ≡ of_cell ends.value
+    answered = new_result program i j c (sound.units_are i c.caller c.is_caller) (sound.units_are j c.callee c.is_callee) (sound.calls_are i j c) table blocks agree names program.functions values p env st now stood sorted placed
+        (p.copies c.caller.name k) os xs passing ends.after ends.value frame.0 frame.1 ends.sorts ends.nothing
+
+    seen_at_end : (x : Name) → seen_by w c.callee (map (stands_after w after) os) after (answer c.callee.name) x ≡ names_hold c.callee inner ends.after ends.value x
+    seen_at_end = after_seen program i j c (sound.units_are i c.caller c.is_caller) (sound.units_are j c.callee c.is_callee) (sound.calls_are i j c) table blocks agree names program.functions values p env st now stood sorted placed
+        (p.copies c.caller.name k) os xs passing ends.after ends.value frame.0 frame.1 ends.sorts ends.nothing
+
+    result_true : (o : Option Sort) → c.callee.sort ≡ o → AllTrue (takes (result_facts w o (answer c.callee.name)))
+    result_true o e = subst (λ (v : Value). AllTrue (takes (result_facts w o v))) (sym answered) (by_sort o e)
+      where
+        by_sort : (o : Option Sort) → c.callee.sort ≡ o → AllTrue (takes (result_facts w o (of_cell ends.value)))
+        by_sort None e = tt
+        by_sort (Some q) e = let r = ends.result q e in (r.0, (cell_sorted program.functions values p least greatest q ends.value r.1, tt))
+
+    output_true : AllTrue (takes (notes_told w before (seen_by w c.callee (map (stands_after w after) os) after (answer c.callee.name)) (notes_of program j).output))
+    output_true = all_taken _ (ap (list_all holds) (notes_same program.functions values p least greatest _ _ _ _ seen_at_entry seen_at_end (notes_of program j).output) ∙ ends.met)
 
     call_moves : list_all holds (notes_told w before before (notes_of program j).input) ≡ true
         → Matches Q (walk.call_in w card j (Some c.callee) now os) (call (run p program.units) env (Some c.callee) (passed (p.copies c.caller.name k) 1 xs)) st
-    call_moves t = moves (in_front answer) (after, of_cell ends.value) ends.value final ends.cost
+    call_moves t = moves (in_front answer) (after, answer c.callee.name) ends.value final ends.cost
         (λ answers. all_true_append _ _ (all_checked InputCheck card _ t) (all_true_append _ _ sorts_are_true (all_true_append _ _ (result_true c.callee.sort refl) (all_true_append _ _ output_true tt))))
         (λ answers. refl) (λ answers. refl)
         (λ n. ap (λ (o : Outcome Cell). and_then o (λ value last more. Ended value (take (length st) (written_back (passed (p.copies c.caller.name k) 1 xs) (length st) last)) more)) (ends.ends n))
-        (record { stood = final_stood; sorts = final_sorted; placed = final_placed; is = refl; sorted = ends.result })
+        (record { stood = final_stood; sorts = final_sorted; placed = final_placed; is = answered; sorted = ends.result })
 
   -- ---- the call
 

@@ -47,8 +47,9 @@ pub record HasNames (u : Routine) : Type 0 where
   pub function : is_function u ≡ true → (d : DataName) × IsAmong d u.names × (d.name ≡ u.name) × (d.role ≡ OwnValue)
   pub common : (d : DataName) → IsAmong d u.names → d.role ≡ InCommon → d.name ≢ u.name
 
--- a call agrees in types: of actuals and dummies, and of COMMON entities
-pub record AgreesInSorts {units : List Routine} {i j : ℕ} (c : Calls units i j) : Type 0 where
+-- a call agrees in types, of actuals and dummies, and of COMMON entities; and no data name of the caller has the called unit's name
+pub record Agrees {units : List Routine} {i j : ℕ} (c : Calls units i j) : Type 0 where
+  pub apart : (d : DataName) → IsAmong d c.caller.names → d.name ≢ c.callee.name
   pub dummies : (d : DataName) (n : ℕ) (e : Expr) → IsAmong d c.callee.names → slice_get c.callee.dummies n ≡ Some d.name → slice_get c.site.actuals n ≡ Some e
       → same_sort_as d.sort (sort_of_expr c.caller e) ≡ true
   pub commons : (d e : DataName) → IsAmong d c.callee.names → d.role ≡ InCommon → IsAmong e c.caller.names → e.name ≡ d.name → e.sort ≡ d.sort
@@ -95,7 +96,7 @@ abbrev pub CallsAreMatched : Type 0
 CallsAreMatched =
     (values : Symbol → Value) (program : Program) (p : Processor) (i j : ℕ) (c : Calls program.units i j) (env : Environment)
     → values LeastInteger ≡ Int p.least → values GreatestInteger ≡ Int p.greatest
-    → AreSound program.units → HoldsSmashed program → SharesBlocks program.units → AgreesInSorts c → HasNames c.callee → IsRight p program j c.callee
+    → AreSound program.units → HoldsSmashed program → SharesBlocks program.units → Agrees c → HasNames c.callee → IsRight p program j c.callee
     → let s : Scene = record { processor = p; units = program.units; unit = c.caller; environment = env } in
     (st : Storage) (now : Named Value) → Stood c.caller env now st → ((d : DataName) → IsAmong d c.caller.names → HoldsName p env st d) → IsPlaced program.units i c.caller env st
     → (card k : ℕ) (os : List (Operand Value)) (ts : List Taken) → ArePassed s st now c.site.actuals os ts
