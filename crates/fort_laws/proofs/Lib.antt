@@ -20,6 +20,7 @@ pub mod FrameParts
 pub mod FrameReads
 pub mod FrameRuns
 pub mod FrameSeats
+pub mod InRange
 pub mod Kept
 pub mod MatchedAssignments
 pub mod MatchedExpressions
