@@ -74,7 +74,7 @@ alike_back (a ∷ ds) (b ∷ bs) h = tt
 
 module _ (program : Program) (i j : ℕ) (c : Calls program.units i j) (of_caller : IsSoundUnit program.units i c.caller) (of_callee : IsSoundUnit program.units j c.callee) (of_call : IsSoundCall c)
     (table : HoldsSmashed program) (blocks : SharesBlocks program.units) (agree : Agrees c) (names : HasNames c.callee) (fs : List Function) (values : Symbol → Value) (p : Processor)
-    (env : Environment) (st : Storage) (now : Named Value) (stood : Stood c.caller env now st) (sorted : (d : DataName) → IsAmong d c.caller.names → HoldsName p env st d) (placed : IsPlaced program.units i c.caller env st)
+    (env : Environment) (st : Storage) (now : Named Value) (stood : Stood p c.caller env now st) (sorted : (d : DataName) → IsAmong d c.caller.names → HoldsName p env st d) (placed : IsPlaced program.units i c.caller env st)
     (copies : ℕ → Bool) (os : List (Operand Value)) (xs : List Taken)
     (passing : ArePassed (record { processor = p; units = program.units; unit = c.caller; environment = env }) st now c.site.actuals os xs) where
   abbrev here : Scene

@@ -76,8 +76,8 @@ abbrev in_front : Named Value → Answers Value → Answers Value
 in_front a answers zero = a
 in_front a answers (suc n) = answers n
 
-may_be : (p : Processor) (q : Sort) (c : Cell) → has_sort p q c ≡ true → MayBe q c
-may_be p Integer (cell.Int z) h = tt
+may_be : (p : Processor) (q : Sort) (c : Cell) → has_sort p q c ≡ true → MayBe p q c
+may_be p Integer (cell.Int z) h = h
 may_be p Integer (cell.Logical b) h = absurd (cc)
 may_be p Integer cell.Undefined h = tt
 may_be p Logical (cell.Int z) h = absurd (cc)
@@ -86,7 +86,7 @@ may_be p Logical cell.Undefined h = tt
 
 module _ (values : Symbol → Value) (program : Program) (p : Processor) (i j : ℕ) (c : Calls program.units i j) (env : Environment)
     (least : values LeastInteger ≡ Int p.least) (greatest : values GreatestInteger ≡ Int p.greatest) (sound : AreSound program.units) (table : HoldsSmashed program) (blocks : SharesBlocks program.units)
-    (agree : Agrees c) (names : HasNames c.callee) (right : IsRight p program j c.callee) (st : Storage) (now : Named Value) (stood : Stood c.caller env now st)
+    (agree : Agrees c) (names : HasNames c.callee) (right : IsRight p program j c.callee) (st : Storage) (now : Named Value) (stood : Stood p c.caller env now st)
     (sorted : (d : DataName) → IsAmong d c.caller.names → HoldsName p env st d) (placed : IsPlaced program.units i c.caller env st) (card k : ℕ) (os : List (Operand Value)) (xs : List Taken)
     (passing : ArePassed (record { processor = p; units = program.units; unit = c.caller; environment = env }) st now c.site.actuals os xs) where
   abbrev here : Scene
@@ -152,14 +152,15 @@ module _ (values : Symbol → Value) (program : Program) (p : Processor) (i j : 
     smashed = hit_names program i j c (sound.units_are i c.caller c.is_caller) (sound.units_are j c.callee c.is_callee) (sound.calls_are i j c) table blocks agree names program.functions values p env st now stood sorted placed
         (p.copies c.caller.name k) os xs passing
 
-    final_stood : Stood c.caller env after final
+    final_stood : Stood p c.caller env after final
     final_stood = record {
       standing = record {
         names = λ x d e. let m = data_name_is c.caller.names x d e in subst (λ (z : Name). after z ≡ held_in d.dims final (env z)) m.1 (named d m.0);
         sizes = λ x d e. let m = data_name_is c.caller.names x d e in subst (λ (z : Name). pos (env z).size ≡ stretch (dim_values env final d.dims)) m.1 (final_placed.shapes d m.0).size;
         sorts = λ x d e n lt. let m = data_name_is c.caller.names x d e in
-            subst (λ (z : Name). n < (env z).size → MayBe d.sort (load final ((env z).first + n))) m.1 (λ l. may_be p d.sort _ (final_sorted d m.0 n l)) lt;
+            subst (λ (z : Name). n < (env z).size → MayBe p d.sort (load final ((env z).first + n))) m.1 (λ l. may_be p d.sort _ (final_sorted d m.0 n l)) lt;
       };
+      good = λ x d e. let m = data_name_is c.caller.names x d e in (final_placed.shapes d m.0).dims;
       within = λ x d e. let m = data_name_is c.caller.names x d e in subst (λ (z : Name). (env z).first + (env z).size ≤ length final) m.1 (final_placed.shapes d m.0).within;
     }
 

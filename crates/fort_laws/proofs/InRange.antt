@@ -1,5 +1,6 @@
 -- Integers of a processor.
 use Rattle.std.proofs.Common.{◌≡◌, ℕ, zero, suc, ◌+◌, ◌%◌, ◌≤◌, Bool, true, false, ◌&&◌, ℤ, pos, negsuc, ◌+ℤ◌, ◌-ℤ◌, ◌*ℤ◌, ◌≤ℤ◌, neg_ℤ, List, [], ◌∷◌, refl, sym, ap, ◌∙◌, subst, arith}
+use Rattle.std.proofs.lemmas.Bool.Decides.{nat_tests}
 use Rattle.std.proofs.lemmas.Int.{ints, quot-rem}
 use Rattle.std.specs.Prelude.{nat_lt, int_le, int_lt, int_div, int_rem, nat_abs, if◌then◌else◌}
 use lib.Signed.{mag_rem}
@@ -32,7 +33,10 @@ module _ (p : Processor) (bound : ℕ) (meets : MeetsBound p bound) where
       high b a = grind (arith, ints, nat_tests)
 
   pub has_zero : is_between p.least p.greatest (pos 0) ≡ true
-  has_zero = up_to_bound 0 refl
+  has_zero = up_to_bound 0 none_less
+    where
+      none_less : nat_lt bound 0 ≡ false
+      none_less = grind (arith, nat_tests)
 
 -- a number between zero and one in range
 between_zero : (l h : ℤ) (r n : ℕ) → r ≤ n → is_between l h (pos 0) ≡ true → is_between l h (pos n) ≡ true → is_between l h (pos r) ≡ true
@@ -88,3 +92,14 @@ smaller_between l h a b x y = pick (int_lt b a) refl
     pick : (t : Bool) → int_lt b a ≡ t → is_between l h (value.smaller a b) ≡ true
     pick true e = ap (λ (t : Bool). is_between l h (if t then b else a)) e ∙ y
     pick false e = ap (λ (t : Bool). is_between l h (if t then b else a)) e ∙ x
+
+-- what is in range is not above the greatest
+pub below_greatest : (l h z : ℤ) → is_between l h z ≡ true → int_le z h ≡ true
+below_greatest l h z e = (parts (int_le l z) (int_le z h) e).1
+
+-- a natural number that is not above the greatest
+pub natural_between : (l h : ℤ) (n : ℕ) → is_between l h (pos 0) ≡ true → int_le (pos n) h ≡ true → is_between l h (pos n) ≡ true
+natural_between l h n z e = both (int_le l (pos n)) (int_le (pos n) h) (low (parts (int_le l (pos 0)) (int_le (pos 0) h) z).0) e
+  where
+    low : int_le l (pos 0) ≡ true → int_le l (pos n) ≡ true
+    low a = grind (arith, ints)

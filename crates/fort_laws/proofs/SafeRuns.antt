@@ -186,7 +186,7 @@ module _ (fs : List Function) (values : Symbol → Value) (program : Program) (i
         (true_all : (answers : Answers Value) → AllTrue (performed w line.card pc now line.stmt cs (pre answers)).events)
         (value : (answers : Answers Value) → (performed w line.card pc now line.stmt cs (pre answers)).value ≡ next)
         (rest : (answers : Answers Value) → (performed w line.card pc now line.stmt cs (pre answers)).rest ≡ answers)
-        (runs : (n : ℕ) → perform s (run s.processor s.units) line.card pc (calls_before s.unit pc) line.stmt st (cost + n) ≡ Ended cs after n) (stood : Stood s.unit s.environment next after)
+        (runs : (n : ℕ) → perform s (run s.processor s.units) line.card pc (calls_before s.unit pc) line.stmt st (cost + n) ≡ Ended cs after n) (stood : Stood s.processor s.unit s.environment next after)
         (kept : KeepsUnsmashed fs values program i s next) where
       -- behind the statement no check fails
       safe_on : (way : List (List ℕ)) (answers : Answers Value) → over_or program.dialect s.unit notes (cut_at s.unit notes q) way (IsWay program.dialect s.unit notes q way)
@@ -235,8 +235,8 @@ module _ (fs : List Function) (values : Symbol → Value) (program : Program) (i
 
     by_step : (clock : Option (List Value)) (pc : ℕ) (line : Line) (now : Named Value) (st : Storage) → slice_get s.unit.lines pc ≡ Some line → KeepsUnsmashed fs values program i s now → IsSafe fs values program i s clock pc now
         → StepMatches (λ (cs : List ℕ). cs) (leads s.processor.dialect s.unit pc line.stmt) (λ cs. performed w line.card pc now line.stmt cs)
-        (perform s (run s.processor s.units) line.card pc (calls_before s.unit pc) line.stmt) (Stood s.unit s.environment) st
-        → ((cs : List ℕ) (q : ℕ) → Edge program.dialect s.unit pc cs q → cut_at s.unit notes q ≡ NoCut → (next : Named Value) (after : Storage) → Stood s.unit s.environment next after
+        (perform s (run s.processor s.units) line.card pc (calls_before s.unit pc) line.stmt) (Stood s.processor s.unit s.environment) st
+        → ((cs : List ℕ) (q : ℕ) → Edge program.dialect s.unit pc cs q → cut_at s.unit notes q ≡ NoCut → (next : Named Value) (after : Storage) → Stood s.processor s.unit s.environment next after
         → KeepsUnsmashed fs values program i s next → IsSafe fs values program i s clock q next → Arrives fs values program i s clock q after)
         → Arrives fs values program i s clock pc st
     by_step clock pc line now st e kept safe (goes cs q to pre next after cost t v r runs stood) on =
@@ -248,7 +248,7 @@ module _ (fs : List Function) (values : Symbol → Value) (program : Program) (i
         (complete program.dialect s.unit notes executable pc (near_all program.dialect s.unit notes cut pc) line cs q e (to_walk clock pc line now st e safe cs q to)) (pre no_answers) kind card (f no_answers))
 
     arrives : (clock : Option (List Value)) (pc : ℕ) → Near program.dialect s.unit notes pc → (line : Line) (now : Named Value) (st : Storage) → slice_get s.unit.lines pc ≡ Some line
-        → Stood s.unit s.environment now st → KeepsUnsmashed fs values program i s now → IsSafe fs values program i s clock pc now → Arrives fs values program i s clock pc st
+        → Stood s.processor s.unit s.environment now st → KeepsUnsmashed fs values program i s now → IsSafe fs values program i s clock pc now → Arrives fs values program i s clock pc st
     arrives clock pc (near h) line now st e stood kept safe =
         by_step clock pc line now st e kept safe (steps st now stood line.stmt line.card pc (calls_before s.unit pc) (good pc line e))
         (λ cs q edge c next after stood2 kept2 safe2. let l = line_from program.dialect s.unit notes q c in arrives clock q (h cs q edge c) l.0 next after l.1 stood2 kept2 safe2)

@@ -84,7 +84,7 @@ IsRight p program j g =
 -- what a call leaves: named values stand for cells, names hold things of their types in their places, and the walk's value of a
 -- function is that of the run, of its type
 pub record Leaves (program : Program) (i : ℕ) (s : Scene) (result : Option Sort) (r : Named Value × Value) (c : Cell) (after : Storage) : Type 0 where
-  pub stood : Stood s.unit s.environment (r.0) after
+  pub stood : Stood s.processor s.unit s.environment (r.0) after
   pub sorts : (d : DataName) → IsAmong d s.unit.names → HoldsName s.processor s.environment after d
   pub placed : IsPlaced program.units i s.unit s.environment after
   pub is : IsOf (r.1) c
@@ -98,7 +98,7 @@ CallsAreMatched =
     → values LeastInteger ≡ Int p.least → values GreatestInteger ≡ Int p.greatest
     → AreSound program.units → HoldsSmashed program → SharesBlocks program.units → Agrees c → HasNames c.callee → IsRight p program j c.callee
     → let s : Scene = record { processor = p; units = program.units; unit = c.caller; environment = env } in
-    (st : Storage) (now : Named Value) → Stood c.caller env now st → ((d : DataName) → IsAmong d c.caller.names → HoldsName p env st d) → IsPlaced program.units i c.caller env st
+    (st : Storage) (now : Named Value) → Stood p c.caller env now st → ((d : DataName) → IsAmong d c.caller.names → HoldsName p env st d) → IsPlaced program.units i c.caller env st
     → (card k : ℕ) (os : List (Operand Value)) (ts : List Taken) → ArePassed s st now c.site.actuals os ts
     → Matches (Leaves program i s c.callee.sort) (walk.call (sight (of_values program.functions values) program i c.caller) card (callee_of program.units c.site) now os)
     (call (run p program.units) env (unit_at program.units (callee_of program.units c.site)) (passed (p.copies c.caller.name k) 1 ts)) st
