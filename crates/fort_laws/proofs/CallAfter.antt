@@ -35,11 +35,10 @@ use Rattle.fort_model.specs.Storage.{Storage, Extent, Environment, load}
 use Rattle.fort_model.specs.Symbols.{Symbol}
 use Rattle.fort_model.specs.WalkCalls as walk
 use Rattle.fort_model.specs.WalkCalls.{Sight, Operand, Bare, Part, Computed, stands_for, seen_by, hits, smashed_actuals, smashed_commons, stands_after}
-use Rattle.fort_laws.specs.Actuals.{IsPart, AreTakenAs, HoldsSort, IsOperandOf, ArePassed}
+use Rattle.fort_laws.specs.Actuals.{IsPart, AreTakenAs, HoldsSort, IsOperandOf, ActualOf, ArePassed}
 use Rattle.fort_laws.specs.CallLaw.{HasNames, Agrees, HoldsName}
 use Rattle.fort_laws.specs.Frame.{IsPlaced, HasName, IsSoundUnit, IsSoundCall, SharesBlocks, IsSmashedCell, OthersKept, DimsAgree}
 use Rattle.fort_laws.specs.GoodStatements.{Stood}
-use Rattle.fort_laws.specs.Standing.{ActualOf}
 use Rattle.fort_laws.proofs.CallBack.{final, shared_back, dummy_back, unsmashed_cells}
 use Rattle.fort_laws.proofs.CallEntry.{SameCells, held_same, dims_alike, alike_same, AreAlike, same_sorts, inside, start, Seat, one_cell, callee_fits, dummy_value, shared_value}
 use Rattle.fort_laws.proofs.CallHits.{smashed_among, among_smashed}

@@ -27,10 +27,9 @@ use Rattle.fort_model.specs.Processor.{Processor}
 use Rattle.fort_model.specs.Seen.{Named}
 use Rattle.fort_model.specs.Storage.{Storage, Extent, Environment, load, contents}
 use Rattle.fort_model.specs.WalkCalls.{Operand, Bare, Part, Computed, stands_for}
-use Rattle.fort_laws.specs.Actuals.{IsPart, AreTakenAs, HoldsSort, IsOperandOf}
+use Rattle.fort_laws.specs.Actuals.{IsPart, AreTakenAs, HoldsSort, IsOperandOf, ActualOf}
 use Rattle.fort_laws.specs.CallLaw.{Agrees, HoldsName}
 use Rattle.fort_laws.specs.Frame.{IsPlaced, HasName, IsSoundUnit, IsSoundCall, DimsAgree}
-use Rattle.fort_laws.specs.Standing.{ActualOf}
 use Rattle.fort_laws.proofs.FrameParts.{good_dims, size_positive}
 use Rattle.fort_laws.proofs.FrameSeats.{inner, begun, same_below, new_at, Seated, old_of, old_within, Shared, shared_below, Root, common, dummy, root, callee_shapes, found, whole_or_not}
 use Rattle.fort_laws.proofs.StorageLaws.{widths, seat, copy_holds, value_holds}

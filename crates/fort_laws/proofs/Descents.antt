@@ -184,6 +184,6 @@ module _ (fs : List Function) (values : Symbol → Value) (program : Program) (i
         (safe [] no_answers (subst (λ (k : Cut). over_or program.dialect s.unit notes k [] (IsWay program.dialect s.unit notes pc [])) (sym c) refl))))
 
 pub safe_runs_end : SafeRunsEnd
-safe_runs_end fs values program i s is_reference is_call least greatest strict bounded dialects dims references calls good cut keep parts same safe_at pc now st stood kept safe =
-    by_cut fs values program i s dialects (safe_runs_arrive fs values program i s is_reference is_call least greatest strict bounded dialects dims references calls good cut keep) parts same safe_at
+safe_runs_end fs values program i s least greatest strict bounded dialects dims references calls good cut keep parts same safe_at pc now st stood kept safe =
+    by_cut fs values program i s dialects (safe_runs_arrive fs values program i s least greatest strict bounded dialects dims references calls good cut keep) parts same safe_at
     pc now st (cut_at s.unit (notes_of program i) pc) refl stood kept safe

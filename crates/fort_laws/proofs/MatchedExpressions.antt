@@ -78,22 +78,22 @@ module _ (fs : List Function) (values : Symbol → Value) (program : Program) (i
       (matches_check RangeCheck card _ _ st (in_range_is v ∙ ap (λ x. is_between s.processor.least s.processor.greatest (value.num x)) e))
       (λ x y h. matches_see (Same st (Of s.processor Integer)) v (cell.Int z) st (refl, (e, h)))
 
-  pub matches_constant : (card n : ℕ) → nat_lt program.bound n ≡ false → is_between s.processor.least s.processor.greatest (pos n) ≡ true → Matches (Same st (Of s.processor Integer)) (walk.constant w card n) (run.constant s.processor card n) st
+  pub matches_constant : (card n : ℕ) → nat_lt program.bound n ≡ false → is_between s.processor.least s.processor.greatest (pos n) ≡ true → Matches (Same st (λ v c. Of s.processor Integer v c × (c ≡ cell.Int (pos n)))) (walk.constant w card n) (run.constant s.processor card n) st
   matches_constant card n small fits =
-      stays_then (λ x y. Unit {0}) (Same st (Of s.processor Integer)) _ _ _ _ st
+      stays_then (λ x y. Unit {0}) (Same st (λ v c. Of s.processor Integer v c × (c ≡ cell.Int (pos n)))) _ _ _ _ st
       (subst (λ (b : Bool). Matches (Same st (λ x y. Unit {0})) (meet (cond b (Check RangeCheck card (sense.make2 (of_values fs values) f.AtMost (sense.natural (of_values fs values) n) (sense.greatest_integer (of_values fs values))) ∷ []) []))
       (check RangeCheck card (int_le (pos n) s.processor.greatest)) st) (sym small)
       (subst (λ (b : Bool). Matches (Same st (λ x y. Unit {0})) (meet []) (check RangeCheck card b) st) (sym (below_greatest s.processor.least s.processor.greatest (pos n) fits)) (matches_see (Same st (λ x y. Unit {0})) tt tt st (refl, tt))))
-      (λ x y h. matches_see (Same st (Of s.processor Integer)) (Int (pos n)) (cell.Int (pos n)) st (refl, (refl, fits)))
+      (λ x y h. matches_see (Same st (λ v c. Of s.processor Integer v c × (c ≡ cell.Int (pos n)))) (Int (pos n)) (cell.Int (pos n)) st (refl, ((refl, fits), refl)))
 
   -- with a check where the constant is beyond the bound
-  pub matches_large : is_between s.processor.least s.processor.greatest (pos 0) ≡ true → (card n : ℕ) → nat_lt program.bound n ≡ true → Matches (Same st (Of s.processor Integer)) (walk.constant w card n) (run.constant s.processor card n) st
+  pub matches_large : is_between s.processor.least s.processor.greatest (pos 0) ≡ true → (card n : ℕ) → nat_lt program.bound n ≡ true → Matches (Same st (λ v c. Of s.processor Integer v c × (c ≡ cell.Int (pos n)))) (walk.constant w card n) (run.constant s.processor card n) st
   matches_large has_zero card n large =
-      stays_then (λ x y. int_le (pos n) s.processor.greatest ≡ true) (Same st (Of s.processor Integer)) _ _ _ _ st
+      stays_then (λ x y. int_le (pos n) s.processor.greatest ≡ true) (Same st (λ v c. Of s.processor Integer v c × (c ≡ cell.Int (pos n)))) _ _ _ _ st
       (subst (λ (b : Bool). Matches (Same st (λ x y. int_le (pos n) s.processor.greatest ≡ true)) (meet (cond b (Check RangeCheck card (sense.make2 (of_values fs values) f.AtMost (sense.natural (of_values fs values) n) (sense.greatest_integer (of_values fs values))) ∷ []) []))
       (check RangeCheck card (int_le (pos n) s.processor.greatest)) st) (sym large)
       (matches_check RangeCheck card _ _ st (ap (λ x. int_le (pos n) (value.num x)) greatest)))
-      (λ x y h. matches_see (Same st (Of s.processor Integer)) (Int (pos n)) (cell.Int (pos n)) st (refl, (refl, natural_between s.processor.least s.processor.greatest n has_zero h)))
+      (λ x y h. matches_see (Same st (λ v c. Of s.processor Integer v c × (c ≡ cell.Int (pos n)))) (Int (pos n)) (cell.Int (pos n)) st (refl, ((refl, natural_between s.processor.least s.processor.greatest n has_zero h), refl)))
 
   pub matches_divisor : (card : ℕ) (v : Value) (c : Cell) → IsOf v c → Matches (Same st (λ x y. Unit {0})) (walk.divisor w card v) (run.divisor card c) st
   matches_divisor card v c e =

@@ -25,6 +25,7 @@ use Rattle.fort_syntax.specs.declared.stmt.Param.{Param}
 use Rattle.fort_syntax.specs.declared.stmt.Stmt.{Stmt}
 use Rattle.fort_syntax.specs.declared.stmt.Stmt.TheVariants.{Subroutine, Function as FunctionHead, Declare, Dimension, Common as CommonBlock, Assign, GoTo, Computed, ArithIf, LogicalIf', Do, Continue, Call, Return, End, BlockIf, ElseIf, Else, EndIf}
 use Rattle.fort_model.specs.Cells.{num, same, is_defined, holds as run_holds}
+use Rattle.fort_model.specs.Arguments.{reference_sort}
 use Rattle.fort_model.specs.Conditions.{sight}
 use Rattle.fort_model.specs.Evaluate as run
 use Rattle.fort_model.specs.Evaluate.{Scene}
@@ -47,12 +48,15 @@ use Rattle.fort_model.specs.WalkCalls.{Sight, Operand}
 use Rattle.fort_model.specs.WalkExpr as walk
 use Rattle.fort_model.specs.WalkStmt as steps
 use Rattle.fort_model.specs.WalkStmt.{with_name}
+use Rattle.fort_laws.specs.Actuals.{ArePassed}
+use Rattle.fort_laws.specs.Called.{IsReferenceTo, IsCallTo}
 use Rattle.fort_laws.specs.GoodStatements.{MayBeWritten, Stood, HasScalarDims, AreGoodLoops, IsGoodElement, IsLeft, HasLabels, HasResult, IsGood, StatementsMatch}
 use Rattle.fort_laws.specs.Matches.{AllTrue, Matches, moves, Same}
-use Rattle.fort_laws.specs.Standing.{IsOf, MayBe, Of, ActualsOf, CallsMatch}
+use Rattle.fort_laws.specs.Standing.{IsOf, MayBe, Of, CallsMatch}
 use Rattle.fort_laws.specs.StepMatches.{StepMatches, goes}
 use Rattle.fort_laws.specs.Typed.{IsScalar, IsArray, IsTyped, AreInteger, row_length}
 use Rattle.fort_laws.proofs.Matching.{matches_see, matches_check, matches_as, matches_held, matches_twice, stays_then, followed}
+use Rattle.fort_laws.proofs.Kept.{listed_row}
 use Rattle.fort_laws.proofs.MatchedAssignments.{IsElement, matches_place, element_written}
 use Rattle.fort_laws.proofs.MatchedExpressions.{integer_is, integer_between, matches_ranged, and_two}
 use Rattle.fort_laws.proofs.MatchedOperands.{operands_match, matches_valued, integers_match, actuals_match, are_of, as_many, Integers}
@@ -65,9 +69,10 @@ module _ (fs : List Function) (values : Symbol → Value) (program : Program) (i
     (least : values LeastInteger ≡ Int s.processor.least) (greatest : values GreatestInteger ≡ Int s.processor.greatest) (strict : s.processor.lazy ≡ false)
     (bounded : MeetsBound s.processor program.bound)
     (dialects : s.processor.dialect ≡ program.dialect) (dims : HasScalarDims s.unit s.environment)
-    (IsReference : Sort → Name → Type 0) (IsCall : Name → List Expr → Type 0)
+    (IsReference : Sort → Name → List Expr → Type 0) (IsCall : Name → List Expr → Type 0)
+    (told : (q : Sort) (a : Name) (es : List Expr) → IsReference q a es → reference_sort s.unit.functions a ≡ Some q)
     (references : (st : Storage) (now : Named Value) → Stood s.processor s.unit s.environment now st → CallsMatch fs values program i s caller st now IsReference)
-    (calls : (st : Storage) (now : Named Value) → Stood s.processor s.unit s.environment now st → (card k : ℕ) (g : Name) (args : List Expr) (xs : List (Operand Value)) (ts : List Taken) → IsCall g args → ActualsOf s st now xs ts
+    (calls : (st : Storage) (now : Named Value) → Stood s.processor s.unit s.environment now st → (card k : ℕ) (g : Name) (args : List Expr) (xs : List (Operand Value)) (ts : List Taken) → IsCall g args → ArePassed s st now args xs ts
     → Matches (λ r c after. Stood s.processor s.unit s.environment (r.0) after) (walk_call.call (sight (of_values fs values) program i s.unit) card (subroutine program.units g) now xs)
     (call caller s.environment (unit_at s.units (subroutine s.units g)) (passed (s.processor.copies s.unit.name k) 1 ts)) st) where
   abbrev w : Sight Value
@@ -92,8 +97,8 @@ module _ (fs : List Function) (values : Symbol → Value) (program : Program) (i
     -- the value of a typed expression
     evaluated : (e : Expr) (q : Sort) (card k : ℕ) → IsTyped s.unit IsReference q e → Matches (Same st (Of s.processor q)) (walk.value w card now e) (run.evaluate s caller card k e) st
     evaluated e q card k h =
-        matches_valued fs values program i s caller least greatest strict bounded st now stood.standing card q _ _
-        (operands_match fs values program i s caller least greatest strict bounded st now stood.standing IsReference (references st now stood) e q card k h)
+        matches_valued fs values program i s caller least greatest strict bounded st now stood.standing e card q _ _
+        (operands_match fs values program i s caller least greatest strict bounded st now stood.standing IsReference told (references st now stood) e q card k h)
 
     -- ---- assignments
 
@@ -128,8 +133,8 @@ module _ (fs : List Function) (values : Symbol → Value) (program : Program) (i
         (followed (followed (run.values s caller card k args) (λ cs. run.element s.environment card (s.environment a) (b ∷ bs) cs)) (λ x. perform.assign x c)) st
     element_assigned card k q a b bs args h may many integers v c e =
         matches_twice (λ next y after. Stood s.processor s.unit s.environment next after) _ (run.values s caller card k args) (λ cs. run.element s.environment card (s.environment a) (b ∷ bs) cs) (λ x. perform.assign x c) st
-        (stays_then (Integers fs values program i s caller least greatest strict bounded st now stood.standing IsReference (references st now stood) (row_length args)) (λ next y after. Stood s.processor s.unit s.environment next after) _ _ _ _ st
-        (integers_match fs values program i s caller least greatest strict bounded st now stood.standing IsReference (references st now stood) args card k integers)
+        (stays_then (Integers fs values program i s caller least greatest strict bounded st now stood.standing IsReference told (references st now stood) (row_length args)) (λ next y after. Stood s.processor s.unit s.environment next after) _ _ _ _ st
+        (integers_match fs values program i s caller least greatest strict bounded st now stood.standing IsReference told (references st now stood) args card k integers)
         (λ is cs g. stays_then (IsElement fs values program i s dims st now stood a) (λ next y after. Stood s.processor s.unit s.environment next after) _ _ _ _ st
         (matches_place fs values program i s dims st now stood card q a b bs h is cs
         (are_of fs values program i s caller least greatest strict bounded st now stood.standing is cs g.0)
@@ -256,10 +261,11 @@ module _ (fs : List Function) (values : Symbol → Value) (program : Program) (i
     call_step card pc k g args h =
         step_split (λ (cs : List ℕ). cs) (behind s.unit pc) After (λ cs. steps.performed w card pc now (Call g args) cs) (run.actuals s caller card (suc k) (row_of args))
         (λ ys. call caller s.environment (unit_at s.units (subroutine s.units g)) (passed (s.processor.copies s.unit.name (suc k)) 1 ys)) (λ _. perform.go_on s card pc) st
-        (step_stays (λ (cs : List ℕ). cs) (behind s.unit pc) (ActualsOf s st now) After _ _
+        (step_stays (λ (cs : List ℕ). cs) (behind s.unit pc) (ArePassed s st now args) After _ _
         (λ xs cs. walk_call.call w card (subroutine program.units g) now xs >>= (λ after. steps.behind w card pc (after.0) cs))
         (λ ys. followed (call caller s.environment (unit_at s.units (subroutine s.units g)) (passed (s.processor.copies s.unit.name (suc k)) 1 ys)) (λ _. perform.go_on s card pc)) st
-        (actuals_match fs values program i s caller least greatest strict bounded st now stood.standing IsReference (references st now stood) (row_of args) card (suc k) h.1)
+        (subst (λ (es : List Expr). Matches (Same st (ArePassed s st now es)) (walk.operands w card now (row_of args)) (run.actuals s caller card (suc k) (row_of args)) st) (listed_row args)
+        (actuals_match fs values program i s caller least greatest strict bounded st now stood.standing IsReference told (references st now stood) (row_of args) card (suc k) h.1))
         (λ xs ts o. step_after (λ (cs : List ℕ). cs) (behind s.unit pc) (λ r c after. Stood s.processor s.unit s.environment (r.0) after) After _ _ (λ r cs. steps.behind w card pc (r.0) cs) (λ _. perform.go_on s card pc) st
         (calls st now stood card (suc k) g args xs ts h.0 o) (λ r c after q. goes_behind card pc h.2 (r.0) after q) (behind_way pc)) (behind_way pc))
 
@@ -553,5 +559,5 @@ module _ (fs : List Function) (values : Symbol → Value) (program : Program) (i
     statement_matches End card pc k h = absurd h
 
 pub statements_match : StatementsMatch
-statements_match fs values program i s caller is_reference is_call least greatest strict bounded dialects dims references calls st now stood stmt card pc k good =
-    statement_matches fs values program i s caller least greatest strict bounded dialects dims (λ q a. is_reference q a ≡ true) (λ g args. is_call g args ≡ true) references calls st now stood stmt card pc k good
+statements_match fs values program i s caller least greatest strict bounded dialects dims references calls st now stood stmt card pc k good =
+    statement_matches fs values program i s caller least greatest strict bounded dialects dims (IsReferenceTo program i s.unit) (IsCallTo program i s.unit) (λ q a es r. r.told) references calls st now stood stmt card pc k good

@@ -103,9 +103,10 @@ module _ (fs : List Function) (values : Symbol → Value) (program : Program) (i
   module _ (st : Storage) (now : Named Value) (stood : Stood s.processor s.unit s.environment now st) where
     any_constant : (card n : ℕ) → Matches (Same st (Of s.processor Integer)) (walk.constant w card n) (run.constant s.processor card n) st
     any_constant card n =
-        known (nat_lt program.bound n)
+        matches_as (Same st (λ v c. Of s.processor Integer v c × (c ≡ cell.Int (pos n)))) (Same st (Of s.processor Integer)) _ _ st (λ v c after k. (k.0, k.1.0))
+        (known (nat_lt program.bound n)
         (λ e. matches_large fs values program i s.unit s least greatest st (has_zero s.processor program.bound bounded) card n e)
-        (λ e. matches_constant fs values program i s.unit s least greatest st card n e (up_to_bound s.processor program.bound bounded n e))
+        (λ e. matches_constant fs values program i s.unit s least greatest st card n e (up_to_bound s.processor program.bound bounded n e)))
 
     pub matches_variable : (card : ℕ) (x : Name) → IsScalar s.unit Integer x → Matches (Same st (Of s.processor Integer)) (walk.read w card (now x)) (perform.variable s card x) st
     matches_variable card x h =

@@ -2,6 +2,7 @@
 use Rattle.std.specs.Prelude.{ℕ, ◌+◌, ◌<◌, ◌≤◌, ◌≡◌, true, pos, List, [], ◌∷◌, Some}
 use Rattle.formula.specs.declared.value.Cell.TheVariants.{Int}
 use Rattle.formula.specs.declared.value.Value.{Value}
+use Rattle.formula.specs.Values.{of_cell}
 use Rattle.fort_syntax.specs.declared.name.Name.{Name}
 use Rattle.fort_syntax.specs.declared.dialect.Sort.{Sort}
 use Rattle.fort_syntax.specs.declared.expr.Expr.{Expr}
@@ -17,7 +18,6 @@ use Rattle.fort_model.specs.Processor.{Processor}
 use Rattle.fort_model.specs.Seen.{Named}
 use Rattle.fort_model.specs.Storage.{Storage, Extent, Environment, load}
 use Rattle.fort_model.specs.WalkCalls.{Operand, Bare, Part, Computed}
-use Rattle.fort_laws.specs.Standing.{ActualOf}
 
 -- one cell of a data name
 pub record IsPart (u : Routine) (env : Environment) (x : Name) (e : Extent) : Type 0 where
@@ -74,11 +74,20 @@ IsOperandOf now e (Part v) = (x : Name) → e ≡ Var x → ⊥
 IsOperandOf now e (Computed v) = (x : Name) → e ≡ Var x → ⊥
 
 module _ (s : Scene) (st : Storage) (now : Named Value) where
+  -- an actual is taken unread
+  abbrev pub ActualOf : Operand Value → Taken → Type 0
+  ActualOf (Bare x v) (Cells e) = (e ≡ s.environment x) × (v ≡ now x)
+  ActualOf (Bare x v) (Fresh c) = ⊥
+  ActualOf (Part v) (Cells e) = v ≡ of_cell (load st e.first)
+  ActualOf (Part v) (Fresh c) = ⊥
+  ActualOf (Computed v) (Cells e) = ⊥
+  ActualOf (Computed v) (Fresh c) = v ≡ of_cell c
+
   -- an actual, its operand on a walk, and what a run takes for it
   pub record IsPassed (e : Expr) (o : Operand Value) (t : Taken) : Type 0 where
     pub taken : IsTakenAs s.environment (IsPart s.unit s.environment) e t
     pub operand : IsOperandOf now e o
-    pub value : ActualOf s st now o t
+    pub value : ActualOf o t
     pub sort : Sort
     pub sort_is : sort_of_expr s.unit e ≡ Some sort
     pub holds : HoldsSort s.processor st sort t

@@ -16,6 +16,7 @@ use Rattle.fort_model.specs.Symbols.{Symbol, LeastInteger, GreatestInteger, AtEn
 use Rattle.fort_model.specs.Walk.{at_entry, entry_facts, smashed_in_order, walk_from, walk}
 use Rattle.fort_model.specs.WalkPlaces.{sorts}
 use Rattle.fort_model.specs.Storage.{Storage}
+use Rattle.fort_laws.specs.Called.{IsReferenceTo, IsCallTo}
 use Rattle.fort_laws.specs.GoodStatements.{Stood, HasScalarDims, ReferencesMatch, CallStatementsMatch, IsGood}
 use Rattle.fort_laws.specs.Matches.{AllTrue}
 use Rattle.fort_laws.specs.Segments.{NoCheckFails, seen, KeepsUnsmashed}
@@ -63,12 +64,12 @@ PathsMakeAssertsSafe =
 -- match, statements to be good, and what is taken at the entry to be true.
 abbrev pub SafePathsEnd : Type 0
 SafePathsEnd =
-    (fs : List Function) (values : Symbol → Value) (program : Program) (i : ℕ) (s : Scene) (is_reference : Sort → Name → Bool) (is_call : Name → List Expr → Bool)
+    (fs : List Function) (values : Symbol → Value) (program : Program) (i : ℕ) (s : Scene)
     → values LeastInteger ≡ Int s.processor.least → values GreatestInteger ≡ Int s.processor.greatest → s.processor.lazy ≡ false
     → MeetsBound s.processor program.bound
     → s.processor.dialect ≡ program.dialect → HasScalarDims s.unit s.environment
-    → ReferencesMatch fs values program i s (run s.processor s.units) (λ q a. is_reference q a ≡ true) → CallStatementsMatch fs values program i s (run s.processor s.units) (λ g args. is_call g args ≡ true)
-    → ((pc : ℕ) (line : Line) → slice_get s.unit.lines pc ≡ Some line → IsGood s.unit s.environment (λ q a. is_reference q a ≡ true) (λ g args. is_call g args ≡ true) pc line.stmt)
+    → ReferencesMatch fs values program i s (run s.processor s.units) (IsReferenceTo program i s.unit) → CallStatementsMatch fs values program i s (run s.processor s.units) (IsCallTo program i s.unit)
+    → ((pc : ℕ) (line : Line) → slice_get s.unit.lines pc ≡ Some line → IsGood s.unit s.environment (IsReferenceTo program i s.unit) (IsCallTo program i s.unit) pc line.stmt)
     → IsCutUp program.dialect s.unit (notes_of program i)
     → HoldsSmashed program → slice_get program.units i ≡ Some s.unit → BlocksAreCommon s.unit
     → (parts : ℕ) → ClocksHave fs values program i s parts

@@ -36,8 +36,10 @@ use Rattle.fort_model.specs.Trees.{carried, row_of}
 use Rattle.fort_model.specs.WalkCalls as walk
 use Rattle.fort_model.specs.WalkCalls.{Operand}
 use Rattle.fort_model.specs.WalkStmt.{performed}
+use Rattle.fort_laws.specs.Actuals.{ArePassed}
+use Rattle.fort_laws.specs.Called.{IsReferenceTo, IsCallTo}
 use Rattle.fort_laws.specs.Matches.{Matches}
-use Rattle.fort_laws.specs.Standing.{Standing, ActualsOf, CallsMatch}
+use Rattle.fort_laws.specs.Standing.{Standing, CallsMatch}
 use Rattle.fort_laws.specs.StepMatches.{StepMatches}
 use Rattle.fort_laws.specs.Typed.{IsScalar, IsArray, IsTyped, AreInteger, AreActual, row_length}
 use Rattle.fort_laws.specs.Ways.{IsExecutable}
@@ -94,7 +96,7 @@ AreGoodLoops u env (d ∷ ds) = IsGoodLoop u env d × AreGoodLoops u env ds
 
 -- ---- statements
 
-module _ (u : Routine) (env : Environment) (IsReference : Sort → Name → Type 0) (IsCall : Name → List Expr → Type 0) where
+module _ (u : Routine) (env : Environment) (IsReference : Sort → Name → List Expr → Type 0) (IsCall : Name → List Expr → Type 0) where
   -- the left side of an assignment: a scalar or an element of a type, whose name may be written
   pub record IsGoodElement (q : Sort) (a : Name) {m : Count} (args : Row_of-Expr m) : Type 0 where
     pub dim : Dim
@@ -148,15 +150,15 @@ module _ (fs : List Function) (values : Symbol → Value) (program : Program) (i
   abbrev pub CallStatementsMatch : (Name → List Expr → Type 0) → Type 0
   CallStatementsMatch IsCall =
       (st : Storage) (now : Named Value) → Stood s.processor s.unit s.environment now st
-      → (card k : ℕ) (g : Name) (args : List Expr) (xs : List (Operand Value)) (ts : List Taken) → IsCall g args → ActualsOf s st now xs ts
+      → (card k : ℕ) (g : Name) (args : List Expr) (xs : List (Operand Value)) (ts : List Taken) → IsCall g args → ArePassed s st now args xs ts
       → Matches (λ r c after. Stood s.processor s.unit s.environment (r.0) after) (walk.call (sight (of_values fs values) program i s.unit) card (subroutine program.units g) now xs)
       (call caller s.environment (unit_at s.units (subroutine s.units g)) (passed (s.processor.copies s.unit.name k) 1 ts)) st
 
-  abbrev pub ReferencesMatch : (Sort → Name → Type 0) → Type 0
+  abbrev pub ReferencesMatch : (Sort → Name → List Expr → Type 0) → Type 0
   ReferencesMatch IsReference = (st : Storage) (now : Named Value) → Stood s.processor s.unit s.environment now st → CallsMatch fs values program i s caller st now IsReference
 
   -- a statement at a point, by choices that lead on
-  abbrev pub StatementsStep : (Sort → Name → Type 0) → (Name → List Expr → Type 0) → Type 0
+  abbrev pub StatementsStep : (Sort → Name → List Expr → Type 0) → (Name → List Expr → Type 0) → Type 0
   StatementsStep IsReference IsCall =
       (st : Storage) (now : Named Value) → Stood s.processor s.unit s.environment now st
       → (stmt : Stmt) (card pc k : ℕ) → IsGood s.unit s.environment IsReference IsCall pc stmt
@@ -164,12 +166,12 @@ module _ (fs : List Function) (values : Symbol → Value) (program : Program) (i
       (perform s caller card pc k stmt) (Stood s.processor s.unit s.environment) st
 
 -- On a strict processor of the program's dialect that has all integers up to the bound, where named values stand for cells and calls
--- match, all statements do. Which references and CALLs there are is told by tests.
+-- match, all statements do.
 abbrev pub StatementsMatch : Type 0
 StatementsMatch =
-    (fs : List Function) (values : Symbol → Value) (program : Program) (i : ℕ) (s : Scene) (caller : Caller) (is_reference : Sort → Name → Bool) (is_call : Name → List Expr → Bool)
+    (fs : List Function) (values : Symbol → Value) (program : Program) (i : ℕ) (s : Scene) (caller : Caller)
     → values LeastInteger ≡ Int s.processor.least → values GreatestInteger ≡ Int s.processor.greatest → s.processor.lazy ≡ false
     → MeetsBound s.processor program.bound
     → s.processor.dialect ≡ program.dialect → HasScalarDims s.unit s.environment
-    → ReferencesMatch fs values program i s caller (λ q a. is_reference q a ≡ true) → CallStatementsMatch fs values program i s caller (λ g args. is_call g args ≡ true)
-    → StatementsStep fs values program i s caller (λ q a. is_reference q a ≡ true) (λ g args. is_call g args ≡ true)
+    → ReferencesMatch fs values program i s caller (IsReferenceTo program i s.unit) → CallStatementsMatch fs values program i s caller (IsCallTo program i s.unit)
+    → StatementsStep fs values program i s caller (IsReferenceTo program i s.unit) (IsCallTo program i s.unit)

@@ -28,6 +28,8 @@ use Rattle.fort_model.specs.Symbols.{Symbol, LeastInteger, GreatestInteger}
 use Rattle.fort_model.specs.WalkCalls as walk_call
 use Rattle.fort_model.specs.WalkCalls.{Sight, Operand, Bare, Part, Computed}
 use Rattle.fort_model.specs.WalkExpr as walk
+use Rattle.fort_laws.specs.Actuals.{ArePassed}
+use Rattle.fort_laws.specs.Called.{IsReferenceTo}
 use Rattle.fort_laws.specs.Matches.{Matches, Same}
 use Rattle.fort_laws.specs.Typed.{IsTyped}
 
@@ -66,33 +68,17 @@ module _ (s : Scene) (st : Storage) (now : Named Value) where
   abbrev pub OperandOf : Sort → Operand Value → Taken → Type 0
   OperandOf q (Bare x v) (Cells e) = (e ≡ s.environment x) × (v ≡ now x) × (v ≡ of_cell (load st e.first)) × MayBe s.processor q (load st e.first)
   OperandOf q (Bare x v) (Fresh c) = ⊥
-  OperandOf q (Part v) (Cells e) = (v ≡ of_cell (load st e.first)) × MayBe s.processor q (load st e.first)
+  OperandOf q (Part v) (Cells e) = (v ≡ of_cell (load st e.first)) × MayBe s.processor q (load st e.first) × (e.size ≡ 1)
   OperandOf q (Part v) (Fresh c) = ⊥
   OperandOf q (Computed v) (Cells e) = ⊥
   OperandOf q (Computed v) (Fresh c) = Of s.processor q v c
 
-  -- an actual is taken unread
-  abbrev pub ActualOf : Operand Value → Taken → Type 0
-  ActualOf (Bare x v) (Cells e) = (e ≡ s.environment x) × (v ≡ now x)
-  ActualOf (Bare x v) (Fresh c) = ⊥
-  ActualOf (Part v) (Cells e) = v ≡ of_cell (load st e.first)
-  ActualOf (Part v) (Fresh c) = ⊥
-  ActualOf (Computed v) (Cells e) = ⊥
-  ActualOf (Computed v) (Fresh c) = IsOf v c
-
-  -- operands and what is taken for them
-  abbrev pub ActualsOf : List (Operand Value) → List Taken → Type 0
-  ActualsOf [] [] = Unit {0}
-  ActualsOf [] (t ∷ ts) = ⊥
-  ActualsOf (x ∷ xs) [] = ⊥
-  ActualsOf (x ∷ xs) (t ∷ ts) = ActualOf x t × ActualsOf xs ts
-
 module _ (fs : List Function) (values : Symbol → Value) (program : Program) (i : ℕ) (s : Scene) (caller : Caller) (st : Storage) (now : Named Value)
-    (IsReference : Sort → Name → Type 0) where
+    (IsReference : Sort → Name → List Expr → Type 0) where
   -- what is wanted of a reference: its walk and its run match, and leave the storage as it is
   abbrev pub CallsMatch : Type 0
   CallsMatch =
-      (card k : ℕ) (q : Sort) (a : Name) (xs : List (Operand Value)) (ts : List Taken) → IsReference q a → ActualsOf s st now xs ts
+      (card k : ℕ) (q : Sort) (a : Name) (es : List Expr) (xs : List (Operand Value)) (ts : List Taken) → IsReference q a es → ArePassed s st now es xs ts
       → Matches (Same st (λ r c. Of s.processor q (r.1) c)) (walk_call.call (sight (of_values fs values) program i s.unit) card (function program.units a) now xs)
       (call caller s.environment (unit_at s.units (function s.units a)) (passed (s.processor.copies s.unit.name k) 1 ts)) st
 
@@ -104,12 +90,11 @@ module _ (fs : List Function) (values : Symbol → Value) (program : Program) (i
       → Matches (Same st (Of s.processor q)) (walk.value (sight (of_values fs values) program i s.unit) card now e) (run.evaluate s caller card k e) st
 
 -- On a strict processor that has all integers up to the bound, where named values stand for cells and references to functions
--- match, all expressions do. What references there are is told by a test.
+-- match, all expressions do.
 abbrev pub ExpressionsMatch : Type 0
 ExpressionsMatch =
     (fs : List Function) (values : Symbol → Value) (program : Program) (i : ℕ) (s : Scene) (caller : Caller) (st : Storage) (now : Named Value)
-    (is_reference : Sort → Name → Bool)
     → values LeastInteger ≡ Int s.processor.least → values GreatestInteger ≡ Int s.processor.greatest → s.processor.lazy ≡ false
     → MeetsBound s.processor program.bound
     → Standing s.processor s.unit s.environment st now
-    → CallsMatch fs values program i s caller st now (λ q a. is_reference q a ≡ true) → ExpressionMatches fs values program i s caller st now (λ q a. is_reference q a ≡ true)
+    → CallsMatch fs values program i s caller st now (IsReferenceTo program i s.unit) → ExpressionMatches fs values program i s caller st now (IsReferenceTo program i s.unit)

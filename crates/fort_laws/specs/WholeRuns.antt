@@ -21,6 +21,7 @@ use Rattle.fort_syntax.specs.declared.unit.Unit.{Unit as Routine}
 use Rattle.fort_model.specs.Storage.{Storage}
 use Rattle.fort_model.specs.Symbols.{Symbol, LeastInteger, GreatestInteger}
 use Rattle.fort_model.specs.Walk.{arrive, at_entry, walk_from}
+use Rattle.fort_laws.specs.Called.{IsReferenceTo, IsCallTo}
 use Rattle.fort_laws.specs.GoodStatements.{Stood, HasScalarDims, ReferencesMatch, CallStatementsMatch, IsGood}
 use Rattle.fort_laws.specs.Matches.{AllTrue}
 use Rattle.fort_laws.specs.Segments.{NoCheckFails, seen, IsSafe, KeepsUnsmashed, StatementsKeep}
@@ -67,12 +68,12 @@ module _ (fs : List Function) (values : Symbol → Value) (program : Program) (i
 -- from a point from which no way fails comes to the end of the unit.
 abbrev pub SafeRunsEnd : Type 0
 SafeRunsEnd =
-    (fs : List Function) (values : Symbol → Value) (program : Program) (i : ℕ) (s : Scene) (is_reference : Sort → Name → Bool) (is_call : Name → List Expr → Bool)
+    (fs : List Function) (values : Symbol → Value) (program : Program) (i : ℕ) (s : Scene)
     → values LeastInteger ≡ Int s.processor.least → values GreatestInteger ≡ Int s.processor.greatest → s.processor.lazy ≡ false
     → MeetsBound s.processor program.bound
     → s.processor.dialect ≡ program.dialect → HasScalarDims s.unit s.environment
-    → ReferencesMatch fs values program i s (run s.processor s.units) (λ q a. is_reference q a ≡ true) → CallStatementsMatch fs values program i s (run s.processor s.units) (λ g args. is_call g args ≡ true)
-    → ((pc : ℕ) (line : Line) → slice_get s.unit.lines pc ≡ Some line → IsGood s.unit s.environment (λ q a. is_reference q a ≡ true) (λ g args. is_call g args ≡ true) pc line.stmt)
+    → ReferencesMatch fs values program i s (run s.processor s.units) (IsReferenceTo program i s.unit) → CallStatementsMatch fs values program i s (run s.processor s.units) (IsCallTo program i s.unit)
+    → ((pc : ℕ) (line : Line) → slice_get s.unit.lines pc ≡ Some line → IsGood s.unit s.environment (IsReferenceTo program i s.unit) (IsCallTo program i s.unit) pc line.stmt)
     → IsCutUp program.dialect s.unit (notes_of program i) → StatementsKeep fs values program i s
     → (parts : ℕ) → ClocksHave fs values program i s parts → AssertsAreSafe fs values program i s
     → (pc : ℕ) (now : Named Value) (st : Storage) → Stood s.processor s.unit s.environment now st → KeepsUnsmashed fs values program i s now
