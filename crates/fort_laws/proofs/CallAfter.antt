@@ -1,5 +1,5 @@
 -- A call on a walk and in a run: what names stand for at the callee's entry and end, and in the caller afterwards.
-use Rattle.std.proofs.Common.{◌≡◌, ◌≢◌, ℕ, zero, suc, ◌+◌, ◌<◌, ◌≤◌, ◌⊎◌, inl, inr, Bool, true, false, cond, ◌&&◌, pos, List, [], ◌∷◌, ◌++◌, map, length, take, Option, Some, None, slice_get, refl, sym, ap, ◌∙◌, subst, arith}
+use Rattle.std.proofs.Common.{◌≡◌, ◌≢◌, ℕ, zero, suc, ◌+◌, ◌<◌, ◌≤◌, ◌⊎◌, inl, inr, Bool, true, false, cond, ◌&&◌, pos, List, [], ◌∷◌, ◌++◌, map, length, take, Option, Some, None, slice_get, refl, sym, ap, ◌∙◌, subst, arith, ext_get_or}
 use Rattle.std.specs.List.{filter}
 use Rattle.formula.specs.declared.value.Cell.{Cell}
 use Rattle.formula.specs.declared.value.Cell.TheVariants as cell
@@ -290,6 +290,19 @@ module _ (program : Program) (i j : ℕ) (c : Calls program.units i j) (of_calle
     pub left_placed : IsPlaced program.units i c.caller env left
     left_placed = still_placed program.units i c.caller of_caller env st placed left
         (left_frame.0, λ k lt closed. left_frame.1 k lt (λ m. closed (record { its = m.0; among = m.1; smashed = hit_smashes m.0.name m.2; cell = m.3 })))
+
+    -- where the called unit smashes nothing, nothing is changed
+    pub left_kept : ((d : DataName) → IsVisible g d → Smashes program.units j d.name → ⊥) → left ≡ st
+    left_kept none = ext_get_or cell.Undefined left st left_frame.0 (λ k lt. left_frame.1 k (let l = left_frame.0 in omega arith) (λ m. none_hit m.0.name m.2))
+      where
+        none_hit : (y : Name) → Hit y → ⊥
+        none_hit y (by_dummy n d e s a) =
+            let has : HasName g d = names.dummies n d e in
+            let r : has.its.role ≡ Dummy = of_callee.roles has.its has.among (n, e ∙ ap Some (sym has.name)) in
+            none has.its (visible_dummy has.its has.among r) (subst (λ (z : Name). Smashes program.units j z) (sym has.name) s)
+        none_hit y (by_common h s) =
+            let d = common_data y h in
+            none d.0 (visible_common d.0 d.1 d.3) (subst (λ (z : Name). Smashes program.units j z) (sym d.2) s)
 
     unhit_cells : (d : DataName) → IsAmong d c.caller.names → (Hit d.name → ⊥) → SameCells left st (env d.name) (env d.name)
     unhit_cells d m n = record {

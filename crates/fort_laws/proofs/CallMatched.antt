@@ -19,7 +19,7 @@ use Rattle.fort_model.specs.Conditions.{sight}
 use Rattle.fort_model.specs.Correct.{held_in, IsMet, names_hold}
 use Rattle.fort_model.specs.Evaluate.{Scene}
 use Rattle.fort_model.specs.Events.{checks, takes}
-use Rattle.fort_model.specs.Fits.{IsApart, has_sort}
+use Rattle.fort_model.specs.Fits.{IsVisible, IsApart, has_sort}
 use Rattle.fort_model.specs.Lists.{IsAmong}
 use Rattle.fort_model.specs.Names.{data_name, unit_at}
 use Rattle.fort_model.specs.Outcome.{Outcome, Ended, and_then}
@@ -30,7 +30,7 @@ use Rattle.fort_model.specs.Program.{Program, notes_of}
 use Rattle.fort_model.specs.Run.{run}
 use Rattle.fort_model.specs.Seen.{Named, Answers}
 use Rattle.fort_model.specs.Senses.{of_values}
-use Rattle.fort_model.specs.Smashes.{HoldsSmashed}
+use Rattle.fort_model.specs.Smashes.{Smashes, HoldsSmashed}
 use Rattle.fort_model.specs.Storage.{Storage, Environment, load}
 use Rattle.fort_model.specs.Symbols.{Symbol, LeastInteger, GreatestInteger}
 use Rattle.fort_model.specs.WalkCalls as walk
@@ -42,9 +42,10 @@ use Rattle.fort_laws.specs.Frame.{IsPlaced, AreSound, SharesBlocks, IsSmashedCel
 use Rattle.fort_laws.specs.GoodStatements.{Stood}
 use Rattle.fort_laws.specs.Matches.{AllTrue, FirstFails, of_callee, Matches, moves, fails}
 use Rattle.fort_laws.specs.Standing.{MayBe}
-use Rattle.fort_laws.proofs.CallAfter.{fit, cells_in, begun, entry_fits, entry_seen, left, hit_names, new_names, after_names, left_frame, left_placed, left_sorted, left_named, new_result, after_seen}
+use Rattle.fort_laws.proofs.CallAfter.{fit, cells_in, begun, entry_fits, entry_seen, left, hit_names, new_names, after_names, left_frame, left_placed, left_sorted, left_named, left_kept, new_result, after_seen}
 use Rattle.fort_laws.proofs.CallNames.{data_name_is, notes_same}
 use Rattle.fort_laws.proofs.CallSorts.{cell_sorted, sorts_true}
+use Rattle.fort_laws.proofs.CallStood.{stood_sorted, stood_placed}
 use Rattle.fort_laws.proofs.FrameCalls.{runs_change_only_smashed}
 use Rattle.fort_laws.proofs.FrameParts.{one_cell}
 use Rattle.fort_laws.proofs.FrameSeats.{callee_apart, callee_shapes}
@@ -117,7 +118,7 @@ module _ (values : Symbol → Value) (program : Program) (p : Processor) (i j : 
       (p.copies c.caller.name k) os xs passing
 
   abbrev Q : Named Value × Value → Cell → Storage → Type 0
-  Q = Leaves program i here c.callee.sort
+  Q = Leaves program c p env st
 
   -- ---- where INPUT holds
 
@@ -190,13 +191,18 @@ module _ (values : Symbol → Value) (program : Program) (p : Processor) (i j : 
     output_true : AllTrue (takes (notes_told w before (seen_by w c.callee (map (stands_after w after) os) after (answer c.callee.name)) (notes_of program j).output))
     output_true = all_taken _ (ap (list_all holds) (notes_same program.functions values p least greatest _ _ _ _ seen_at_entry seen_at_end (notes_of program j).output) ∙ ends.met)
 
+    -- where the called unit smashes nothing, nothing is changed
+    final_kept : ((d : DataName) → IsVisible c.callee d → Smashes program.units j d.name → ⊥) → final ≡ st
+    final_kept none = left_kept program i j c (sound.units_are i c.caller c.is_caller) (sound.units_are j c.callee c.is_callee) (sound.calls_are i j c) table blocks agree names program.functions values p env st now stood sorted placed
+        (p.copies c.caller.name k) os xs passing ends.after ends.value frame.0 frame.1 ends.sorts ends.nothing none
+
     call_moves : list_all holds (notes_told w before before (notes_of program j).input) ≡ true
         → Matches Q (walk.call_in w card j (Some c.callee) now os) (call (run p program.units) env (Some c.callee) (passed (p.copies c.caller.name k) 1 xs)) st
     call_moves t = moves (in_front answer) (after, answer c.callee.name) ends.value final ends.cost
         (λ answers. all_true_append _ _ (all_checked InputCheck card _ t) (all_true_append _ _ sorts_are_true (all_true_append _ _ (result_true c.callee.sort refl) (all_true_append _ _ output_true tt))))
         (λ answers. refl) (λ answers. refl)
         (λ n. ap (λ (o : Outcome Cell). and_then o (λ value last more. Ended value (take (length st) (written_back (passed (p.copies c.caller.name k) 1 xs) (length st) last)) more)) (ends.ends n))
-        (record { stood = final_stood; sorts = final_sorted; placed = final_placed; is = answered; sorted = ends.result })
+        (record { stood = final_stood; is = answered; sorted = ends.result; kept = final_kept })
 
   -- ---- the call
 
@@ -214,5 +220,7 @@ module _ (values : Symbol → Value) (program : Program) (p : Processor) (i j : 
       (subst (λ (o : Option Routine). Matches Q (walk.call_in w card j o now os) (call (run p program.units) env o (passed (p.copies c.caller.name k) 1 xs)) st) (sym c.is_callee) call_one)
 
 pub calls_are_matched : CallsAreMatched
-calls_are_matched values program p i j c env least greatest sound table blocks agree names right st now stood sorted placed card k os ts passing =
-    call_matches values program p i j c env least greatest sound table blocks agree names right st now stood sorted placed card k os ts passing
+calls_are_matched values program p i j c env least greatest sound table blocks agree names right apart st now stood card k os ts passing =
+    call_matches values program p i j c env least greatest sound table blocks agree names right st now stood
+    (stood_sorted program.units i c.caller (sound.units_are i c.caller c.is_caller) p env st now stood)
+    (stood_placed program.units i c.caller (sound.units_are i c.caller c.is_caller) p env st now stood apart) card k os ts passing

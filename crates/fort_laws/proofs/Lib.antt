@@ -9,6 +9,7 @@ pub mod CallMatched
 pub mod CallNames
 pub mod CallPassed
 pub mod CallSorts
+pub mod CallStood
 pub mod Descents
 pub mod Exact
 pub mod Falling
@@ -43,6 +44,7 @@ pub mod Tied
 pub mod TiedParts
 pub mod TiedRuns
 pub mod Unfolding
+pub mod UnitCalls
 pub mod ValidPaths
 pub mod WalkKeeps
 pub mod Written

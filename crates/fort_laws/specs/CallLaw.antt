@@ -1,5 +1,5 @@
 -- The law of calls: a called unit that ends well makes the walk and the run of a call match.
-use Rattle.std.specs.Prelude.{ℕ, ◌+◌, ◌<◌, ◌≡◌, ◌≢◌, Bool, true, false, List, length, Option, Some, slice_get}
+use Rattle.std.specs.Prelude.{ℕ, ◌+◌, ◌<◌, ◌≡◌, ◌≢◌, Bool, true, false, List, Some, slice_get}
 use Rattle.formula.specs.declared.value.Cell.{Cell}
 use Rattle.formula.specs.declared.value.Cell.TheVariants as cell
 use Rattle.formula.specs.declared.value.Value.{Value}
@@ -16,7 +16,7 @@ use Rattle.fort_model.specs.Cells.{is_defined}
 use Rattle.fort_model.specs.Conditions.{sight}
 use Rattle.fort_model.specs.Correct.{IsMet, names_hold}
 use Rattle.fort_model.specs.Evaluate.{Scene}
-use Rattle.fort_model.specs.Fits.{IsVisible, IsApart, Fits, has_sort}
+use Rattle.fort_model.specs.Fits.{IsIn, IsVisible, IsApart, Fits, has_sort}
 use Rattle.fort_model.specs.Lists.{IsAmong}
 use Rattle.fort_model.specs.Names.{is_function, unit_at}
 use Rattle.fort_model.specs.Outcome.{Ended}
@@ -32,8 +32,9 @@ use Rattle.fort_model.specs.Symbols.{Symbol, LeastInteger, GreatestInteger}
 use Rattle.fort_model.specs.WalkCalls as walk
 use Rattle.fort_model.specs.WalkCalls.{Operand}
 use Rattle.fort_laws.specs.Actuals.{ArePassed}
-use Rattle.fort_laws.specs.Frame.{HasName, IsPlaced, AreSound, SharesBlocks}
-use Rattle.fort_laws.specs.GoodStatements.{Stood}
+use Rattle.fort_laws.specs.Frame.{HasName, AreSound, SharesBlocks, FunctionsSmashNothing}
+use Rattle.fort_laws.specs.Called.{IsReferenceTo, IsCallTo}
+use Rattle.fort_laws.specs.GoodStatements.{Stood, ReferencesMatch, CallStatementsMatch}
 use Rattle.fort_laws.specs.Matches.{Matches}
 use Rattle.fort_laws.specs.Standing.{IsOf}
 
@@ -81,25 +82,48 @@ IsRight p program j g =
 
 -- ---- the law
 
--- what a call leaves: named values stand for cells, names hold things of their types in their places, and the walk's value of a
--- function is that of the run, of its type
-pub record Leaves (program : Program) (i : ℕ) (s : Scene) (result : Option Sort) (r : Named Value × Value) (c : Cell) (after : Storage) : Type 0 where
-  pub stood : Stood s.processor s.unit s.environment (r.0) after
-  pub sorts : (d : DataName) → IsAmong d s.unit.names → HoldsName s.processor s.environment after d
-  pub placed : IsPlaced program.units i s.unit s.environment after
-  pub is : IsOf (r.1) c
-  pub sorted : (q : Sort) → result ≡ Some q → (is_defined c ≡ true) × (has_sort s.processor q c ≡ true)
+-- a unit of a program, on a processor, with its environment
+abbrev pub at_home : Processor → Program → Routine → Environment → Scene
+at_home p program u env = record { processor = p; units = program.units; unit = u; environment = env }
 
--- On a processor, in a program whose units and calls are sound and agree in types: where named values stand for cells that hold
--- things of their types, and a called unit is right, the walk and the run of a call match, whichever arguments pass by copy.
+-- cells of a name that the unit smashes are those of no other name of it
+abbrev pub LieApart : List Routine → ℕ → Routine → Environment → Type 0
+LieApart units i u env =
+    (d e : DataName) → IsAmong d u.names → IsAmong e u.names → Smashes units i d.name → d.name ≢ e.name → (k : ℕ) → IsIn k (env d.name) → IsIn k (env e.name) → ⊥
+
+-- What a call leaves: named values stand for cells; the walk's value of a function is that of the run, of its type; and where the
+-- called unit smashes no name that the caller sees, the storage is as it was.
+pub record Leaves (program : Program) {i j : ℕ} (c : Calls program.units i j) (p : Processor) (env : Environment) (st : Storage) (r : Named Value × Value) (v : Cell) (after : Storage) : Type 0 where
+  pub stood : Stood p c.caller env (r.0) after
+  pub is : IsOf (r.1) v
+  pub sorted : (q : Sort) → c.callee.sort ≡ Some q → (is_defined v ≡ true) × (has_sort p q v ≡ true)
+  pub kept : ((d : DataName) → IsVisible c.callee d → Smashes program.units j d.name → ⊥) → after ≡ st
+
+-- On a processor, in a program whose units and calls are sound and agree: where named values stand for cells, and a called unit is
+-- right, the walk and the run of a call match, whichever arguments pass by copy.
 abbrev pub CallsAreMatched : Type 0
 CallsAreMatched =
     (values : Symbol → Value) (program : Program) (p : Processor) (i j : ℕ) (c : Calls program.units i j) (env : Environment)
     → values LeastInteger ≡ Int p.least → values GreatestInteger ≡ Int p.greatest
-    → AreSound program.units → HoldsSmashed program → SharesBlocks program.units → Agrees c → HasNames c.callee → IsRight p program j c.callee
-    → let s : Scene = record { processor = p; units = program.units; unit = c.caller; environment = env } in
-    (st : Storage) (now : Named Value) → Stood p c.caller env now st → ((d : DataName) → IsAmong d c.caller.names → HoldsName p env st d) → IsPlaced program.units i c.caller env st
-    → (card k : ℕ) (os : List (Operand Value)) (ts : List Taken) → ArePassed s st now c.site.actuals os ts
-    → Matches (Leaves program i s c.callee.sort) (walk.call (sight (of_values program.functions values) program i c.caller) card (callee_of program.units c.site) now os)
+    → AreSound program.units → HoldsSmashed program → SharesBlocks program.units → Agrees c → HasNames c.callee → IsRight p program j c.callee → LieApart program.units i c.caller env
+    → (st : Storage) (now : Named Value) → Stood p c.caller env now st
+    → (card k : ℕ) (os : List (Operand Value)) (ts : List Taken) → ArePassed (at_home p program c.caller env) st now c.site.actuals os ts
+    → Matches (Leaves program c p env st) (walk.call (sight (of_values program.functions values) program i c.caller) card (callee_of program.units c.site) now os)
     (call (run p program.units) env (unit_at program.units (callee_of program.units c.site)) (passed (p.copies c.caller.name k) 1 ts)) st
 
+-- ---- the calls of a unit
+
+-- the calls of a unit agree with the units that they are of, which are right
+pub record CallsAreRight (p : Processor) (program : Program) (i : ℕ) : Type 0 where
+  pub agrees : (j : ℕ) (c : Calls program.units i j) → Agrees c
+  pub names : (j : ℕ) (c : Calls program.units i j) → HasNames c.callee
+  pub right : (j : ℕ) (c : Calls program.units i j) → IsRight p program j c.callee
+
+-- then all references and CALLs of the unit match, as the laws of expressions and statements take it
+abbrev pub UnitCallsMatch : Type 0
+UnitCallsMatch =
+    (values : Symbol → Value) (program : Program) (p : Processor) (i : ℕ) (u : Routine) (env : Environment)
+    → values LeastInteger ≡ Int p.least → values GreatestInteger ≡ Int p.greatest
+    → AreSound program.units → HoldsSmashed program → SharesBlocks program.units → FunctionsSmashNothing program.units → CallsAreRight p program i → LieApart program.units i u env
+    → ReferencesMatch program.functions values program i (at_home p program u env) (run p program.units) (IsReferenceTo program i u)
+    × CallStatementsMatch program.functions values program i (at_home p program u env) (run p program.units) (IsCallTo program i u)

@@ -13,7 +13,7 @@ mod steps;
 mod symbols;
 mod ways;
 
-pub use calls::calls_are_matched;
+pub use calls::{calls_are_matched, unit_calls_match};
 pub use clocks::clocks_fall_only_so_often;
 pub use exactness::{
     checks_do_not_depend_on_values, conditions_are_exact, valid_conditions_make_paths_safe,
