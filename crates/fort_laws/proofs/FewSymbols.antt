@@ -224,7 +224,7 @@ paths_make_asserts_safe fs values program i s safe facts typed a q now st c stoo
 -- ---- whole runs of a unit
 
 pub safe_paths_end : SafePathsEnd
-safe_paths_end fs values program i s is_reference is_call least greatest strict bounded dialects dims references calls good cut table is_unit blocks parts same safe typed st facts stood =
-    safe_runs_end fs values program i s is_reference is_call least greatest strict bounded dialects dims references calls good cut
+safe_paths_end fs values program i s least greatest strict bounded dialects dims references calls good cut table is_unit blocks parts same safe typed st facts stood =
+    safe_runs_end fs values program i s least greatest strict bounded dialects dims references calls good cut
     (statements_keep fs values program i s table is_unit blocks) parts same (paths_make_asserts_safe fs values program i s safe facts typed)
     0 (at_entry (seen fs values program i s)) st stood (λ x h. refl) (paths_make_entries_safe fs values program i s safe facts)

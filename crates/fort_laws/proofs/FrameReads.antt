@@ -16,13 +16,14 @@ use Rattle.fort_model.specs.Passing.{Taken, passed, call}
 use Rattle.fort_model.specs.Processor.{Processor}
 use Rattle.fort_model.specs.Run.{run_within}
 use Rattle.fort_model.specs.Storage.{Storage, Environment, load}
+use Rattle.fort_laws.specs.Actuals.{IsPart, AreTakenAs}
 use Rattle.fort_laws.specs.Frame.{IsPlaced, AreSound, Changes, FunctionsSmashNothing, EvaluationChangesNothing}
 use Rattle.fort_laws.proofs.FrameCalls.{call_changes, call_frame}
-use Rattle.fort_laws.proofs.FrameClaims.{IsPart, IsCalled, RunFrame}
+use Rattle.fort_laws.proofs.FrameClaims.{IsCalled, RunFrame}
 use Rattle.fort_laws.proofs.FrameRuns.{frames, parts_lie}
 use Rattle.fort_laws.proofs.References.{sites_are_references}
 use Rattle.fort_laws.proofs.FrameSeats.{callee_apart, callee_shapes}
-use Rattle.fort_laws.proofs.Kept.{AllMatch, AreIn, element_at, Comes, Keeps, keeps_evaluate}
+use Rattle.fort_laws.proofs.Kept.{AreIn, element_at, Comes, Keeps, keeps_evaluate}
 
 -- ---- a reference to a FUNCTION, where these smash nothing
 
@@ -67,7 +68,7 @@ module _ (units : List Routine) (sound : AreSound units) (p : Processor) (harmle
   runs_at fuel = (frames units sound p (call_frame units sound p) fuel).0
 
   module _ (fuel i : ℕ) (u : Routine) (env : Environment) (st : Storage) (is : slice_get units i ≡ Some u) (placed : IsPlaced units i u env st) (site : CallSite) (called : IsCalled u site) (reference : site.reference ≡ true)
-      (copies : ℕ → Bool) (xs : List Taken) (fit : AllMatch env (IsPart u env) site.actuals xs) (n : ℕ) where
+      (copies : ℕ → Bool) (xs : List Taken) (fit : AreTakenAs env (IsPart u env) site.actuals xs) (n : ℕ) where
     still_unit : (j : ℕ) → callee_of units site ≡ Some j → (o : Option Routine) → slice_get units j ≡ o → IsStill st (call (run_within p units fuel) env o (passed copies 1 xs) st n)
     still_unit j q None e = tt
     still_unit j q (Some g) e =

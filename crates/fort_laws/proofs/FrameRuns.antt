@@ -19,11 +19,12 @@ use Rattle.fort_model.specs.Run.{run, run_within, from_point, leave, go_to, at_l
 use Rattle.fort_model.specs.Sites.{calls_before}
 use Rattle.fort_model.specs.Smashes.{Smashes, set_by, sets}
 use Rattle.fort_model.specs.Storage.{Storage, Extent, Environment}
+use Rattle.fort_laws.specs.Actuals.{IsPart, AreTakenAs}
 use Rattle.fort_laws.specs.Frame.{IsPlaced, HasName, IsSoundUnit, AreSound, IsSmashedCell, Changes}
-use Rattle.fort_laws.proofs.FrameClaims.{IsPart, IsCalled, RunFrame, CallFrame}
+use Rattle.fort_laws.proofs.FrameClaims.{IsCalled, RunFrame, CallFrame}
 use Rattle.fort_laws.proofs.FrameEnter.{SameOrNot, same, other, same_or_not, own_env, entered, entered_placed, seen_late, seen_left}
 use Rattle.fort_laws.proofs.FrameParts.{ArePositive, IsOpen, Framed, Late, framed_late, framed_writes, first_in, element_within, positive, still_shaped, still_placed, loops_set}
-use Rattle.fort_laws.proofs.Kept.{AllMatch, AreIn, element_at, Comes, Keeps, does_stuck, keeps_give, keeps_step, keeps_then, keeps_before, keeps_perform}
+use Rattle.fort_laws.proofs.Kept.{AreIn, element_at, Comes, Keeps, does_stuck, keeps_give, keeps_step, keeps_then, keeps_before, keeps_perform}
 
 -- the data name that is an array before a bracket
 named_in : (ds : List DataName) (f : Name) (d : Dim) (dims : List Dim) → dims_in (data_name_in ds f) ≡ d ∷ dims → (e : DataName) × IsAmong e ds × (e.name ≡ f) × (e.dims ≡ d ∷ dims)
@@ -113,7 +114,7 @@ module _ (units : List Routine) (sound : AreSound units) (p : Processor) (calls 
       cell = subst (λ (z : Name). IsIn e.first (env z)) (sym part.name) (part.low, let h = part.high in let one = part.one in omega arith);
     }
 
-    calls_keep : (site : CallSite) → IsCalled u site → (k : ℕ) (xs : List Taken) → AllMatch env (IsPart u env) site.actuals xs
+    calls_keep : (site : CallSite) → IsCalled u site → (k : ℕ) (xs : List Taken) → AreTakenAs env (IsPart u env) site.actuals xs
         → Keeps Kept After after (call (run_within p units fuel) env (unit_at units (callee_of units site))
         (passed (p.copies u.name k) 1 xs))
     calls_keep site called k xs fit = record {

@@ -1,6 +1,15 @@
 pub mod BothParts
 pub mod BothSenses
 pub mod BothWalks
+pub mod CallAfter
+pub mod CallBack
+pub mod CallEntry
+pub mod CallHits
+pub mod CallMatched
+pub mod CallNames
+pub mod CallPassed
+pub mod CallSorts
+pub mod CallStood
 pub mod DeclaredDecks
 pub mod DeclaredNames
 pub mod DeclaredTypes
@@ -18,6 +27,7 @@ pub mod FrameReads
 pub mod FrameRuns
 pub mod FrameSeats
 pub mod GoodLines
+pub mod InRange
 pub mod Kept
 pub mod MatchedAssignments
 pub mod MatchedExpressions
@@ -33,6 +43,7 @@ pub mod References
 pub mod RulesKept
 pub mod SafeRuns
 pub mod SameValues
+pub mod Small
 pub mod SpelledSymbols
 pub mod Stepping
 pub mod StorageLaws
@@ -41,6 +52,7 @@ pub mod Tied
 pub mod TiedParts
 pub mod TiedRuns
 pub mod Unfolding
+pub mod UnitCalls
 pub mod ValidPaths
 pub mod WalkKeeps
 pub mod Written

@@ -10,7 +10,7 @@ use Rattle.fort_model.specs.Lists.{IsAmong}
 use Rattle.fort_model.specs.Names.{Applied, Element, BuiltIn, Reference, applied}
 use Rattle.fort_model.specs.Trees.{only}
 
-among_either : {A : Type 0} (a : A) (xs ys : List A) → IsAmong a (xs ++ ys) → IsAmong a xs ⊎ IsAmong a ys
+pub among_either : {A : Type 0} (a : A) (xs ys : List A) → IsAmong a (xs ++ ys) → IsAmong a xs ⊎ IsAmong a ys
 among_either a [] ys m = inr m
 among_either a (x ∷ xs) ys (zero, e) = inl (0, e)
 among_either {A = A} a (x ∷ xs) ys (suc k, e) = one_up (among_either a xs ys (k, e))

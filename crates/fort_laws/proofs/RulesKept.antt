@@ -53,11 +53,11 @@ none_passes test [] x h m = absurd (cc)
 none_passes test (y ∷ ys) x h (zero, e) = let f : y ≡ x = cc in ap test (sym f) ∙ (neither (test y) (list_any test ys) h).0
 none_passes test (y ∷ ys) x h (suc k, e) = none_passes test ys x (neither (test y) (list_any test ys) h).1 (k, e)
 
-more_among : {A : Type 0} (t : Bool) (x y : A) (fewer : List A) → IsAmong x fewer → IsAmong x (cond t (y ∷ fewer) fewer)
+pub more_among : {A : Type 0} (t : Bool) (x y : A) (fewer : List A) → IsAmong x fewer → IsAmong x (cond t (y ∷ fewer) fewer)
 more_among true x y fewer m = (suc m.0, m.1)
 more_among false x y fewer m = m
 
-passes_filter : {A : Type 0} (test : A → Bool) (xs : List A) (x : A) → IsAmong x xs → test x ≡ true → IsAmong x (filter test xs)
+pub passes_filter : {A : Type 0} (test : A → Bool) (xs : List A) (x : A) → IsAmong x xs → test x ≡ true → IsAmong x (filter test xs)
 passes_filter test [] x m t = absurd (cc)
 passes_filter test (y ∷ ys) x (zero, e) t =
     let f : y ≡ x = cc in
@@ -253,7 +253,7 @@ some_dim x (d ∷ ds) (suc k, e) = either (is_dim x d) (list_any (is_dim x) ds) 
     either true b h = refl
     either false b h = h
 
-passes_any : {A : Type 0} (test : A → Bool) (xs : List A) (x : A) → IsAmong x xs → test x ≡ true → list_any test xs ≡ true
+pub passes_any : {A : Type 0} (test : A → Bool) (xs : List A) (x : A) → IsAmong x xs → test x ≡ true → list_any test xs ≡ true
 passes_any test xs x m t = not_not (list_any test xs) (is_false (not (list_any test xs)) (λ n. clash (test x) t (none_passes test xs x (is_false (list_any test xs) (λ y. clash (not (list_any test xs)) n (ap not y))) m)))
 
 module _ (p : Program) (keeps : KeepsRules p) (table : HoldsSmashed p) (declared : AreDeclared p.units) where

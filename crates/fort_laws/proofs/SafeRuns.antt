@@ -32,6 +32,7 @@ use Rattle.fort_model.specs.Symbols.{Symbol}
 use Rattle.fort_model.specs.Walk.{arrive, walk_from, fall, perform_line, go_on, at_entry, not_negative}
 use Rattle.fort_model.specs.WalkCalls.{Sight}
 use Rattle.fort_model.specs.WalkStmt.{performed}
+use Rattle.fort_laws.specs.Called.{IsReferenceTo, IsCallTo}
 use Rattle.fort_laws.specs.GoodStatements.{Stood, IsGood, StatementsStep}
 use Rattle.fort_laws.specs.Matches.{AllTrue, FirstFails}
 use Rattle.fort_laws.specs.Segments.{NoCheckFails, IsSafe, KeepsUnsmashed, StatementsKeep, Arrives, at_end, at_assert, SafeRunsArrive}
@@ -72,7 +73,7 @@ pub rest_safe : (es fs : List (Event Value)) → AllTrue es → NoCheckFails (es
 rest_safe es fs t n kind card f = n kind card (fails_later kind card es fs t f)
 
 -- a statement whose parts have their types is executable
-good_is_executable : (u : Routine) (env : Environment) (IsReference : Sort → Name → Type 0) (IsCall : Name → List Expr → Type 0) (pc : ℕ) (stmt : Stmt) → IsGood u env IsReference IsCall pc stmt → IsExecutable stmt
+good_is_executable : (u : Routine) (env : Environment) (IsReference : Sort → Name → List Expr → Type 0) (IsCall : Name → List Expr → Type 0) (pc : ℕ) (stmt : Stmt) → IsGood u env IsReference IsCall pc stmt → IsExecutable stmt
 good_is_executable u env IsReference IsCall pc (Assign left right) h = tt
 good_is_executable u env IsReference IsCall pc (GoTo label) h = tt
 good_is_executable u env IsReference IsCall pc (Computed [] x) h = absurd h.1
@@ -186,7 +187,7 @@ module _ (fs : List Function) (values : Symbol → Value) (program : Program) (i
         (true_all : (answers : Answers Value) → AllTrue (performed w line.card pc now line.stmt cs (pre answers)).events)
         (value : (answers : Answers Value) → (performed w line.card pc now line.stmt cs (pre answers)).value ≡ next)
         (rest : (answers : Answers Value) → (performed w line.card pc now line.stmt cs (pre answers)).rest ≡ answers)
-        (runs : (n : ℕ) → perform s (run s.processor s.units) line.card pc (calls_before s.unit pc) line.stmt st (cost + n) ≡ Ended cs after n) (stood : Stood s.unit s.environment next after)
+        (runs : (n : ℕ) → perform s (run s.processor s.units) line.card pc (calls_before s.unit pc) line.stmt st (cost + n) ≡ Ended cs after n) (stood : Stood s.processor s.unit s.environment next after)
         (kept : KeepsUnsmashed fs values program i s next) where
       -- behind the statement no check fails
       safe_on : (way : List (List ℕ)) (answers : Answers Value) → over_or program.dialect s.unit notes (cut_at s.unit notes q) way (IsWay program.dialect s.unit notes q way)
@@ -226,7 +227,7 @@ module _ (fs : List Function) (values : Symbol → Value) (program : Program) (i
           (subst (λ (k : Cut). NoCheckFails (arrive w clock line.card k next [])) c
           (safe_on [] no_answers (subst (λ (k : Cut). over_or program.dialect s.unit notes k [] (IsWay program.dialect s.unit notes q [])) (sym c) refl))))
 
-  module _ (IsReference : Sort → Name → Type 0) (IsCall : Name → List Expr → Type 0)
+  module _ (IsReference : Sort → Name → List Expr → Type 0) (IsCall : Name → List Expr → Type 0)
       (steps : StatementsStep fs values program i s (run s.processor s.units) IsReference IsCall)
       (good : (pc : ℕ) (line : Line) → slice_get s.unit.lines pc ≡ Some line → IsGood s.unit s.environment IsReference IsCall pc line.stmt)
       (cut : IsCutUp program.dialect s.unit notes) (keep : StatementsKeep fs values program i s) where
@@ -235,8 +236,8 @@ module _ (fs : List Function) (values : Symbol → Value) (program : Program) (i
 
     by_step : (clock : Option (List Value)) (pc : ℕ) (line : Line) (now : Named Value) (st : Storage) → slice_get s.unit.lines pc ≡ Some line → KeepsUnsmashed fs values program i s now → IsSafe fs values program i s clock pc now
         → StepMatches (λ (cs : List ℕ). cs) (leads s.processor.dialect s.unit pc line.stmt) (λ cs. performed w line.card pc now line.stmt cs)
-        (perform s (run s.processor s.units) line.card pc (calls_before s.unit pc) line.stmt) (Stood s.unit s.environment) st
-        → ((cs : List ℕ) (q : ℕ) → Edge program.dialect s.unit pc cs q → cut_at s.unit notes q ≡ NoCut → (next : Named Value) (after : Storage) → Stood s.unit s.environment next after
+        (perform s (run s.processor s.units) line.card pc (calls_before s.unit pc) line.stmt) (Stood s.processor s.unit s.environment) st
+        → ((cs : List ℕ) (q : ℕ) → Edge program.dialect s.unit pc cs q → cut_at s.unit notes q ≡ NoCut → (next : Named Value) (after : Storage) → Stood s.processor s.unit s.environment next after
         → KeepsUnsmashed fs values program i s next → IsSafe fs values program i s clock q next → Arrives fs values program i s clock q after)
         → Arrives fs values program i s clock pc st
     by_step clock pc line now st e kept safe (goes cs q to pre next after cost t v r runs stood) on =
@@ -248,13 +249,13 @@ module _ (fs : List Function) (values : Symbol → Value) (program : Program) (i
         (complete program.dialect s.unit notes executable pc (near_all program.dialect s.unit notes cut pc) line cs q e (to_walk clock pc line now st e safe cs q to)) (pre no_answers) kind card (f no_answers))
 
     arrives : (clock : Option (List Value)) (pc : ℕ) → Near program.dialect s.unit notes pc → (line : Line) (now : Named Value) (st : Storage) → slice_get s.unit.lines pc ≡ Some line
-        → Stood s.unit s.environment now st → KeepsUnsmashed fs values program i s now → IsSafe fs values program i s clock pc now → Arrives fs values program i s clock pc st
+        → Stood s.processor s.unit s.environment now st → KeepsUnsmashed fs values program i s now → IsSafe fs values program i s clock pc now → Arrives fs values program i s clock pc st
     arrives clock pc (near h) line now st e stood kept safe =
         by_step clock pc line now st e kept safe (steps st now stood line.stmt line.card pc (calls_before s.unit pc) (good pc line e))
         (λ cs q edge c next after stood2 kept2 safe2. let l = line_from program.dialect s.unit notes q c in arrives clock q (h cs q edge c) l.0 next after l.1 stood2 kept2 safe2)
 
 pub safe_runs_arrive : SafeRunsArrive
-safe_runs_arrive fs values program i s is_reference is_call least greatest strict bounded dialects dims references calls good cut keep clock pc line now st e stood kept safe =
-    arrives fs values program i s dialects (λ q a. is_reference q a ≡ true) (λ g args. is_call g args ≡ true)
-    (statements_match fs values program i s (run s.processor s.units) is_reference is_call least greatest strict bounded dialects dims references calls) good cut keep clock pc
+safe_runs_arrive fs values program i s least greatest strict bounded dialects dims references calls good cut keep clock pc line now st e stood kept safe =
+    arrives fs values program i s dialects (IsReferenceTo program i s.unit) (IsCallTo program i s.unit)
+    (statements_match fs values program i s (run s.processor s.units) least greatest strict bounded dialects dims references calls) good cut keep clock pc
     (near_all program.dialect s.unit (notes_of program i) cut pc) line now st e stood kept safe

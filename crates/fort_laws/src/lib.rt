@@ -1,6 +1,7 @@
 //! Laws of runs and walks: what holds of every deck.
 #![tactic(auto)]
 
+mod calls;
 mod clocks;
 mod decks;
 mod exactness;
@@ -13,6 +14,7 @@ mod steps;
 mod symbols;
 mod ways;
 
+pub use calls::{calls_are_matched, unit_calls_match};
 pub use clocks::clocks_fall_only_so_often;
 pub use decks::{
     blocks_are_common, clocks_are_equal, dimensions_are_scalars, statements_are_good,
