@@ -267,9 +267,12 @@ module _ (program : Program) (i j : ℕ) (c : Calls program.units i j) (of_calle
 
     may_actual : (d : DataName) → IsVisible g d → (t : SeatOf d.name) → Smashes program.units j d.name → (e : Extent) → t.taken ≡ Cells e → (k : ℕ) → IsIn k e → MayHit k
     may_actual d v t h e q k here2 =
-        let b = bare program.units i j c of_caller of_callee of_call env st placed copies xs fit d.name t h in
-        (b.has.its, b.has.among, by_dummy t.at d.name t.dummy h (t.is_actual ∙ ap Some (b.is ∙ ap Var (sym b.has.name))),
-        subst (λ (z : Extent). IsIn k z) (bare_cells program.units i j c of_caller of_callee of_call env st placed copies xs fit d.name t b e q) here2)
+        let b = bare program.units i j c of_caller of_callee of_call env st placed copies xs fit d.name t h in (
+          b.has.its,
+          b.has.among,
+          by_dummy t.at d.name t.dummy h (t.is_actual ∙ ap Some (b.is ∙ ap Var (sym b.has.name))),
+          subst (λ (z : Extent). IsIn k z) (bare_cells program.units i j c of_caller of_callee of_call env st placed copies xs fit d.name t b e q) here2,
+        )
 
     may_smashed : (d : DataName) → IsVisible g d → Smashes program.units j d.name → (k : ℕ) → k < length st → IsIn k (cells_in d.name) → MayHit k
     may_smashed d v h k lt here2 = by_root (root program.units i j c of_caller of_callee of_call env st placed copies xs fit d v)
@@ -279,9 +282,12 @@ module _ (program : Program) (i j : ℕ) (c : Calls program.units i j) (of_calle
         by_place t (new y q pl) = let r = (subst (λ (z : Extent). IsIn k z) pl here2).0 in absurd (omega arith)
 
         by_root : Root program.units i j c of_caller of_callee of_call env st placed copies xs fit d → MayHit k
-        by_root (common r s) =
-            (s.its, s.among, by_common (is_common program.units j g of_callee d v.among s.its.name (sym s.name) r) (subst (λ (z : Name). Smashes program.units j z) (sym s.name) h),
-            shared_inside program.units i j c of_caller of_callee of_call env st placed copies xs fit d s k here2)
+        by_root (common r s) = (
+          s.its,
+          s.among,
+          by_common (is_common program.units j g of_callee d v.among s.its.name (sym s.name) r) (subst (λ (z : Name). Smashes program.units j z) (sym s.name) h),
+          shared_inside program.units i j c of_caller of_callee of_call env st placed copies xs fit d s k here2,
+        )
         by_root (dummy r t dims) = by_place t (place_of program.units i j c of_caller of_callee of_call env st placed copies xs fit d.name t)
 
     pub left_frame : (length left ≡ length st) × OthersKept MayHit st left

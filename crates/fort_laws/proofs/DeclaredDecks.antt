@@ -36,6 +36,7 @@ use Rattle.fort_laws.proofs.DeclaredUnits as unit
 use Rattle.fort_laws.proofs.DeclaredUses.{right_line, set_data, pass_data}
 use Rattle.fort_laws.proofs.FrameSeats.{clash, same_is}
 use Rattle.fort_laws.proofs.Kept.{among_left, among_right}
+use Rattle.fort_laws.proofs.RulesKept.{unbroken}
 use Rattle.fort_laws.proofs.Tests.{both, one_holds, not_true, not_not, all_among, none_among, some_passes}
 
 -- ---- one unit
@@ -141,35 +142,13 @@ among_items [] h x m k = absurd (cc)
 among_items (g ∷ gs) h x (zero, e) k = let q : g ≡ h = cc in among_left x (names_of_items g.items) (items_of gs) (subst (λ z. IsAmong x (names_of_items (z.items))) (sym q) k)
 among_items (g ∷ gs) h x (suc n, e) k = among_right x (names_of_items g.items) (items_of gs) (among_items gs h x (n, e) k)
 
--- ---- a rule on calls that is kept is broken by no call
-
-line_card : (test : Stmt → Bool) (pc : ℕ) (lines : List Line) (line : Line) → IsAmong line lines → test line.stmt ≡ true → IsAmong line.card (cards_of_lines (λ pc s. test s) pc lines)
-line_card test pc [] line m t = absurd (cc)
-line_card test pc (y ∷ ys) line (zero, e) t =
-    let f : y ≡ line = cc in
-    subst (λ (b : Bool). IsAmong line.card (cond b (y.card ∷ cards_of_lines (λ pc s. test s) (suc pc) ys) (cards_of_lines (λ pc s. test s) (suc pc) ys))) (sym (ap (λ (z : Line). test z.stmt) f ∙ t)) (0, ap (λ (z : Line). Some z.card) f)
-line_card test pc (y ∷ ys) line (suc k, e) t = behind (test y.stmt) (line_card test (suc pc) ys line (k, e) t)
-  where
-    behind : (b : Bool) → IsAmong line.card (cards_of_lines (λ pc s. test s) (suc pc) ys)
-        → IsAmong line.card (cond b (y.card ∷ cards_of_lines (λ pc s. test s) (suc pc) ys) (cards_of_lines (λ pc s. test s) (suc pc) ys))
-    behind true m = (suc m.0, m.1)
-    behind false m = m
-
+-- no calling unit lacks a block of the unit that it calls
 lacks_none : (p : Program) → KeepsRule p BlockMissing → (i j : ℕ) (c : Calls p.units i j) → lacks_block c.caller j c.callee ≡ false
-lacks_none p keeps i j c =
-    ap (λ (o : Option Routine). in_unit o (lacks_block c.caller j)) (sym c.is_callee) ∙ (ap (λ (o : Option ℕ). of_unit p o (lacks_block c.caller)) (sym c.is_of) ∙ site_ok)
-  where
-    line_ok : some_call p c.caller c.line.stmt (λ site. lacks_block c.caller) ≡ false
-    line_ok =
-        not_true (some_call p c.caller c.line.stmt (λ site. lacks_block c.caller))
-        (λ t. keeps i c.line.card (record { unit = c.caller; is_unit = c.is_caller; breaks = line_card (λ s. some_call p c.caller s (λ site. lacks_block c.caller)) 0 c.caller.lines c.line c.is_line t }))
-
-    site_ok : of_unit p (callee_of p.units c.site) (lacks_block c.caller) ≡ false
-    site_ok = none_among (λ site. of_unit p (callee_of p.units site) (lacks_block c.caller)) (sites_of c.caller c.line.stmt) c.site line_ok c.is_site
+lacks_none p keeps i j c = unbroken p (λ site. lacks_block c.caller) c (λ card m. keeps i card (record { unit = c.caller; is_unit = c.is_caller; breaks = m }))
 
 -- ---- units of a deck
 
-well_at : (dialect : Dialect) (us : List Routine) (i : ℕ) (u : Routine) → AreWellFormedUnits dialect us → slice_get us i ≡ Some u → IsWellFormedUnit dialect u
+pub well_at : (dialect : Dialect) (us : List Routine) (i : ℕ) (u : Routine) → AreWellFormedUnits dialect us → slice_get us i ≡ Some u → IsWellFormedUnit dialect u
 well_at dialect [] i u w e = absurd (cc)
 well_at dialect (v ∷ us) zero u w e = subst (IsWellFormedUnit dialect) (same_item e) w.0
   where
@@ -266,7 +245,7 @@ module _ (dialect : Dialect) (p : Program) (wells : AreWellFormedUnits dialect p
     actuals = λ i j c n x a.
         let w = well i c.caller c.is_caller in
         let line = right_line dialect c.caller w c.line c.is_line in
-        has_name dialect c.caller w x (pass_data c.caller c.line.stmt line.form line.uses c.site n x c.is_site a);
+        has_name dialect c.caller w x (pass_data c.caller c.line.stmt line.form line.uses c.site c.is_site n x a);
     blocks = shares;
     commons = λ i j c d m r. let s : IsShared i j c d = is_shared i j c d m r in (s.its, s.among, s.name, s.role, s.dims);
   }

@@ -22,9 +22,8 @@ use Rattle.fort_syntax.specs.declared.unit.Unit.{Unit as Routine}
 use Rattle.fort_model.specs.Arguments.{reference_sort}
 use Rattle.fort_model.specs.Calls.{CallSite, listed, own_site, sites_in, sites_in_row}
 use Rattle.fort_model.specs.Lists.{IsAmong}
-use Rattle.fort_model.specs.Names.{Intrinsic, Absolute, Modulo, Greatest, Least, intrinsic, applied_by, applied, same_name, dims_of}
+use Rattle.fort_model.specs.Names.{Intrinsic, Absolute, Modulo, Greatest, Least, Reference, intrinsic, applied_by, applied, same_name, dims_of}
 use Rattle.fort_model.specs.Trees.{only}
-use Rattle.fort_laws.specs.GoodDecks.{AreReferred}
 use Rattle.fort_laws.specs.Typed.{AreDims, IsCount, row_length, IsScalar, IsArray, IsActual, IsApplied, IsTyped, AreInteger, AreActual}
 use Rattle.fort_laws.proofs.DeclaredNames.{IsNamed, do_not_meet, unnamed_sort, same_dims_told, named_data}
 use Rattle.fort_laws.proofs.DeclaredUnits as unit
@@ -91,6 +90,17 @@ not_intrinsic_by false false false false h = refl
 not_intrinsic : (f : Name) → is_intrinsic_name f ≡ false → intrinsic f ≡ None
 not_intrinsic f h = not_intrinsic_by (same_name f (codes "IABS")) (same_name f (codes "MOD")) (same_name f (codes "MAX0")) (same_name f (codes "MIN0")) h
 
+no_intrinsic_name : (f : Name) → intrinsic f ≡ None → is_intrinsic_name f ≡ false
+no_intrinsic_name f k = known (is_intrinsic_name f) (λ y. absurd (unlike (sym k ∙ (intrinsic_named f y).1))) (λ y. y)
+  where
+    unlike : {g : Intrinsic} → None ≡ Some g → ⊥
+    unlike h = absurd (cc)
+
+-- references among some calls are such, where they have the types that the unit gives their functions
+abbrev pub AreReferred : Routine → (Sort → Name → List Expr → Type 0) → List CallSite → Type 0
+AreReferred u IsReference sites =
+    (site : CallSite) (q : Sort) → IsAmong site sites → site.reference ≡ true → reference_sort u.functions site.callee ≡ Some q → IsReference q site.callee site.actuals
+
 -- ---- all parts of an expression
 
 abbrev pub AreFit : Routine → List Expr → Type 0
@@ -142,21 +152,34 @@ module _ (dialect : Dialect) (u : Routine) (w : IsWellFormedUnit dialect u) wher
   intrinsic_sort f h t =
       ap (λ b. cond (is_intrinsic_name f && not b) (Some Integer) (scope.sort f)) h ∙ ap (λ b. cond (b && true) (Some Integer) (scope.sort f)) t
 
+  -- a function of the unit is no data name
+  pub function_no_data : (f : Name) → is_among f (functions_of_unit u) ≡ true → is_among f (names_of_unit u) ≡ false
+  function_no_data f m =
+      let alone = both (not (has_twin (functions_of_unit u)) && not (do_meet (functions_of_unit u) (names_of_unit u))) (not (list_any is_intrinsic_name (functions_of_unit u)))
+      (both _ (not (is_among u.name (functions_of_unit u))) w.functions).0 in
+      do_not_meet (functions_of_unit u) (names_of_unit u) f (is_false _ (both (not (has_twin (functions_of_unit u))) _ alone.0).1) m
+
   -- a function of the unit gives the type that the unit says
   function_type : (f : Name) → is_array scope f ≡ false → is_intrinsic_name f ≡ false → is_among f (functions_of_unit u) ≡ true
       → type_applied scope f ≡ reference_sort u.functions f
   function_type f h t m =
-      let alone = both (not (has_twin (functions_of_unit u)) && not (do_meet (functions_of_unit u) (names_of_unit u))) (not (list_any is_intrinsic_name (functions_of_unit u)))
-      (both _ (not (is_among u.name (functions_of_unit u))) w.functions).0 in
-      let apart : do_meet (functions_of_unit u) (names_of_unit u) ≡ false = is_false _ (both (not (has_twin (functions_of_unit u))) _ alone.0).1 in
       ap (λ b. cond (b && not (is_array scope f)) (Some Integer) (scope.sort f)) t
-      ∙ (unnamed_sort u.names u.functions f (do_not_meet (functions_of_unit u) (names_of_unit u) f apart m) ∙ sym (function_sort u.functions f))
+      ∙ (unnamed_sort u.names u.functions f (function_no_data f m) ∙ sym (function_sort u.functions f))
 
   -- a name before a bracket that is no array and no intrinsic function is a function
   is_function : (f : Name) (n : ℕ) → is_known u f (use_as.applied n) ≡ true → is_array scope f ≡ false → is_intrinsic_name f ≡ false → is_among f (functions_of_unit u) ≡ true
   is_function f n k h t =
       one_holds (is_array scope f || is_intrinsic scope f) (is_among f (functions_of_unit u)) k
       (ap (λ b. b || is_intrinsic scope f) h ∙ ap (λ b. b && not (is_array scope f)) t)
+
+  -- what is applied as a reference is a function
+  pub reference_is_function : (f : Name) (n : ℕ) → applied u f ≡ Reference → is_known u f (use_as.applied n) ≡ true → is_among f (functions_of_unit u) ≡ true
+  reference_is_function f n e k = go (dims_of u f) (intrinsic f) refl refl e
+    where
+      go : (ds : List Dim) (o : Option Intrinsic) → dims_of u f ≡ ds → intrinsic f ≡ o → applied_by ds o ≡ Reference → is_among f (functions_of_unit u) ≡ true
+      go (d ∷ ds) o dims is e = absurd (cc)
+      go [] (Some g) dims is e = absurd (cc)
+      go [] None dims is e = is_function f n k (ap is_given_dims (sym (same_dims_told u.names f) ∙ dims)) (no_intrinsic_name f is)
 
   some_function : (fs : List FunctionName) (f : Name) → is_among f (map (λ g. g.name) fs) ≡ true → (q : Sort) × (reference_sort fs f ≡ Some q)
   some_function [] f h = absurd (cc)
@@ -215,14 +238,14 @@ module _ (dialect : Dialect) (u : Routine) (w : IsWellFormedUnit dialect u) wher
         dims = subst (AreDims u) (sym d.dims ∙ e) (unit.dims_are_integers dialect u w d.its d.among);
       }
 
-  module _ (IsReference : Sort → Name → Type 0) where
+  module _ (IsReference : Sort → Name → List Expr → Type 0) where
     -- a name before a bracket, by what it is
     applied_typed : (q : Sort) (f : Name) {m : Count} (args : Row_of-Expr m)
         → (is_known u f (use_as.applied (length (syntax.listed args))) ≡ true) × (is_misused scope f (use_as.applied (length (syntax.listed args))) ≡ false)
         → are_fit_arguments scope f (syntax.listed args) ≡ true → type_applied scope f ≡ Some q
         → ((is_array scope f || is_intrinsic_name f) ≡ true → list_all (gives_integer scope) (syntax.listed args) ≡ true → AreInteger u IsReference args)
         → AreActual u IsReference args → AreReferred u IsReference (own_site (applied u f) f (listed args))
-        → IsApplied u IsReference q f (applied u f) (row_length args) (AreInteger u IsReference args) (AreActual u IsReference args)
+        → IsApplied u IsReference q f (applied u f) (row_length args) (listed args) (AreInteger u IsReference args) (AreActual u IsReference args)
     applied_typed q f args right fit t integers actuals refer = go (dims_of u f) (intrinsic f) refl refl refer
       where
         n : ℕ
@@ -232,7 +255,7 @@ module _ (dialect : Dialect) (u : Routine) (w : IsWellFormedUnit dialect u) wher
         no_use = neither (is_array scope f && not (n == length (dims_among u.names f))) (is_intrinsic scope f && not (takes_so_many f n)) right.1
 
         go : (ds : List Dim) (o : Option Intrinsic) → dims_of u f ≡ ds → intrinsic f ≡ o → AreReferred u IsReference (own_site (applied_by ds o) f (listed args))
-            → IsApplied u IsReference q f (applied_by ds o) (row_length args) (AreInteger u IsReference args) (AreActual u IsReference args)
+            → IsApplied u IsReference q f (applied_by ds o) (row_length args) (listed args) (AreInteger u IsReference args) (AreActual u IsReference args)
         go (d ∷ ds) o e k refer =
             let dims_are : dims_among u.names f ≡ d ∷ ds = sym (same_dims_told u.names f) ∙ e in
             let array : is_array scope f ≡ true = ap is_given_dims dims_are in
@@ -259,12 +282,9 @@ module _ (dialect : Dialect) (u : Routine) (w : IsWellFormedUnit dialect u) wher
             same_one a b h = cc
         go [] None e k refer =
             let scalar : is_array scope f ≡ false = ap is_given_dims (sym (same_dims_told u.names f) ∙ e) in
-            let is_not : is_intrinsic_name f ≡ false = known (is_intrinsic_name f) (λ y. absurd (unlike (sym k ∙ (intrinsic_named f y).1))) (λ y. y) in
+            let is_not : is_intrinsic_name f ≡ false = no_intrinsic_name f k in
             let type : reference_sort u.functions f ≡ Some q = sym (function_type f scalar is_not (is_function f n right.0 scalar is_not)) ∙ t in
             (refer (record { reference = true; callee = f; actuals = listed args }) q (0, refl) refl type, actuals)
-          where
-            unlike : {g : Intrinsic} → None ≡ Some g → ⊥
-            unlike h = absurd (cc)
 
     pub referred_left : (xs ys : List CallSite) → AreReferred u IsReference (xs ++ ys) → AreReferred u IsReference xs
     referred_left xs ys h site q m = h site q (among_left site xs ys m)
@@ -325,7 +345,7 @@ module _ (dialect : Dialect) (u : Routine) (w : IsWellFormedUnit dialect u) wher
           (referred_left (own_site (applied u f) f (listed args)) (sites_in_row u args) refer)
       typed how of q (Paren' shape (only a)) h fit refer t = typed read (reads_scalars u) q a h (fit_behind u (Paren' shape (only a)) (parts a) fit) refer t
       typed how of q (Pos' shape (only a)) h fit refer t =
-          typed read (reads_scalars u) q a h (fit_behind u (Pos' shape (only a)) (parts a) fit) refer (same_type _ Integer (fit (Pos' shape (only a)) (0, refl)) ∙ t)
+          (sym (one_type Integer q t), typed read (reads_scalars u) Integer a h (fit_behind u (Pos' shape (only a)) (parts a) fit) refer (same_type _ Integer (fit (Pos' shape (only a)) (0, refl))))
       typed how of q (Neg' shape (only a)) h fit refer t =
           (sym (one_type Integer q t), typed read (reads_scalars u) Integer a h (fit_behind u (Neg' shape (only a)) (parts a) fit) refer (same_type _ Integer (fit (Neg' shape (only a)) (0, refl))))
       typed how of q (Power' shape (only a) n) h fit refer t =

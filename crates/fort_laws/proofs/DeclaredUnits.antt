@@ -154,6 +154,18 @@ module _ (dialect : Dialect) (u : Routine) (w : IsWellFormedUnit dialect u) wher
   pub is_common : (d : DataName) → IsAmong d u.names → d.role ≡ InCommon → is_among d.name (commons_of_unit u) ≡ true
   is_common d m r = by_common (is_among d.name u.dummies) (is_among d.name (commons_of_unit u)) (is_among d.name (own_value_of_unit u)) (sym (right_role d m).0 ∙ r)
 
+  pub is_own_value : (d : DataName) → IsAmong d u.names → d.role ≡ OwnValue → is_among d.name (own_value_of_unit u) ≡ true
+  is_own_value d m r = by_own (is_among d.name u.dummies) (is_among d.name (commons_of_unit u)) (is_among d.name (own_value_of_unit u)) (sym (right_role d m).0 ∙ r)
+
+  pub own_role : (d : DataName) → IsAmong d u.names → is_among d.name u.dummies ≡ false → is_among d.name (commons_of_unit u) ≡ false → is_among d.name (own_value_of_unit u) ≡ true → d.role ≡ OwnValue
+  own_role d m a b c = (right_role d m).0 ∙ no_other (is_among d.name u.dummies) (is_among d.name (commons_of_unit u)) (is_among d.name (own_value_of_unit u)) a b c
+    where
+      no_other : (x y z : Bool) → x ≡ false → y ≡ false → z ≡ true → role_by x y z ≡ OwnValue
+      no_other false false true a b c = refl
+      no_other true y z a b c = absurd (cc)
+      no_other false true z a b c = absurd (cc)
+      no_other false false false a b c = absurd (cc)
+
   -- a COMMON entity stands in a block
   pub common_block : (d : DataName) → IsAmong d u.names → d.role ≡ InCommon → (g : Group) × IsAmong g u.blocks × IsAmong d.name (names_of_items g.items)
   common_block d m r = among_given (λ group. names_of_items group.items) u.blocks d.name (named_among (commons_of_unit u) d.name (is_common d m r))

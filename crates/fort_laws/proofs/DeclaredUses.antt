@@ -1,26 +1,28 @@
 -- The statements of a well-formed unit: their forms, and that the names that they set or pass are data names.
-use Rattle.std.proofs.Common.{◌≡◌, ℕ, zero, suc, ◌⊎◌, inl, inr, true, false, not, ◌&&◌, List, [], ◌∷◌, ◌++◌, flat_map, length, Some, slice_get, refl, sym, ap, ◌∙◌, subst}
+use Rattle.std.proofs.Common.{◌≡◌, ℕ, zero, suc, ◌⊎◌, inl, inr, true, false, not, ◌&&◌, List, [], ◌∷◌, ◌++◌, flat_map, length, Option, Some, slice_get, refl, sym, ap, ◌∙◌, subst}
 use mathlib.Core.Former.{Count}
-use Rattle.fort_syntax.specs.Scopes.{is_among}
+use Rattle.fort_syntax.specs.Scopes.{is_among, is_given_dims}
 use Rattle.fort_syntax.specs.TypeRules.{is_well_typed}
 use Rattle.fort_syntax.specs.Units.{class_of, is_performing}
+use Rattle.fort_syntax.specs.TreePatterns as syntax
 use Rattle.fort_syntax.specs.UseRules.{is_misused}
-use Rattle.fort_syntax.specs.Uses.{Use, Occurrence, occurrence, read, assigned, assigned_element, counted, argument_of, actual, called, uses_in, uses_in_row, uses_on_left, uses_of}
+use Rattle.fort_syntax.specs.Uses.{Use, Occurrence, occurrence, read, assigned, assigned_element, counted, applied as before_bracket, argument_of, actual, called, uses_in, uses_in_row, uses_on_left, uses_of}
 use Rattle.fort_syntax.specs.WellFormed.{IsWellFormedUnit, names_of_unit, scope_of_unit, is_known, is_left_side, may_be_carried, has_right_form, is_right_statement}
 use Rattle.fort_syntax.specs.declared.dialect.Dialect.{Dialect}
 use Rattle.fort_syntax.specs.declared.expr.Expr.{Expr, Row_of-Expr, end_of-Expr, more_of-Expr}
 use Rattle.fort_syntax.specs.declared.expr.Expr.TheVariants.{Const, Truth, Var, Apply', Paren', Pos', Neg', Power', Bin', Rel', Not', And', Or'}
 use Rattle.fort_syntax.specs.declared.name.Name.{Name}
+use Rattle.fort_syntax.specs.declared.stmt.Dim.{Dim}
 use Rattle.fort_syntax.specs.declared.stmt.Stmt.{Stmt}
 use Rattle.fort_syntax.specs.declared.stmt.Stmt.TheVariants.{Subroutine, Function, Declare, Dimension, Common, Assign, GoTo, Computed, ArithIf, LogicalIf', Do, Continue, Call, Return, End, BlockIf, ElseIf, Else, EndIf}
 use Rattle.fort_syntax.specs.declared.unit.Line.{Line}
 use Rattle.fort_syntax.specs.declared.unit.Unit.{Unit as Routine}
 use Rattle.fort_model.specs.Calls.{CallSite, listed, own_site, sites_in, sites_in_row, sites_of}
 use Rattle.fort_model.specs.Lists.{IsAmong}
-use Rattle.fort_model.specs.Names.{Applied, Element, BuiltIn, Reference, applied}
+use Rattle.fort_model.specs.Names.{Intrinsic, Applied, Element, BuiltIn, Reference, intrinsic, applied_by, applied, dims_of}
 use Rattle.fort_model.specs.Smashes.{set_name, set_by}
 use Rattle.fort_model.specs.Trees.{only, carried, row_of}
-use Rattle.fort_laws.proofs.DeclaredNames.{named_data}
+use Rattle.fort_laws.proofs.DeclaredNames.{same_dims_told, named_data}
 use Rattle.fort_laws.proofs.Kept.{among_left, among_right, listed_row}
 use Rattle.fort_laws.proofs.Tests.{both, is_false, all_among, among_either}
 
@@ -69,7 +71,7 @@ left_data u (Var y) x h (zero, e) = let q : y ≡ x = cc in ap (λ z. is_among z
 left_data u (Var y) x h (suc k, e) = absurd (cc)
 left_data u (Apply' f shape args) x h (zero, e) =
     let q : f ≡ x = cc in
-    ap (λ z. is_among z (names_of_unit u)) (sym q) ∙ named_data u.names f (right_first u f (assigned_element (length (listed args))) (uses_in_row read args) h).0
+    ap (λ z. is_among z (names_of_unit u)) (sym q) ∙ named_data u.names f (right_first u f (assigned_element (length (syntax.listed args))) (uses_in_row read args) h).0
 left_data u (Apply' f shape args) x h (suc k, e) = absurd (cc)
 left_data u (Const n) x h m = absurd (cc)
 left_data u (Truth b) x h m = absurd (cc)
@@ -117,107 +119,133 @@ bare_in_row how (more_of-Expr e es) zero x h =
     same_item q = cc
 bare_in_row how (more_of-Expr e es) (suc n) x h = among_right (occurrence x how) (uses_in how e) (uses_in_row how es) (bare_in_row how es n x h)
 
--- the bare names in the actuals of some calls are data names
-abbrev pub PassData : Routine → List CallSite → Type 0
-PassData u sites = (site : CallSite) (n : ℕ) (x : Name) → IsAmong site sites → slice_get site.actuals n ≡ Some (Var x) → is_among x (names_of_unit u) ≡ true
+-- ---- calls
 
-pass_none : (u : Routine) → PassData u []
-pass_none u site n x m a = absurd (cc)
+-- something is true of each of some calls
+abbrev pub Each : (CallSite → Type 0) → List CallSite → Type 0
+Each P sites = (site : CallSite) → IsAmong site sites → P site
 
-pass_both : (u : Routine) (xs ys : List CallSite) → PassData u xs → PassData u ys → PassData u (xs ++ ys)
-pass_both u xs ys h k site n x m a = pick (among_either site xs ys m)
+each_none : (P : CallSite → Type 0) → Each P []
+each_none P site m = absurd (cc)
+
+each_both : (P : CallSite → Type 0) (xs ys : List CallSite) → Each P xs → Each P ys → Each P (xs ++ ys)
+each_both P xs ys h k site m = pick (among_either site xs ys m)
   where
-    pick : IsAmong site xs ⊎ IsAmong site ys → is_among x (names_of_unit u) ≡ true
-    pick (inl l) = h site n x l a
-    pick (inr r) = k site n x r a
+    pick : IsAmong site xs ⊎ IsAmong site ys → P site
+    pick (inl l) = h site l
+    pick (inr r) = k site r
 
-pass_one : (u : Routine) (one : CallSite) → ((n : ℕ) (x : Name) → slice_get one.actuals n ≡ Some (Var x) → is_among x (names_of_unit u) ≡ true) → PassData u (one ∷ [])
-pass_one u one h site n x (zero, e) a = let q : one ≡ site = cc in h n x (ap (λ (z : CallSite). slice_get z.actuals n) q ∙ a)
-pass_one u one h site n x (suc k, e) a = absurd (cc)
+each_one : (P : CallSite → Type 0) (one : CallSite) → P one → Each P (one ∷ [])
+each_one P one h site (zero, e) = let q : one ≡ site = cc in subst P q h
+each_one P one h site (suc k, e) = absurd (cc)
 
-pass_own : (u : Routine) (kind : Applied) (f : Name) (es : List Expr) → ((n : ℕ) (x : Name) → slice_get es n ≡ Some (Var x) → is_among x (names_of_unit u) ≡ true) → PassData u (own_site kind f es)
-pass_own u (Element dims) f es h = pass_none u
-pass_own u (BuiltIn i) f es h = pass_none u
-pass_own u Reference f es h = pass_one u (record { reference = true; callee = f; actuals = es }) h
+each_own : (P : CallSite → Type 0) (kind : Applied) (f : Name) (es : List Expr) → (kind ≡ Reference → P (record { reference = true; callee = f; actuals = es })) → Each P (own_site kind f es)
+each_own P (Element dims) f es h = each_none P
+each_own P (BuiltIn i) f es h = each_none P
+each_own P Reference f es h = each_one P (record { reference = true; callee = f; actuals = es }) (h refl)
 
-mutual
-  pass_in : (u : Routine) (how : Use) (e : Expr) → AreRight u (uses_in how e) → PassData u (sites_in u e)
-  pass_in u how (Const n) h = pass_none u
-  pass_in u how (Truth b) h = pass_none u
-  pass_in u how (Var x) h = pass_none u
-  pass_in u how (Apply' f shape args) h =
-      let behind = right_behind u _ (uses_in_row (argument_of f) args) h in
-      pass_both u (own_site (applied u f) f (listed args)) (sites_in_row u args)
-      (pass_own u (applied u f) f (listed args) (λ n x a. (behind (occurrence x (argument_of f)) (bare_in_row (argument_of f) args n x a)).0))
-      (pass_in_row u (argument_of f) args behind)
-  pass_in u how (Paren' shape (only a)) h = pass_in u read a h
-  pass_in u how (Pos' shape (only a)) h = pass_in u read a h
-  pass_in u how (Neg' shape (only a)) h = pass_in u read a h
-  pass_in u how (Power' shape (only a) n) h = pass_in u read a h
-  pass_in u how (Bin' o q (only a) r (only b)) h = pass_both u (sites_in u a) (sites_in u b) (pass_in u read a (right_left u (uses_in read a) (uses_in read b) h)) (pass_in u read b (right_right u (uses_in read a) (uses_in read b) h))
-  pass_in u how (Rel' o q (only a) r (only b)) h = pass_both u (sites_in u a) (sites_in u b) (pass_in u read a (right_left u (uses_in read a) (uses_in read b) h)) (pass_in u read b (right_right u (uses_in read a) (uses_in read b) h))
-  pass_in u how (Not' shape (only a)) h = pass_in u read a h
-  pass_in u how (And' q (only a) r (only b)) h = pass_both u (sites_in u a) (sites_in u b) (pass_in u read a (right_left u (uses_in read a) (uses_in read b) h)) (pass_in u read b (right_right u (uses_in read a) (uses_in read b) h))
-  pass_in u how (Or' q (only a) r (only b)) h = pass_both u (sites_in u a) (sites_in u b) (pass_in u read a (right_left u (uses_in read a) (uses_in read b) h)) (pass_in u read b (right_right u (uses_in read a) (uses_in read b) h))
-
-  pass_in_row : (u : Routine) (how : Use) {m : Count} (args : Row_of-Expr m) → AreRight u (uses_in_row how args) → PassData u (sites_in_row u args)
-  pass_in_row u how end_of-Expr h = pass_none u
-  pass_in_row u how (more_of-Expr e es) h =
-      pass_both u (sites_in u e) (sites_in_row u es) (pass_in u how e (right_left u (uses_in how e) (uses_in_row how es) h)) (pass_in_row u how es (right_right u (uses_in how e) (uses_in_row how es) h))
+-- an element is no reference
+array_no_reference : (ds : List Dim) (o : Option Intrinsic) → is_given_dims ds ≡ true → applied_by ds o ≡ Reference → ⊥
+array_no_reference [] o h e = absurd (cc)
+array_no_reference (d ∷ ds) o h e = absurd (cc)
 
 pub row_uses : (how : Use) (args : List Expr) → uses_in_row how (row_of args) ≡ flat_map (uses_in how) args
 row_uses how [] = refl
 row_uses how (e ∷ es) = ap (λ xs. uses_in how e ++ xs) (row_uses how es)
 
--- the left side of an assignment, where calls stand in subscripts alone
-pass_on_left : (u : Routine) (e : Expr) → is_left_side e ≡ true → AreRight u (uses_on_left e) → PassData u (sites_in u e)
-pass_on_left u (Var x) t h = pass_none u
-pass_on_left u (Apply' f shape args) t h =
-    let behind = right_behind u _ (uses_in_row read args) h in
-    pass_both u (own_site (applied u f) f (listed args)) (sites_in_row u args)
-    (pass_own u (applied u f) f (listed args) (λ n x a. (behind (occurrence x read) (bare_in_row read args n x a)).0))
-    (pass_in_row u read args behind)
-pass_on_left u (Const n) t h = absurd (cc)
-pass_on_left u (Truth b) t h = absurd (cc)
-pass_on_left u (Paren' shape a) t h = absurd (cc)
-pass_on_left u (Pos' shape a) t h = absurd (cc)
-pass_on_left u (Neg' shape a) t h = absurd (cc)
-pass_on_left u (Power' shape a n) t h = absurd (cc)
-pass_on_left u (Bin' o q a r b) t h = absurd (cc)
-pass_on_left u (Rel' o q a r b) t h = absurd (cc)
-pass_on_left u (Not' shape a) t h = absurd (cc)
-pass_on_left u (And' q a r b) t h = absurd (cc)
-pass_on_left u (Or' q a r b) t h = absurd (cc)
+-- What is true of each reference to a function and of each CALL whose names are used rightly, is true of all calls in a statement whose
+-- names are.
+module _ (u : Routine) (P : CallSite → Type 0)
+    (reference : (f : Name) (m : Count) (args : Row_of-Expr m) → applied u f ≡ Reference → is_known u f (before_bracket (length (syntax.listed args))) ≡ true
+    → AreRight u (uses_in_row (argument_of f) args) → P (record { reference = true; callee = f; actuals = listed args }))
+    (call : (f : Name) (args : List Expr) → is_known u f called ≡ true → AreRight u (uses_in_row actual (row_of args)) → P (record { reference = false; callee = f; actuals = args })) where
+  mutual
+    each_in : (how : Use) (e : Expr) → AreRight u (uses_in how e) → Each P (sites_in u e)
+    each_in how (Const n) h = each_none P
+    each_in how (Truth b) h = each_none P
+    each_in how (Var x) h = each_none P
+    each_in how (Apply' f shape args) h =
+        let behind = right_behind u _ (uses_in_row (argument_of f) args) h in
+        each_both P (own_site (applied u f) f (listed args)) (sites_in_row u args)
+        (each_own P (applied u f) f (listed args) (λ e. reference f _ args e (right_first u f (before_bracket (length (syntax.listed args))) (uses_in_row (argument_of f) args) h).0 behind))
+        (each_in_row (argument_of f) args behind)
+    each_in how (Paren' shape (only a)) h = each_in read a h
+    each_in how (Pos' shape (only a)) h = each_in read a h
+    each_in how (Neg' shape (only a)) h = each_in read a h
+    each_in how (Power' shape (only a) n) h = each_in read a h
+    each_in how (Not' shape (only a)) h = each_in read a h
+    each_in how (Bin' o q (only a) r (only b)) h =
+        each_both P (sites_in u a) (sites_in u b) (each_in read a (right_left u (uses_in read a) (uses_in read b) h)) (each_in read b (right_right u (uses_in read a) (uses_in read b) h))
+    each_in how (Rel' o q (only a) r (only b)) h =
+        each_both P (sites_in u a) (sites_in u b) (each_in read a (right_left u (uses_in read a) (uses_in read b) h)) (each_in read b (right_right u (uses_in read a) (uses_in read b) h))
+    each_in how (And' q (only a) r (only b)) h =
+        each_both P (sites_in u a) (sites_in u b) (each_in read a (right_left u (uses_in read a) (uses_in read b) h)) (each_in read b (right_right u (uses_in read a) (uses_in read b) h))
+    each_in how (Or' q (only a) r (only b)) h =
+        each_both P (sites_in u a) (sites_in u b) (each_in read a (right_left u (uses_in read a) (uses_in read b) h)) (each_in read b (right_right u (uses_in read a) (uses_in read b) h))
 
-pass_of_call : (u : Routine) (f : Name) (args : List Expr) → AreRight u (uses_of (Call f args)) → PassData u (sites_of u (Call f args))
-pass_of_call u f args h =
-    pass_both u (record { reference = false; callee = f; actuals = args } ∷ []) (sites_in_row u (row_of args))
-    (pass_one u (record { reference = false; callee = f; actuals = args })
-    (λ n x a. (behind (occurrence x actual) (bare_in_row actual (row_of args) n x (ap (λ es. slice_get es n) (listed_row args) ∙ a))).0))
-    (pass_in_row u actual (row_of args) behind)
-  where
-    behind : AreRight u (uses_in_row actual (row_of args))
-    behind = subst (λ xs. AreRight u xs) (sym (row_uses actual args)) (right_behind u (occurrence f called) (flat_map (uses_in actual) args) h)
+    each_in_row : (how : Use) {m : Count} (args : Row_of-Expr m) → AreRight u (uses_in_row how args) → Each P (sites_in_row u args)
+    each_in_row how end_of-Expr h = each_none P
+    each_in_row how (more_of-Expr e es) h =
+        each_both P (sites_in u e) (sites_in_row u es) (each_in how e (right_left u (uses_in how e) (uses_in_row how es) h)) (each_in_row how es (right_right u (uses_in how e) (uses_in_row how es) h))
 
-pub pass_data : (u : Routine) (s : Stmt) → has_right_form s ≡ true → AreRight u (uses_of s) → PassData u (sites_of u s)
-pass_data u (Assign left right) t h =
-    pass_both u (sites_in u left) (sites_in u right) (pass_on_left u left t (right_left u (uses_on_left left) (uses_in read right) h)) (pass_in u read right (right_right u (uses_on_left left) (uses_in read right) h))
-pass_data u (ArithIf e l m n) t h = pass_in u read e h
-pass_data u (LogicalIf' e shape (carried s)) t h =
-    pass_both u (sites_in u e) (sites_of u s) (pass_in u read e (right_left u (uses_in read e) (uses_of s) h)) (pass_data u s (both (may_be_carried s) (has_right_form s) t).1 (right_right u (uses_in read e) (uses_of s) h))
-pass_data u (Call f args) t h = pass_of_call u f args h
-pass_data u (BlockIf e) t h = pass_in u read e h
-pass_data u (ElseIf e) t h = pass_in u read e h
-pass_data u (Do label y first last step) t h = pass_none u
-pass_data u (Subroutine f dummies) t h = pass_none u
-pass_data u (Function sort f dummies) t h = pass_none u
-pass_data u (Declare sort items) t h = pass_none u
-pass_data u (Dimension items) t h = pass_none u
-pass_data u (Common groups) t h = pass_none u
-pass_data u (GoTo label) t h = pass_none u
-pass_data u (Computed labels y) t h = pass_none u
-pass_data u Continue t h = pass_none u
-pass_data u Return t h = pass_none u
-pass_data u End t h = pass_none u
-pass_data u Else t h = pass_none u
-pass_data u EndIf t h = pass_none u
+  -- the left side of an assignment, where calls stand in subscripts alone
+  each_on_left : (e : Expr) → is_left_side e ≡ true → AreRight u (uses_on_left e) → Each P (sites_in u e)
+  each_on_left (Var x) t h = each_none P
+  each_on_left (Apply' f shape args) t h =
+      let array = (right_first u f (assigned_element (length (syntax.listed args))) (uses_in_row read args) h).0 in
+      each_both P (own_site (applied u f) f (listed args)) (sites_in_row u args)
+      (each_own P (applied u f) f (listed args) (λ e. absurd (array_no_reference (dims_of u f) (intrinsic f) (ap is_given_dims (same_dims_told u.names f) ∙ array) e)))
+      (each_in_row read args (right_behind u _ (uses_in_row read args) h))
+  each_on_left (Const n) t h = absurd (cc)
+  each_on_left (Truth b) t h = absurd (cc)
+  each_on_left (Paren' shape a) t h = absurd (cc)
+  each_on_left (Pos' shape a) t h = absurd (cc)
+  each_on_left (Neg' shape a) t h = absurd (cc)
+  each_on_left (Power' shape a n) t h = absurd (cc)
+  each_on_left (Bin' o q a r b) t h = absurd (cc)
+  each_on_left (Rel' o q a r b) t h = absurd (cc)
+  each_on_left (Not' shape a) t h = absurd (cc)
+  each_on_left (And' q a r b) t h = absurd (cc)
+  each_on_left (Or' q a r b) t h = absurd (cc)
+
+  each_of_call : (f : Name) (args : List Expr) → AreRight u (uses_of (Call f args)) → Each P (sites_of u (Call f args))
+  each_of_call f args h =
+      let behind : AreRight u (uses_in_row actual (row_of args)) = subst (AreRight u) (sym (row_uses actual args)) (right_behind u (occurrence f called) (flat_map (uses_in actual) args) h) in
+      each_both P (record { reference = false; callee = f; actuals = args } ∷ []) (sites_in_row u (row_of args))
+      (each_one P (record { reference = false; callee = f; actuals = args }) (call f args (right_first u f called (flat_map (uses_in actual) args) h).0 behind))
+      (each_in_row actual (row_of args) behind)
+
+  pub each_of : (s : Stmt) → has_right_form s ≡ true → AreRight u (uses_of s) → Each P (sites_of u s)
+  each_of (Assign left right) t h =
+      each_both P (sites_in u left) (sites_in u right)
+      (each_on_left left t (right_left u (uses_on_left left) (uses_in read right) h)) (each_in read right (right_right u (uses_on_left left) (uses_in read right) h))
+  each_of (ArithIf e l m n) t h = each_in read e h
+  each_of (LogicalIf' e shape (carried s)) t h =
+      each_both P (sites_in u e) (sites_of u s)
+      (each_in read e (right_left u (uses_in read e) (uses_of s) h)) (each_of s (both (may_be_carried s) (has_right_form s) t).1 (right_right u (uses_in read e) (uses_of s) h))
+  each_of (Call f args) t h = each_of_call f args h
+  each_of (BlockIf e) t h = each_in read e h
+  each_of (ElseIf e) t h = each_in read e h
+  each_of (Do label y first last step) t h = each_none P
+  each_of (Subroutine f dummies) t h = each_none P
+  each_of (Function sort f dummies) t h = each_none P
+  each_of (Declare sort items) t h = each_none P
+  each_of (Dimension items) t h = each_none P
+  each_of (Common groups) t h = each_none P
+  each_of (GoTo label) t h = each_none P
+  each_of (Computed labels y) t h = each_none P
+  each_of Continue t h = each_none P
+  each_of Return t h = each_none P
+  each_of End t h = each_none P
+  each_of Else t h = each_none P
+  each_of EndIf t h = each_none P
+
+-- the bare names among the actuals of a call are data names
+abbrev pub PassesData : Routine → CallSite → Type 0
+PassesData u site = (n : ℕ) (x : Name) → slice_get site.actuals n ≡ Some (Var x) → is_among x (names_of_unit u) ≡ true
+
+pub pass_data : (u : Routine) (s : Stmt) → has_right_form s ≡ true → AreRight u (uses_of s) → Each (PassesData u) (sites_of u s)
+pass_data u =
+    each_of u (PassesData u)
+    (λ f m args e k h n x a. (h (occurrence x (argument_of f)) (bare_in_row (argument_of f) args n x a)).0)
+    (λ f args k h n x a. (h (occurrence x actual) (bare_in_row actual (row_of args) n x (ap (λ es. slice_get es n) (listed_row args) ∙ a))).0)

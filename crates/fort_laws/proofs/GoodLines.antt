@@ -37,13 +37,16 @@ use Rattle.fort_model.specs.Smashes.{Smashes, sets, HoldsSmashed, set_name, set_
 use Rattle.fort_model.specs.Storage.{Environment}
 use Rattle.fort_model.specs.Trees.{carried, row_of}
 use Rattle.fort_model.specs.Walk.{is_dim, is_some_dim}
-use Rattle.fort_laws.specs.GoodDecks.{KeepsRule, AreReferred, AreCalled, LieApart, StatementsAreGood}
+use Rattle.fort_laws.specs.CallLaw.{LieApart}
+use Rattle.fort_laws.specs.Called.{IsReferenceTo, IsCallTo}
+use Rattle.fort_laws.specs.GoodDecks.{KeepsRule, StatementsAreGood}
 use Rattle.fort_laws.specs.GoodStatements.{DimsAreOther, MayBeWritten, IsParameter, IsStep, AreGoodLoops, IsGoodElement, IsLeft, HasLabels, HasResult, IsGood}
 use Rattle.fort_laws.specs.Typed.{IsScalar, IsTyped, AreInteger}
 use Rattle.fort_laws.specs.Ways.{IsExecutable}
+use Rattle.fort_laws.proofs.DeclaredCalls.{called_in_text, referred_in_text}
 use Rattle.fort_laws.proofs.DeclaredNames.{IsNamed, same_dims_told, named_data, data_among, found_named}
 use Rattle.fort_laws.proofs.DeclaredTypes as types
-use Rattle.fort_laws.proofs.DeclaredTypes.{AreFit, fit_left, fit_right}
+use Rattle.fort_laws.proofs.DeclaredTypes.{AreReferred, AreFit, fit_left, fit_right}
 use Rattle.fort_laws.proofs.DeclaredUnits as unit
 use Rattle.fort_laws.proofs.DeclaredUses.{AreRight, right_left, right_right, right_behind, right_first, IsRightLine, right_line, row_uses}
 use Rattle.fort_laws.proofs.FrameSeats.{clash, same_is}
@@ -99,6 +102,10 @@ executable End h f = absurd (cc)
 row_parts : (args : List Expr) → parts_of_row (row_of args) ≡ flat_map parts args
 row_parts [] = refl
 row_parts (e ∷ es) = ap (λ xs. parts e ++ xs) (row_parts es)
+
+-- CALLs among some calls are such
+abbrev AreCalled : (Name → List Expr → Type 0) → List CallSite → Type 0
+AreCalled IsCall sites = (site : CallSite) → IsAmong site sites → site.reference ≡ false → IsCall site.callee site.actuals
 
 module _ (dialect : Dialect) (p : Program) (i : ℕ) (u : Routine) (is : slice_get p.units i ≡ Some u) (w : IsWellFormedUnit dialect u)
     (keeps : KeepsRule p DimensionSmashed) (table : HoldsSmashed p) (env : Environment) (apart : LieApart p.units i u env) where
@@ -277,7 +284,7 @@ module _ (dialect : Dialect) (p : Program) (i : ℕ) (u : Routine) (is : slice_g
   scalar_by_name : (x : Name) → (is_among x (names_of_unit u) ≡ true) × (is_array scope x ≡ false) → (q : Sort) × IsScalar u q x
   scalar_by_name x h = let d : IsNamed u.names x = unit.has_data dialect u w x h.0 in (d.its.sort, types.scalar_of dialect u w d.its.sort x h.0 h.1 (d.sort u.functions))
 
-  module _ (IsReference : Sort → Name → Type 0) (IsCall : Name → List Expr → Type 0) where
+  module _ (IsReference : Sort → Name → List Expr → Type 0) (IsCall : Name → List Expr → Type 0) where
     own_result : HasResult u env IsReference IsCall (is_function u)
     own_result = by_kind (is_function u) refl
       where
@@ -420,14 +427,9 @@ module _ (dialect : Dialect) (p : Program) (i : ℕ) (u : Routine) (is : slice_g
     good pc (Common groups) h refer calls = let bad : false ≡ true = h.performs in absurd (cc)
     good pc End h refer calls = let bad : false ≡ true = h.performs in absurd (cc)
 
--- the law for any kinds of references and CALLs
-module _ (dialect : Dialect) (p : Program) (i : ℕ) (u : Routine) (is : slice_get p.units i ≡ Some u) (w : IsWellFormedUnit dialect u)
-    (keeps : KeepsRule p DimensionSmashed) (table : HoldsSmashed p) (env : Environment) (apart : LieApart p.units i u env) where
-  pub line_is_good : (IsReference : Sort → Name → Type 0) (IsCall : Name → List Expr → Type 0) (pc : ℕ) (line : Line) → slice_get u.lines pc ≡ Some line
-      → AreReferred u IsReference (sites_of u line.stmt) → AreCalled IsCall (sites_of u line.stmt) → IsGood u env IsReference IsCall pc line.stmt
-  line_is_good IsReference IsCall pc line at refer calls =
-      good dialect p i u is w keeps table env apart IsReference IsCall pc line.stmt (fit_line dialect p i u is w keeps table env apart line (pc, at)) refer calls
-
 pub statements_are_good : StatementsAreGood
-statements_are_good dialect p i u is w keeps table env apart is_reference is_call =
-    line_is_good dialect p i u is w keeps table env apart (λ q a. is_reference q a ≡ true) (λ g args. is_call g args ≡ true)
+statements_are_good dialect p i u is w keeps table env apart pc line at =
+    good dialect p i u is w (keeps DimensionSmashed) table env apart (IsReferenceTo p i u) (IsCallTo p i u) pc line.stmt
+    (fit_line dialect p i u is w (keeps DimensionSmashed) table env apart line (pc, at))
+    (λ site q m e told. referred_in_text p keeps dialect i u is line (pc, at) site m q e told)
+    (λ site m e. called_in_text p keeps dialect i u is line (pc, at) site m e)

@@ -10,6 +10,7 @@ pub mod CallNames
 pub mod CallPassed
 pub mod CallSorts
 pub mod CallStood
+pub mod DeclaredCalls
 pub mod DeclaredDecks
 pub mod DeclaredNames
 pub mod DeclaredTypes

@@ -32,11 +32,11 @@ use Rattle.fort_laws.proofs.FrameSeats.{same_self, found}
 clash : (b : Bool) → b ≡ true → b ≡ false → ⊥
 clash b t f = cc
 
-neither : (a b : Bool) → (a || b) ≡ false → (a ≡ false) × (b ≡ false)
+pub neither : (a b : Bool) → (a || b) ≡ false → (a ≡ false) × (b ≡ false)
 neither true b h = absurd (cc)
 neither false b h = (refl, h)
 
-not_both : (a b : Bool) → (a && b) ≡ false → a ≡ true → b ≡ false
+pub not_both : (a b : Bool) → (a && b) ≡ false → a ≡ true → b ≡ false
 not_both true b h e = h
 not_both false b h e = absurd (cc)
 
@@ -44,11 +44,11 @@ both_are : (a b : Bool) → a ≡ true → b ≡ true → (a && b) ≡ true
 both_are true b e h = h
 both_are false b e h = absurd (cc)
 
-is_false : (b : Bool) → (b ≡ true → ⊥) → b ≡ false
+pub is_false : (b : Bool) → (b ≡ true → ⊥) → b ≡ false
 is_false true h = absurd (h refl)
 is_false false h = refl
 
-none_passes : {A : Type 0} (test : A → Bool) (xs : List A) (x : A) → list_any test xs ≡ false → IsAmong x xs → test x ≡ false
+pub none_passes : {A : Type 0} (test : A → Bool) (xs : List A) (x : A) → list_any test xs ≡ false → IsAmong x xs → test x ≡ false
 none_passes test [] x h m = absurd (cc)
 none_passes test (y ∷ ys) x h (zero, e) = let f : y ≡ x = cc in ap test (sym f) ∙ (neither (test y) (list_any test ys) h).0
 none_passes test (y ∷ ys) x h (suc k, e) = none_passes test ys x (neither (test y) (list_any test ys) h).1 (k, e)
@@ -66,7 +66,7 @@ passes_filter test (y ∷ ys) x (suc k, e) t = more_among (test y) x y (filter t
 
 -- ---- cards of broken rules
 
-card_found : (test : ℕ → Stmt → Bool) (pc : ℕ) (lines : List Line) (k : ℕ) (line : Line) → slice_get lines k ≡ Some line → test (pc + k) line.stmt ≡ true → IsAmong line.card (cards_of_lines test pc lines)
+pub card_found : (test : ℕ → Stmt → Bool) (pc : ℕ) (lines : List Line) (k : ℕ) (line : Line) → slice_get lines k ≡ Some line → test (pc + k) line.stmt ≡ true → IsAmong line.card (cards_of_lines test pc lines)
 card_found test pc [] k line e t = absurd (cc)
 card_found test pc (y ∷ ys) zero line e t =
     let f : y ≡ line = cc in
@@ -78,7 +78,7 @@ card_found test pc (y ∷ ys) (suc k) line e t =
     more_among (test pc y.stmt) line.card y.card (cards_of_lines test (suc pc) ys) (card_found test (suc pc) ys k line e (ap (λ (n : ℕ). test n line.stmt) (sym at) ∙ t))
 
 -- a rule on calls that no line breaks is broken by no call
-unbroken : (p : Program) (breaks : CallSite → ℕ → Routine → Bool) {i j : ℕ} (c : Calls p.units i j) → ((card : ℕ) → IsAmong card (at_lines c.caller (λ pc s. some_call p c.caller s breaks)) → ⊥)
+pub unbroken : (p : Program) (breaks : CallSite → ℕ → Routine → Bool) {i j : ℕ} (c : Calls p.units i j) → ((card : ℕ) → IsAmong card (at_lines c.caller (λ pc s. some_call p c.caller s breaks)) → ⊥)
     → breaks c.site j c.callee ≡ false
 unbroken p breaks {j = j} c none =
     let line_ok : some_call p c.caller c.line.stmt breaks ≡ false =
@@ -179,14 +179,14 @@ rules_pass_smashed_alone p keeps table shares = (λ i j c. passes_alone p keeps 
 
 -- ---- actuals match
 
-split : (a b : Bool) → (a && b) ≡ true → (a ≡ true) × (b ≡ true)
+pub split : (a b : Bool) → (a && b) ≡ true → (a ≡ true) × (b ≡ true)
 split true b h = (refl, h)
 split false b h = absurd (cc)
 
 same_number : (k n : ℕ) → (k == n) ≡ true → k ≡ n
 same_number k n t = search rules
 
-not_not : (b : Bool) → not b ≡ false → b ≡ true
+pub not_not : (b : Bool) → not b ≡ false → b ≡ true
 not_not true h = refl
 not_not false h = absurd (cc)
 
@@ -234,7 +234,7 @@ all_agree g es [] (b ∷ bs) h = absurd (cc)
 all_agree g es (a ∷ ds) [] h = absurd (cc)
 all_agree g es (a ∷ ds) (b ∷ bs) h = let s = split (dim_agrees g es a b) (dims_agree g es ds bs) h in (agrees g es a b s.0, all_agree g es ds bs s.1)
 
-fits_at : (g : Routine) (all : List Expr) (u : Routine) (ds : List Name) (es : List Expr) (n : ℕ) (d : Name) → all_fit g all u ds es ≡ true → slice_get ds n ≡ Some d
+pub fits_at : (g : Routine) (all : List Expr) (u : Routine) (ds : List Name) (es : List Expr) (n : ℕ) (d : Name) → all_fit g all u ds es ≡ true → slice_get ds n ≡ Some d
     → (e : Expr) × (slice_get es n ≡ Some e) × (fits_dummy g all u (data_name g d) e ≡ true)
 fits_at g all u [] es n d h a = absurd (cc)
 fits_at g all u (y ∷ ys) [] n d h a = absurd (cc)

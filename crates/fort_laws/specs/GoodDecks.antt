@@ -14,7 +14,7 @@ use Rattle.fort_syntax.specs.declared.unit.DataName.{DataName}
 use Rattle.fort_syntax.specs.declared.unit.Line.{Line}
 use Rattle.fort_syntax.specs.declared.unit.Unit.{Unit as Routine}
 use Rattle.fort_model.specs.Arguments.{reference_sort}
-use Rattle.fort_model.specs.Calls.{CallSite, sites_of}
+use Rattle.fort_model.specs.Calls.{Calls}
 use Rattle.fort_model.specs.Evaluate.{Scene}
 use Rattle.fort_model.specs.Fits.{IsIn, HaveShapes}
 use Rattle.fort_model.specs.Lists.{IsAmong}
@@ -23,6 +23,8 @@ use Rattle.fort_model.specs.Rules.{IsBroken, KeepsRules}
 use Rattle.fort_model.specs.Smashes.{Smashes, HoldsSmashed}
 use Rattle.fort_model.specs.Storage.{Storage, Environment}
 use Rattle.fort_model.specs.Symbols.{Symbol}
+use Rattle.fort_laws.specs.CallLaw.{Agrees, HasNames, LieApart}
+use Rattle.fort_laws.specs.Called.{IsReferenceTo, IsCallTo}
 use Rattle.fort_laws.specs.Declared.{AreDeclared}
 use Rattle.fort_laws.specs.GoodStatements.{HasScalarDims, IsGood}
 use Rattle.fort_laws.specs.Ways.{IsCutUp}
@@ -46,32 +48,20 @@ KeepsRule p rule = (i card : ℕ) → IsBroken p rule i card → ⊥
 abbrev pub WellFormedIsDeclared : Type 0
 WellFormedIsDeclared = (dialect : Dialect) (deck : Deck) (p : Program) → IsWellFormed dialect deck → deck.units ≡ p.units → KeepsRule p BlockMissing → AreDeclared p.units
 
+-- the calls of a well-formed deck that keeps the rules agree with the units that they are of, whose names are held as calls take it
+abbrev pub CallsAgree : Type 0
+CallsAgree =
+    (dialect : Dialect) (deck : Deck) (p : Program) → IsWellFormed dialect deck → deck.units ≡ p.units → KeepsRules p
+    → (i j : ℕ) (c : Calls p.units i j) → Agrees c × HasNames c.callee
+
 -- ---- statements
 
--- references among some calls are such, where they have the types that the unit gives their functions
-abbrev pub AreReferred : Routine → (Sort → Name → Type 0) → List CallSite → Type 0
-AreReferred u IsReference sites =
-    (site : CallSite) (q : Sort) → IsAmong site sites → site.reference ≡ true → reference_sort u.functions site.callee ≡ Some q → IsReference q site.callee
-
--- CALLs among some calls are such
-abbrev pub AreCalled : (Name → List Expr → Type 0) → List CallSite → Type 0
-AreCalled IsCall sites = (site : CallSite) → IsAmong site sites → site.reference ≡ false → IsCall site.callee site.actuals
-
--- no cell of a data name that the unit smashes is a cell of another of its data names
-abbrev pub LieApart : List Routine → ℕ → Routine → Environment → Type 0
-LieApart units i u env =
-    (d e : DataName) → IsAmong d u.names → IsAmong e u.names → Smashes units i d.name → d.name ≢ e.name → (k : ℕ) → IsIn k (env d.name) → IsIn k (env e.name) → ⊥
-
--- In a well-formed unit of a program that smashes no dimension, where smashed names lie apart, each statement is good: its parts have the
--- types that their places demand, and it writes only what may be written. Tests tell which references and CALLs there are, and say so of
--- those in the statement.
+-- In a well-formed unit of a program that keeps the rules, where smashed names lie apart, each statement is good: its parts have the
+-- types that their places demand, it writes only what may be written, and its references and CALLs are those of the text.
 abbrev pub StatementsAreGood : Type 0
 StatementsAreGood =
-    (dialect : Dialect) (p : Program) (i : ℕ) (u : Routine) → slice_get p.units i ≡ Some u → IsWellFormedUnit dialect u → KeepsRule p DimensionSmashed → HoldsSmashed p
-    → (env : Environment) → LieApart p.units i u env → (is_reference : Sort → Name → Bool) (is_call : Name → List Expr → Bool)
-    → (pc : ℕ) (line : Line) → slice_get u.lines pc ≡ Some line
-    → AreReferred u (λ q a. is_reference q a ≡ true) (sites_of u line.stmt) → AreCalled (λ g args. is_call g args ≡ true) (sites_of u line.stmt)
-    → IsGood u env (λ q a. is_reference q a ≡ true) (λ g args. is_call g args ≡ true) pc line.stmt
+    (dialect : Dialect) (p : Program) (i : ℕ) (u : Routine) → slice_get p.units i ≡ Some u → IsWellFormedUnit dialect u → KeepsRules p → HoldsSmashed p
+    → (env : Environment) → LieApart p.units i u env → (pc : ℕ) (line : Line) → slice_get u.lines pc ≡ Some line → IsGood u env (IsReferenceTo p i u) (IsCallTo p i u) pc line.stmt
 
 -- ---- notes
 

@@ -1,6 +1,7 @@
 // What well-formed decks that keep the rules give.
 ghost use Rattle.fort_laws.specs.GoodDecks.{
   BlocksHoldCommons,
+  CallsAgree,
   ClocksAreEqual,
   DimensionsAreScalars,
   StatementsAreGood,
@@ -37,9 +38,16 @@ pub fn well_formed_is_declared()
     ensures { WellFormedIsDeclared }
 {}
 
-/// In a well-formed unit of a program that smashes none of its dimensions, where the cells of
-/// smashed names lie apart from all others, each statement is good: its parts have the types that
-/// their places demand, and it writes only what may be written. It does nothing.
+/// In a well-formed unit of a program that keeps the rules, where the cells of smashed names lie
+/// apart from all others, each statement is good: its parts have the types that their places
+/// demand, it writes only what may be written, and its calls are those of the text. It does
+/// nothing.
 pub fn statements_are_good()
     ensures { StatementsAreGood }
+{}
+
+/// The calls of a well-formed deck that keeps the rules agree in types with the units that they
+/// are of, as the law of calls takes it. It does nothing.
+pub fn calls_agree()
+    ensures { CallsAgree }
 {}

@@ -17,7 +17,7 @@ mod ways;
 pub use calls::{calls_are_matched, unit_calls_match};
 pub use clocks::clocks_fall_only_so_often;
 pub use decks::{
-    blocks_are_common, clocks_are_equal, dimensions_are_scalars, statements_are_good,
+    blocks_are_common, calls_agree, clocks_are_equal, dimensions_are_scalars, statements_are_good,
     units_are_cut_up, well_formed_is_declared,
 };
 pub use exactness::{
