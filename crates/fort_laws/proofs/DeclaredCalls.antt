@@ -33,8 +33,8 @@ use Rattle.fort_laws.proofs.DeclaredTypes.{AreReferred}
 use Rattle.fort_laws.proofs.DeclaredUses.{Each, each_of, IsRightLine, right_line}
 use Rattle.fort_laws.proofs.FrameEnter.{SameOrNot, same, other, same_or_not}
 use Rattle.fort_laws.proofs.FrameSeats.{clash, same_self}
-use Rattle.fort_laws.proofs.RulesKept.{unbroken, card_found, fits_at}
-use Rattle.fort_laws.proofs.Tests.{both, neither, one_fails, one_holds, is_false, not_true, not_not, none_among}
+use Rattle.fort_laws.proofs.RulesKept.{card_found, fits_at, is_false, neither, none_passes, not_both, not_not, split, unbroken}
+use Rattle.fort_laws.proofs.Tests.{not_so, one_holds, one_item}
 
 -- ---- units by their names
 
@@ -68,20 +68,17 @@ callee_found units site j h = by_kind site.reference refl
     by_kind : (t : Bool) → site.reference ≡ t → IsCalled units site j
     by_kind true e =
         let r = first_found (λ g. is_function g && same_name g.name site.callee) units 0 j (ap (λ b. cond b (function units site.callee) (subroutine units site.callee)) (sym e) ∙ h) in
-        let b = both (is_function r.2) (same_name (r.2).name site.callee) r.4 in
+        let b = split (is_function r.2) (same_name (r.2).name site.callee) r.4 in
         record { unit = r.2; at = at_start units r.2 r.0 r.1 r.3; name = same_text (r.2).name site.callee (sym b.1); function = λ k. b.0 }
     by_kind false e =
         let r = first_found (λ g. not (is_function g) && same_name g.name site.callee) units 0 j (ap (λ b. cond b (function units site.callee) (subroutine units site.callee)) (sym e) ∙ h) in
-        let b = both (not (is_function r.2)) (same_name (r.2).name site.callee) r.4 in
+        let b = split (not (is_function r.2)) (same_name (r.2).name site.callee) r.4 in
         record { unit = r.2; at = at_start units r.2 r.0 r.1 r.3; name = same_text (r.2).name site.callee (sym b.1); function = λ k. absurd (clash site.reference k e) }
 
 called_name : (units : List Routine) (i j : ℕ) (c : Calls units i j) → c.callee.name ≡ c.site.callee
 called_name units i j c =
     let r : IsCalled units c.site j = callee_found units c.site j c.is_of in
-    ap (λ (g : Routine). g.name) (same_unit c.callee r.unit (sym c.is_callee ∙ r.at)) ∙ r.name
-  where
-    same_unit : (g h : Routine) → Some g ≡ Some h → g ≡ h
-    same_unit g h e = cc
+    ap (λ (g : Routine). g.name) (one_item (sym c.is_callee ∙ r.at)) ∙ r.name
 
 -- ---- types of actuals and of references
 
@@ -101,11 +98,11 @@ module _ (p : Program) (keeps : KeepsRules p) where
 
   module _ (dialect : Dialect) (i : ℕ) (u : Routine) (is : slice_get p.units i ≡ Some u) (line : Line) (m : IsAmong line u.lines) (site : CallSite) (k : IsAmong site (sites_of u line.stmt)) where
     known_unit : (j : ℕ) × (callee_of p.units site ≡ Some j)
-    known_unit = some_unit (callee_of p.units site) (none_among (λ s. is_nobody (callee_of p.units s)) (sites_of u line.stmt) site line_ok k)
+    known_unit = some_unit (callee_of p.units site) (none_passes (λ s. is_nobody (callee_of p.units s)) (sites_of u line.stmt) site line_ok k)
       where
         line_ok : calls_nobody p u line.stmt ≡ false
         line_ok =
-            not_true (calls_nobody p u line.stmt)
+            is_false (calls_nobody p u line.stmt)
             (λ t. keeps UnknownUnit i line.card (record { unit = u; is_unit = is; breaks = card_found (λ pc s. calls_nobody p u s) 0 u.lines m.0 line m.1 t }))
 
         some_unit : (o : Option ℕ) → is_nobody o ≡ false → (j : ℕ) × (o ≡ Some j)
@@ -151,7 +148,7 @@ module _ (p : Program) (keeps : KeepsRules p) where
 module _ (dialect : Dialect) (u : Routine) (w : IsWellFormedUnit dialect u) where
   -- the own name stands among no dummies and COMMON entities
   own_name_held : is_among u.name (u.dummies ++ commons_of_unit u) ≡ false
-  own_name_held = (neither (is_among u.name (u.dummies ++ commons_of_unit u)) (has_twin (u.dummies ++ commons_of_unit u)) (is_false (has_twin (u.name ∷ u.dummies ++ commons_of_unit u)) w.held)).0
+  own_name_held = (neither (is_among u.name (u.dummies ++ commons_of_unit u)) (has_twin (u.dummies ++ commons_of_unit u)) (not_so (has_twin (u.name ∷ u.dummies ++ commons_of_unit u)) w.held)).0
 
   own_alone : (o : Option Sort) (x : Name) → is_among x (cond (is_some o) (u.name ∷ []) []) ≡ true → (x ≡ u.name) × (is_some o ≡ true)
   own_alone None x h = absurd (cc)
@@ -171,7 +168,7 @@ module _ (dialect : Dialect) (u : Routine) (w : IsWellFormedUnit dialect u) wher
       d = unit.own_data dialect u w u.name own
 
       not_held : (xs : List Name) → (is_among d.its.name xs ≡ true → is_among d.its.name (u.dummies ++ commons_of_unit u) ≡ true) → is_among d.its.name xs ≡ false
-      not_held xs on = not_true (is_among d.its.name xs) (λ t. clash (is_among u.name (u.dummies ++ commons_of_unit u)) (ap (λ x. is_among x (u.dummies ++ commons_of_unit u)) (sym d.name) ∙ on t) own_name_held)
+      not_held xs on = is_false (is_among d.its.name xs) (λ t. clash (is_among u.name (u.dummies ++ commons_of_unit u)) (ap (λ x. is_among x (u.dummies ++ commons_of_unit u)) (sym d.name) ∙ on t) own_name_held)
 
   pub names_are_held : HasNames u
   names_are_held = record {
@@ -192,7 +189,7 @@ module _ (dialect : Dialect) (u : Routine) (w : IsWellFormedUnit dialect u) wher
       let r : IsRightLine u line.stmt = right_line dialect u w line m in
       each_of u CallsOther
       (λ f m args e k h. types.function_no_data dialect u w f (types.reference_is_function dialect u w f (length (syntax.listed args)) e k))
-      (λ f args k h. is_false (is_among f (names_of_unit u)) (both (is_name f) (not (is_among f (names_of_unit u))) k).1)
+      (λ f args k h. not_so (is_among f (names_of_unit u)) (split (is_name f) (not (is_among f (names_of_unit u))) k).1)
       line.stmt r.form r.uses
 
 -- ---- calls agree
@@ -210,12 +207,9 @@ module _ (dialect : Dialect) (p : Program) (wells : AreWellFormedUnits dialect p
     dummy_types d n e m a k =
         let r = fits_at c.callee c.site.actuals c.caller c.callee.dummies c.site.actuals n d.name (matched p keeps i j c).0 a in
         let fit : fits_dummy c.callee c.site.actuals c.caller (Some d) e ≡ true =
-        ap (fits_dummy c.callee c.site.actuals c.caller (Some d)) (same_actual e r.0 (sym k ∙ r.1))
+        ap (fits_dummy c.callee c.site.actuals c.caller (Some d)) (one_item (sym k ∙ r.1))
         ∙ (ap (λ o. fits_dummy c.callee c.site.actuals c.caller o r.0) (sym (found_name c.callee.names d (unit.no_twins dialect c.callee callee_is) m)) ∙ r.2) in
-        (both (same_sort_as d.sort (sort_of_expr c.caller e)) (dims_agree c.callee c.site.actuals d.dims (dims_of_actual c.caller e)) fit).0
-      where
-        same_actual : (a b : Expr) → Some a ≡ Some b → a ≡ b
-        same_actual a b q = cc
+        (split (same_sort_as d.sort (sort_of_expr c.caller e)) (dims_agree c.callee c.site.actuals d.dims (dims_of_actual c.caller e)) fit).0
 
     common_types : (d e : DataName) → IsAmong d c.callee.names → d.role ≡ InCommon → IsAmong e c.caller.names → e.name ≡ d.name → e.sort ≡ d.sort
     common_types d e m r k q =

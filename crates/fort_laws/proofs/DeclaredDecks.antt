@@ -36,8 +36,9 @@ use Rattle.fort_laws.proofs.DeclaredUnits as unit
 use Rattle.fort_laws.proofs.DeclaredUses.{right_line, set_data, pass_data}
 use Rattle.fort_laws.proofs.FrameSeats.{clash, same_is}
 use Rattle.fort_laws.proofs.Kept.{among_left, among_right}
-use Rattle.fort_laws.proofs.RulesKept.{unbroken}
-use Rattle.fort_laws.proofs.Tests.{both, one_holds, not_true, not_not, all_among, none_among, some_passes}
+use Rattle.fort_laws.proofs.RulesKept.{is_false, none_passes, not_not, split, unbroken}
+use Rattle.fort_laws.proofs.Small.{some_passes}
+use Rattle.fort_laws.proofs.Tests.{all_among, one_holds, one_item}
 
 -- ---- one unit
 
@@ -53,11 +54,8 @@ module _ (dialect : Dialect) (u : Routine) (w : IsWellFormedUnit dialect u) wher
         array_is_dummy = r.array_is_dummy;
         has = record { its = own.its; among = own.among; name = own.name };
         is_dummy = unit.dummy_role dialect u w own.its own.among (ap (λ y. is_among y u.dummies) own.name ∙ r.dummy);
-        is_scalar = ap (λ (e : DataName). e.dims) (same_data own.its r.scalar.data_of (sym own.is ∙ r.scalar.is)) ∙ r.scalar.scalar;
+        is_scalar = ap (λ (e : DataName). e.dims) (one_item (sym own.is ∙ r.scalar.is)) ∙ r.scalar.scalar;
       }
-    where
-      same_data : (a b : DataName) → Some a ≡ Some b → a ≡ b
-      same_data a b q = cc
 
   pub unit_is_declared : IsDeclared u
   unit_is_declared = record {
@@ -102,7 +100,7 @@ one_shape : (ds es : List Dim) → same_dims ds es ≡ true → ds ≡ es
 one_shape [] [] h = refl
 one_shape [] (e ∷ es) h = absurd (cc)
 one_shape (d ∷ ds) [] h = absurd (cc)
-one_shape (d ∷ ds) (e ∷ es) h = let b = both (same_dim d e) (same_dims ds es) h in ap (λ z. z ∷ ds) (one_dim d e b.0) ∙ ap (λ zs. e ∷ zs) (one_shape ds es b.1)
+one_shape (d ∷ ds) (e ∷ es) h = let b = split (same_dim d e) (same_dims ds es) h in ap (λ z. z ∷ ds) (one_dim d e b.0) ∙ ap (λ zs. e ∷ zs) (one_shape ds es b.1)
 
 -- what two blocks that agree say of a name
 pub record Shared (u v : Routine) (names : List Name) (x : Name) : Type 0 where
@@ -119,23 +117,20 @@ same_rest u v xs ys = same_members (map (member_of (scope_of_unit u)) xs) (map (
 shared_member : (u v : Routine) (xs ys : List Name) (x : Name) → same_rest u v xs ys ≡ true → IsAmong x xs → Shared u v ys x
 shared_member u v [] ys x h m = absurd (cc)
 shared_member u v (z ∷ xs) [] x h m = absurd (cc)
-shared_member u v (z ∷ xs) (y ∷ ys) x h m = pick m (both (same_one u v z y) (same_rest u v xs ys) h) (shared_member u v xs ys x)
+shared_member u v (z ∷ xs) (y ∷ ys) x h m = pick m (split (same_one u v z y) (same_rest u v xs ys) h) (shared_member u v xs ys x)
   where
     pick : IsAmong x (z ∷ xs) → (same_one u v z y ≡ true) × (same_rest u v xs ys ≡ true) → (same_rest u v xs ys ≡ true → IsAmong x xs → Shared u v ys x) → Shared u v (y ∷ ys) x
     pick (suc k, e) b rec = let r : Shared u v ys x = rec b.1 (k, e) in record { among = (suc r.among.0, r.among.1); sort = r.sort; dims = r.dims }
     pick (zero, e) b rec =
-        let p : z ≡ x = same_item e in
-        let c = both _ _ b.0 in
-        let d = both _ _ c.0 in
+        let p : z ≡ x = one_item e in
+        let c = split _ _ b.0 in
+        let d = split _ _ c.0 in
         let q : z ≡ y = same_text z y (sym d.0) in
         record {
           among = (0, ap Some (sym q ∙ p));
           sort = subst (λ n. same_option ((scope_of_unit u).sort n) ((scope_of_unit v).sort n) ≡ true) p (subst (λ n. same_option ((scope_of_unit u).sort z) ((scope_of_unit v).sort n) ≡ true) (sym q) d.1);
           dims = subst (λ n. (scope_of_unit u).dims n ≡ (scope_of_unit v).dims n) p (subst (λ n. (scope_of_unit u).dims z ≡ (scope_of_unit v).dims n) (sym q) (one_shape _ _ c.1));
         }
-      where
-        same_item : Some z ≡ Some x → z ≡ x
-        same_item k = cc
 
 among_items : (gs : List Group) (h : Group) (x : Name) → IsAmong h gs → IsAmong x (names_of_items h.items) → IsAmong x (items_of gs)
 among_items [] h x m k = absurd (cc)
@@ -150,10 +145,7 @@ lacks_none p keeps i j c = unbroken p (λ site. lacks_block c.caller) c (λ card
 
 pub well_at : (dialect : Dialect) (us : List Routine) (i : ℕ) (u : Routine) → AreWellFormedUnits dialect us → slice_get us i ≡ Some u → IsWellFormedUnit dialect u
 well_at dialect [] i u w e = absurd (cc)
-well_at dialect (v ∷ us) zero u w e = subst (IsWellFormedUnit dialect) (same_item e) w.0
-  where
-    same_item : Some v ≡ Some u → v ≡ u
-    same_item k = cc
+well_at dialect (v ∷ us) zero u w e = subst (IsWellFormedUnit dialect) (one_item e) w.0
 well_at dialect (v ∷ us) (suc i) u w e = well_at dialect us i u w.1 e
 
 module _ (dialect : Dialect) (p : Program) (wells : AreWellFormedUnits dialect p.units) (agree : list_all (λ u. list_all (agree_on_blocks u) p.units) p.units ≡ true) (keeps : KeepsRule p BlockMissing) where
@@ -168,7 +160,7 @@ module _ (dialect : Dialect) (p : Program) (wells : AreWellFormedUnits dialect p
       where
         h : (h : Group) × IsAmong h c.caller.blocks × (same_block h.block g.block ≡ true)
         h = some_passes (λ h. same_block h.block g.block) c.caller.blocks
-            (not_not (declares c.caller g.block) (none_among (λ g. not (declares c.caller g.block)) c.callee.blocks g (lacks_none p keeps i j c) m))
+            (not_not (declares c.caller g.block) (none_passes (λ g. not (declares c.caller g.block)) c.callee.blocks g (lacks_none p keeps i j c) m))
 
         one_name : syntax.same_name (name_of_block g.block) (name_of_block (h.0).block) ≡ true
         one_name = same_is (name_of_block g.block) (name_of_block (h.0).block) (sym (same_blocks (h.0).block g.block h.2))

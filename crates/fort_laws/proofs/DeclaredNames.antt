@@ -10,7 +10,9 @@ use Rattle.fort_model.specs.Names.{same_name, data_name_in, dims_in}
 use Rattle.fort_laws.proofs.FrameEnter.{SameOrNot, same, other, same_or_not}
 use Rattle.fort_laws.proofs.FrameSeats.{same_self, same_is, clash}
 use Rattle.fort_laws.proofs.Near.{known}
-use Rattle.fort_laws.proofs.Tests.{neither, one_holds, none_among}
+use Rattle.fort_laws.proofs.RulesKept.{neither, none_passes}
+use Rattle.fort_laws.proofs.Small.{map_at}
+use Rattle.fort_laws.proofs.Tests.{one_holds, one_item}
 
 -- ---- names in lists
 
@@ -23,20 +25,12 @@ named_among (y ∷ ys) x h = by_name (same_or_not x y) (named_among ys x)
     by_name (other n t) rec = let m = rec (one_holds (same_name x y) (is_among x ys) h t) in (suc m.0, m.1)
 
 pub among_named : (xs : List Name) (x : Name) → IsAmong x xs → is_among x xs ≡ true
-among_named xs x m = known (is_among x xs) (λ t. t) (λ f. absurd (clash (same_name x x) (same_self x) (none_among (same_name x) xs x f m)))
+among_named xs x m = known (is_among x xs) (λ t. t) (λ f. absurd (clash (same_name x x) (same_self x) (none_passes (same_name x) xs x f m)))
 
 pub among_mapped : {A B : Type 0} (f : A → B) (xs : List A) (y : B) → IsAmong y (map f xs) → (x : A) × IsAmong x xs × (f x ≡ y)
 among_mapped f [] y m = absurd (cc)
-among_mapped f (x ∷ xs) y (zero, e) = (x, (0, refl), same_item e)
-  where
-    same_item : Some (f x) ≡ Some y → f x ≡ y
-    same_item q = cc
+among_mapped f (x ∷ xs) y (zero, e) = (x, (0, refl), one_item e)
 among_mapped f (x ∷ xs) y (suc k, e) = let r = among_mapped f xs y (k, e) in (r.0, (suc r.1.0, r.1.1), r.2)
-
-pub mapped_at : {A B : Type 0} (f : A → B) (xs : List A) (n : ℕ) (x : A) → slice_get xs n ≡ Some x → slice_get (map f xs) n ≡ Some (f x)
-mapped_at f [] n x e = absurd (cc)
-mapped_at f (y ∷ xs) zero x e = let q : y ≡ x = cc in ap (λ z. Some (f z)) q
-mapped_at f (y ∷ xs) (suc n) x e = mapped_at f xs n x e
 
 -- ---- lists without twins
 
@@ -87,7 +81,7 @@ no_twin_apart (z ∷ xs) ys x h a = by_name (same_or_not x z) (no_twin_apart xs 
         (λ k. k)
 
 pub do_not_meet : (xs ys : List Name) (x : Name) → do_meet xs ys ≡ false → is_among x xs ≡ true → is_among x ys ≡ false
-do_not_meet xs ys x h a = none_among (λ y. is_among y ys) xs x h (named_among xs x a)
+do_not_meet xs ys x h a = none_passes (λ y. is_among y ys) xs x h (named_among xs x a)
 
 -- ---- data names
 
@@ -155,16 +149,13 @@ same_dims_told (d ∷ ds) x = by_test (same_name d.name x) (same_dims_told ds x)
 
 -- where no two data names have one name, a name tells its data name
 pub one_data_name : (ds : List DataName) (d e : DataName) → has_twin (names_in ds) ≡ false → IsAmong d ds → IsAmong e ds → d.name ≡ e.name → d ≡ e
-one_data_name ds d e h m k q = same_item (sym m.1 ∙ (ap (slice_get ds) at ∙ k.1))
+one_data_name ds d e h m k q = one_item (sym m.1 ∙ (ap (slice_get ds) at ∙ k.1))
   where
     at : m.0 ≡ k.0
-    at = only_once (names_in ds) m.0 k.0 e.name h (mapped_at (λ (z : DataName). z.name) ds m.0 d m.1 ∙ ap Some q) (mapped_at (λ (z : DataName). z.name) ds k.0 e k.1)
-
-    same_item : Some d ≡ Some e → d ≡ e
-    same_item p = cc
+    at = only_once (names_in ds) m.0 k.0 e.name h (map_at (λ (z : DataName). z.name) ds m.0 d m.1 ∙ ap Some q) (map_at (λ (z : DataName). z.name) ds k.0 e k.1)
 
 pub has_own_name : (ds : List DataName) (d : DataName) → IsAmong d ds → is_among d.name (names_in ds) ≡ true
-has_own_name ds d m = among_named (names_in ds) d.name (m.0, mapped_at (λ (z : DataName). z.name) ds m.0 d m.1)
+has_own_name ds d m = among_named (names_in ds) d.name (m.0, map_at (λ (z : DataName). z.name) ds m.0 d m.1)
 
 pub found_name : (ds : List DataName) (d : DataName) → has_twin (names_in ds) ≡ false → IsAmong d ds → data_name_in ds d.name ≡ Some d
 found_name ds d h m =
@@ -195,9 +186,6 @@ pub found_named : (ds : List DataName) (x : Name) (d : DataName) → data_name_i
 found_named [] x d h = absurd (cc)
 found_named (e ∷ ds) x d h = by_name (same_or_not e.name x) (found_named ds x d)
   where
-    same_item : Some e ≡ Some d → e ≡ d
-    same_item q = cc
-
     by_name : SameOrNot e.name x → (data_name_in ds x ≡ Some d → d.name ≡ x) → d.name ≡ x
-    by_name (same q t) rec = ap (λ (z : DataName). z.name) (sym (same_item (ap (λ (b : Bool). cond b (Some e) (data_name_in ds x)) (sym t) ∙ h))) ∙ q
+    by_name (same q t) rec = ap (λ (z : DataName). z.name) (sym (one_item (ap (λ (b : Bool). cond b (Some e) (data_name_in ds x)) (sym t) ∙ h))) ∙ q
     by_name (other n t) rec = rec (ap (λ (b : Bool). cond b (Some e) (data_name_in ds x)) (sym t) ∙ h)

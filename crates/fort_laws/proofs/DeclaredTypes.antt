@@ -32,7 +32,8 @@ use Rattle.fort_laws.proofs.FrameEnter.{SameOrNot, same, other, same_or_not}
 use Rattle.fort_laws.proofs.FrameSeats.{clash}
 use Rattle.fort_laws.proofs.Kept.{among_left, among_right}
 use Rattle.fort_laws.proofs.Near.{known}
-use Rattle.fort_laws.proofs.Tests.{both, neither, one_fails, one_holds, is_false, not_not}
+use Rattle.fort_laws.proofs.RulesKept.{neither, not_both, not_not, split}
+use Rattle.fort_laws.proofs.Tests.{not_so, one_holds}
 
 -- ---- types
 
@@ -155,9 +156,9 @@ module _ (dialect : Dialect) (u : Routine) (w : IsWellFormedUnit dialect u) wher
   -- a function of the unit is no data name
   pub function_no_data : (f : Name) → is_among f (functions_of_unit u) ≡ true → is_among f (names_of_unit u) ≡ false
   function_no_data f m =
-      let alone = both (not (has_twin (functions_of_unit u)) && not (do_meet (functions_of_unit u) (names_of_unit u))) (not (list_any is_intrinsic_name (functions_of_unit u)))
-      (both _ (not (is_among u.name (functions_of_unit u))) w.functions).0 in
-      do_not_meet (functions_of_unit u) (names_of_unit u) f (is_false _ (both (not (has_twin (functions_of_unit u))) _ alone.0).1) m
+      let alone = split (not (has_twin (functions_of_unit u)) && not (do_meet (functions_of_unit u) (names_of_unit u))) (not (list_any is_intrinsic_name (functions_of_unit u)))
+      (split _ (not (is_among u.name (functions_of_unit u))) w.functions).0 in
+      do_not_meet (functions_of_unit u) (names_of_unit u) f (not_so _ (split (not (has_twin (functions_of_unit u))) _ alone.0).1) m
 
   -- a function of the unit gives the type that the unit says
   function_type : (f : Name) → is_array scope f ≡ false → is_intrinsic_name f ≡ false → is_among f (functions_of_unit u) ≡ true
@@ -259,7 +260,7 @@ module _ (dialect : Dialect) (u : Routine) (w : IsWellFormedUnit dialect u) wher
         go (d ∷ ds) o e k refer =
             let dims_are : dims_among u.names f ≡ d ∷ ds = sym (same_dims_told u.names f) ∙ e in
             let array : is_array scope f ≡ true = ap is_given_dims dims_are in
-            let many : n ≡ length (d ∷ ds) = same_number n (length (d ∷ ds)) (ap (λ zs. n == length zs) (sym dims_are) ∙ not_not (n == length (dims_among u.names f)) (one_fails (is_array scope f) _ no_use.0 array)) in (
+            let many : n ≡ length (d ∷ ds) = same_number n (length (d ∷ ds)) (ap (λ zs. n == length zs) (sym dims_are) ∙ not_not (n == length (dims_among u.names f)) (not_both (is_array scope f) _ no_use.0 array)) in (
               array_of q f (d ∷ ds) array dims_are (sym (array_sort f array) ∙ t),
               row_count args ∙ many,
               integers (ap (λ b. b || is_intrinsic_name f) array) (integers_demanded f (syntax.listed args) fit (ap (λ b. b || is_intrinsic scope f) array)),
@@ -269,7 +270,7 @@ module _ (dialect : Dialect) (u : Routine) (w : IsWellFormedUnit dialect u) wher
             let is : is_intrinsic_name f ≡ true = known (is_intrinsic_name f) (λ y. y) (λ y. absurd (unlike g (sym k ∙ not_intrinsic f y))) in
             let whole : is_intrinsic scope f ≡ true = ap (λ b. is_intrinsic_name f && not b) scalar ∙ ap (λ b. b && true) is in
             let of = intrinsic_named f is in
-            let takes : takes_so_many f n ≡ true = not_not (takes_so_many f n) (one_fails (is_intrinsic scope f) _ no_use.1 whole) in (
+            let takes : takes_so_many f n ≡ true = not_not (takes_so_many f n) (not_both (is_intrinsic scope f) _ no_use.1 whole) in (
               sym (one_type Integer q (sym (intrinsic_sort f scalar is) ∙ t)),
               subst (λ z. IsCount z (row_length args)) (same_one of.0 g (sym of.1 ∙ k)) (subst (IsCount of.0) (sym (row_count args)) (of.2 n takes)),
               integers (ap (λ b. b || is_intrinsic_name f) scalar ∙ is) (integers_demanded f (syntax.listed args) fit (ap (λ b. b || is_intrinsic scope f) scalar ∙ whole)),
@@ -292,10 +293,10 @@ module _ (dialect : Dialect) (u : Routine) (w : IsWellFormedUnit dialect u) wher
     pub referred_right : (xs ys : List CallSite) → AreReferred u IsReference (xs ++ ys) → AreReferred u IsReference ys
     referred_right xs ys h site q m = h site q (among_right site xs ys m)
 
-    -- both operands have a type
+    -- split operands have a type
     two_types : (q : Sort) (a b : Expr) → (same_option (type_of scope a) (Some q) && same_option (type_of scope b) (Some q)) ≡ true
         → (type_of scope a ≡ Some q) × (type_of scope b ≡ Some q)
-    two_types q a b h = let t = both _ _ h in (same_type _ q t.0, same_type _ q t.1)
+    two_types q a b h = let t = split _ _ h in (same_type _ q t.0, same_type _ q t.1)
 
     two_typed : (q : Sort) (a b : Expr)
         → (AreRight u (uses_in read a) → AreFit u (parts a) → AreReferred u IsReference (sites_in u a) → type_of scope a ≡ Some q → IsTyped u IsReference q a)
@@ -365,7 +366,7 @@ module _ (dialect : Dialect) (u : Routine) (w : IsWellFormedUnit dialect u) wher
           → list_all (gives_integer scope) (syntax.listed args) ≡ true → AreInteger u IsReference args
       integers how of end_of-Expr h fit refer t = tt
       integers how of (more_of-Expr e es) h fit refer t =
-          let b = both (gives_integer scope e) (list_all (gives_integer scope) (syntax.listed es)) t in (
+          let b = split (gives_integer scope e) (list_all (gives_integer scope) (syntax.listed es)) t in (
             typed how of Integer e (right_left u (uses_in how e) (uses_in_row how es) h) (fit_left u (parts e) (parts_of_row es) fit) (referred_left (sites_in u e) (sites_in_row u es) refer) (same_type _ Integer b.0),
             integers how of es (right_right u (uses_in how e) (uses_in_row how es) h) (fit_right u (parts e) (parts_of_row es) fit) (referred_right (sites_in u e) (sites_in_row u es) refer) b.1,
           )

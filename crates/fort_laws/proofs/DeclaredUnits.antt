@@ -28,7 +28,8 @@ use Rattle.fort_laws.specs.Typed.{IsScalar, AreDims}
 use Rattle.fort_laws.proofs.DeclaredNames.{IsNamed, named, named_among, among_named, names_in, has_own_name, data_among, among_joined_left, among_joined_right, no_twin_apart}
 use Rattle.fort_laws.proofs.FrameSeats.{clash}
 use Rattle.fort_laws.proofs.Near.{known}
-use Rattle.fort_laws.proofs.Tests.{both, neither, is_false, all_among, none_among, among_given}
+use Rattle.fort_laws.proofs.RulesKept.{neither, none_passes, split}
+use Rattle.fort_laws.proofs.Tests.{all_among, among_given, not_so, one_item}
 
 -- ---- roles
 
@@ -110,11 +111,11 @@ module _ (dialect : Dialect) (u : Routine) (w : IsWellFormedUnit dialect u) wher
 
   parts : ((not (has_twin (names_of_unit u)) ≡ true) × (list_all (λ x. is_among x (names_of_unit u)) (u.dummies ++ commons_of_unit u ++ own_value_of_unit u) ≡ true))
   parts =
-      both (not (has_twin (names_of_unit u))) (list_all (λ x. is_among x (names_of_unit u)) (u.dummies ++ commons_of_unit u ++ own_value_of_unit u))
-      (both (not (has_twin (names_of_unit u)) && list_all (λ x. is_among x (names_of_unit u)) (u.dummies ++ commons_of_unit u ++ own_value_of_unit u)) (is_some u.sort || not (is_among u.name (names_of_unit u))) w.data_names).0
+      split (not (has_twin (names_of_unit u))) (list_all (λ x. is_among x (names_of_unit u)) (u.dummies ++ commons_of_unit u ++ own_value_of_unit u))
+      (split (not (has_twin (names_of_unit u)) && list_all (λ x. is_among x (names_of_unit u)) (u.dummies ++ commons_of_unit u ++ own_value_of_unit u)) (is_some u.sort || not (is_among u.name (names_of_unit u))) w.data_names).0
 
   pub no_twins : has_twin (names_in u.names) ≡ false
-  no_twins = is_false (has_twin (names_of_unit u)) parts.0
+  no_twins = not_so (has_twin (names_of_unit u)) parts.0
 
   pub has_data : (x : Name) → is_among x (names_of_unit u) ≡ true → IsNamed u.names x
   has_data x h = named u.names x h
@@ -136,13 +137,13 @@ module _ (dialect : Dialect) (u : Routine) (w : IsWellFormedUnit dialect u) wher
   pub no_twins_held : has_twin (u.dummies ++ commons_of_unit u) ≡ false
   no_twins_held =
       (neither (is_among u.name (u.dummies ++ commons_of_unit u)) (has_twin (u.dummies ++ commons_of_unit u))
-      (is_false (has_twin (u.name ∷ u.dummies ++ commons_of_unit u)) w.held)).1
+      (not_so (has_twin (u.name ∷ u.dummies ++ commons_of_unit u)) w.held)).1
 
   -- ---- roles
 
   right_role : (d : DataName) → IsAmong d u.names → (d.role ≡ role_in_unit u d.name) × ((not (same_role d.role OwnValue) || same_option (Some d.sort) u.sort) ≡ true)
   right_role d m =
-      let b = both (same_role d.role (role_in_unit u d.name)) (not (same_role d.role OwnValue) || same_option (Some d.sort) u.sort) (all_among (has_right_role u) u.names d w.roles m) in
+      let b = split (same_role d.role (role_in_unit u d.name)) (not (same_role d.role OwnValue) || same_option (Some d.sort) u.sort) (all_among (has_right_role u) u.names d w.roles m) in
       (one_role d.role (role_in_unit u d.name) b.0, b.1)
 
   pub is_dummy : (d : DataName) → IsAmong d u.names → d.role ≡ Dummy → is_among d.name u.dummies ≡ true
@@ -193,25 +194,25 @@ module _ (dialect : Dialect) (u : Routine) (w : IsWellFormedUnit dialect u) wher
   right_dims : (d : DataName) → IsAmong d u.names
       → (is_bad_shape dialect d.dims ≡ false) × (list_all (λ x. same_role d.role Dummy && is_among x u.dummies && is_integer_scalar (scope_of_unit u) x) (names_in_dims d.dims) ≡ true)
   right_dims d m =
-      let b = both (not (is_bad_shape dialect d.dims)) (list_all (λ x. same_role d.role Dummy && is_among x u.dummies && is_integer_scalar (scope_of_unit u) x) (names_in_dims d.dims))
+      let b = split (not (is_bad_shape dialect d.dims)) (list_all (λ x. same_role d.role Dummy && is_among x u.dummies && is_integer_scalar (scope_of_unit u) x) (names_in_dims d.dims))
       (all_among (has_right_dims dialect u) u.names d w.dimensions m) in
-      (is_false (is_bad_shape dialect d.dims) b.0, b.1)
+      (not_so (is_bad_shape dialect d.dims) b.0, b.1)
 
   pub constant_dim : (d : DataName) (n : ℕ) → IsAmong d u.names → IsAmong (Fixed n) d.dims → 1 ≤ n
   constant_dim d n m k =
       let a = neither (nat_lt (most_dims dialect) (length d.dims) || list_any is_zero_dim d.dims) (nat_lt 1000000 (fixed_size d.dims)) (right_dims d m).0 in
       let b = neither (nat_lt (most_dims dialect) (length d.dims)) (list_any is_zero_dim d.dims) a.0 in
-      not_below_one n (none_among is_zero_dim d.dims (Fixed n) b.1 k)
+      not_below_one n (none_passes is_zero_dim d.dims (Fixed n) b.1 k)
 
   -- an integer scalar
   pub integer_scalar : (x : Name) → is_among x (names_of_unit u) ≡ true → is_integer_scalar (scope_of_unit u) x ≡ true → IsScalar u Integer x
   integer_scalar x h t =
       let d : IsNamed u.names x = has_data x h in
-      let b = both (is_integer (scope_of_unit u) x) (not (is_array (scope_of_unit u) x)) t in
+      let b = split (is_integer (scope_of_unit u) x) (not (is_array (scope_of_unit u) x)) t in
       record {
         data_of = d.its;
         is = d.is;
-        scalar = no_dims d.its.dims (ap is_given_dims (sym d.dims) ∙ is_false (is_array (scope_of_unit u) x) b.1);
+        scalar = no_dims d.its.dims (ap is_given_dims (sym d.dims) ∙ not_so (is_array (scope_of_unit u) x) b.1);
         sort_is = one_sort d.its.sort Integer (ap (λ o. same_option o (Some Integer)) (sym (d.sort u.functions)) ∙ b.0);
       }
 
@@ -225,8 +226,8 @@ module _ (dialect : Dialect) (u : Routine) (w : IsWellFormedUnit dialect u) wher
   pub right_dim : (d : DataName) (x : Name) → IsAmong d u.names → IsAmong (Named x) d.dims → IsRightDim d x
   right_dim d x m k =
       let t = all_among (λ x. same_role d.role Dummy && is_among x u.dummies && is_integer_scalar (scope_of_unit u) x) (names_in_dims d.dims) x (right_dims d m).1 (among_dim_names d.dims x k) in
-      let b = both (same_role d.role Dummy && is_among x u.dummies) (is_integer_scalar (scope_of_unit u) x) t in
-      let c = both (same_role d.role Dummy) (is_among x u.dummies) b.0 in
+      let b = split (same_role d.role Dummy && is_among x u.dummies) (is_integer_scalar (scope_of_unit u) x) t in
+      let c = split (same_role d.role Dummy) (is_among x u.dummies) b.0 in
       let own : IsNamed u.names x = dummy_data x c.1 in
       let data_is : is_among x (names_of_unit u) ≡ true = ap (λ y. is_among y (names_of_unit u)) (sym own.name) ∙ has_own_name u.names own.its own.among in
       record { array_is_dummy = one_role d.role Dummy c.0; dummy = c.1; data_is = data_is; scalar = integer_scalar x data_is b.1 }
@@ -249,13 +250,10 @@ module _ (dialect : Dialect) (u : Routine) (w : IsWellFormedUnit dialect u) wher
         let own : IsNamed u.names x = dummy_data x r.dummy in
         let role : own.its.role ≡ Dummy = dummy_role own.its own.among (ap (λ y. is_among y u.dummies) own.name ∙ r.dummy) in
         let shape : HasShape env st own.its = shapes own.its (record { among = own.among; not_own = ap is_own role }) in
-        let dims_are : own.its.dims ≡ [] = ap (λ (e : DataName). e.dims) (same_data own.its r.scalar.data_of (sym own.is ∙ r.scalar.is)) ∙ r.scalar.scalar in
+        let dims_are : own.its.dims ≡ [] = ap (λ (e : DataName). e.dims) (one_item (sym own.is ∙ r.scalar.is)) ∙ r.scalar.scalar in
         let one : pos (env own.its.name).size ≡ pos 1 = shape.size ∙ ap (λ ds. stretch (dim_values env st ds)) dims_are in
         (own.its, own.is, at_least (env x).size (ap (λ y. pos (env y).size) (sym own.name) ∙ one))
       where
-        same_data : (a b : DataName) → Some a ≡ Some b → a ≡ b
-        same_data a b q = cc
-
         at_least : (n : ℕ) → pos n ≡ pos 1 → 1 ≤ n
         at_least n q = grind arith
 

@@ -24,7 +24,9 @@ use Rattle.fort_model.specs.Smashes.{set_name, set_by}
 use Rattle.fort_model.specs.Trees.{only, carried, row_of}
 use Rattle.fort_laws.proofs.DeclaredNames.{same_dims_told, named_data}
 use Rattle.fort_laws.proofs.Kept.{among_left, among_right, listed_row}
-use Rattle.fort_laws.proofs.Tests.{both, is_false, all_among, among_either}
+use Rattle.fort_laws.proofs.References.{among_either}
+use Rattle.fort_laws.proofs.RulesKept.{split}
+use Rattle.fort_laws.proofs.Tests.{all_among, not_so, one_item}
 
 -- each of some uses of names is right
 abbrev pub AreRight : Routine → List Occurrence → Type 0
@@ -54,13 +56,13 @@ pub record IsRightLine (u : Routine) (s : Stmt) : Type 0 where
 pub right_line : (dialect : Dialect) (u : Routine) → IsWellFormedUnit dialect u → (line : Line) → IsAmong line u.lines → IsRightLine u line.stmt
 right_line dialect u w line m =
     let all = all_among (λ line. is_right_statement dialect u line.stmt) u.lines line w.statements m in
-    let typed = both _ _ (both _ _ all).0 in
-    let uses = both _ _ typed.0 in
-    let form = both _ _ (both _ _ uses.0).0 in
+    let typed = split _ _ (split _ _ all).0 in
+    let uses = split _ _ typed.0 in
+    let form = split _ _ (split _ _ uses.0).0 in
     record {
-      performs = (both _ _ form.0).0;
+      performs = (split _ _ form.0).0;
       form = form.1;
-      uses = λ o k. let b = both _ _ (all_among (λ o. is_known u o.name o.«use» && not (is_misused (scope_of_unit u) o.name o.«use»)) (uses_of line.stmt) o uses.1 k) in (b.0, is_false _ b.1);
+      uses = λ o k. let b = split _ _ (all_among (λ o. is_known u o.name o.«use» && not (is_misused (scope_of_unit u) o.name o.«use»)) (uses_of line.stmt) o uses.1 k) in (b.0, not_so _ b.1);
       typed = typed.1;
     }
 
@@ -113,10 +115,7 @@ set_data u EndIf x h m = absurd (cc)
 bare_in_row : (how : Use) {m : Count} (args : Row_of-Expr m) (n : ℕ) (x : Name) → slice_get (listed args) n ≡ Some (Var x) → IsAmong (occurrence x how) (uses_in_row how args)
 bare_in_row how end_of-Expr n x h = absurd (cc)
 bare_in_row how (more_of-Expr e es) zero x h =
-    among_left (occurrence x how) (uses_in how e) (uses_in_row how es) (subst (λ z. IsAmong (occurrence x how) (uses_in how z)) (sym (same_item h)) (0, refl))
-  where
-    same_item : Some e ≡ Some (Var x) → e ≡ Var x
-    same_item q = cc
+    among_left (occurrence x how) (uses_in how e) (uses_in_row how es) (subst (λ z. IsAmong (occurrence x how) (uses_in how z)) (sym (one_item h)) (0, refl))
 bare_in_row how (more_of-Expr e es) (suc n) x h = among_right (occurrence x how) (uses_in how e) (uses_in_row how es) (bare_in_row how es n x h)
 
 -- ---- calls
@@ -222,7 +221,7 @@ module _ (u : Routine) (P : CallSite → Type 0)
   each_of (ArithIf e l m n) t h = each_in read e h
   each_of (LogicalIf' e shape (carried s)) t h =
       each_both P (sites_in u e) (sites_of u s)
-      (each_in read e (right_left u (uses_in read e) (uses_of s) h)) (each_of s (both (may_be_carried s) (has_right_form s) t).1 (right_right u (uses_in read e) (uses_of s) h))
+      (each_in read e (right_left u (uses_in read e) (uses_of s) h)) (each_of s (split (may_be_carried s) (has_right_form s) t).1 (right_right u (uses_in read e) (uses_of s) h))
   each_of (Call f args) t h = each_of_call f args h
   each_of (BlockIf e) t h = each_in read e h
   each_of (ElseIf e) t h = each_in read e h

@@ -121,7 +121,7 @@ numbered (b ∷ rest) q a h = by_test (b.point == q) refl h (λ k. later (number
     by_test true e k on = here (some_is k) e
     by_test false e k on = on k
 
-assert_is : (o : Option Line) (b : Option Assertion) (a : Assertion) → cut_in o b ≡ AtAssert a → b ≡ Some a
+pub assert_is : (o : Option Line) (b : Option Assertion) (a : Assertion) → cut_in o b ≡ AtAssert a → b ≡ Some a
 assert_is None b a h = absurd (cc)
 assert_is (Some line) None a h = absurd (cc)
 assert_is (Some line) (Some b) a h = ap Some (same_assert b a h)

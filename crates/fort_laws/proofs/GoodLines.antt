@@ -51,7 +51,9 @@ use Rattle.fort_laws.proofs.DeclaredUnits as unit
 use Rattle.fort_laws.proofs.DeclaredUses.{AreRight, right_left, right_right, right_behind, right_first, IsRightLine, right_line, row_uses}
 use Rattle.fort_laws.proofs.FrameSeats.{clash, same_is}
 use Rattle.fort_laws.proofs.Kept.{among_right}
-use Rattle.fort_laws.proofs.Tests.{both, one_fails, one_holds, not_true, not_not, all_among, none_among, some_among, some_passes, among_given}
+use Rattle.fort_laws.proofs.RulesKept.{is_false, none_passes, not_both, not_not, passes_any, split}
+use Rattle.fort_laws.proofs.Small.{some_passes}
+use Rattle.fort_laws.proofs.Tests.{all_among, among_given, one_holds}
 
 -- ---- forms
 
@@ -116,12 +118,12 @@ module _ (dialect : Dialect) (p : Program) (i : ℕ) (u : Routine) (is : slice_g
 
   no_dim_smashed : dim_smashed p i u ≡ false
   no_dim_smashed =
-      not_true (dim_smashed p i u)
+      is_false (dim_smashed p i u)
       (λ t. keeps i u.head (record { unit = u; is_unit = is; breaks = subst (λ (b : Bool). IsAmong u.head (cond b (u.head ∷ []) [])) (sym t) (0, refl) }))
 
   -- a smashed name is no dimension
   not_dim : (x z : Name) (e : DataName) → is_among x (names_of_unit u) ≡ true → Smashes p.units i x → IsAmong e u.names → IsAmong (Named z) e.dims → same_name x z ≡ false
-  not_dim x z e h s m k = not_true (same_name x z) (λ t. clash (is_smashed p i d.its.name) smashed (unsmashed t))
+  not_dim x z e h s m k = is_false (same_name x z) (λ t. clash (is_smashed p i d.its.name) smashed (unsmashed t))
     where
       d : IsNamed u.names x
       d = unit.has_data dialect u w x h
@@ -131,10 +133,10 @@ module _ (dialect : Dialect) (p : Program) (i : ℕ) (u : Routine) (is : slice_g
 
       unsmashed : same_name x z ≡ true → is_smashed p i d.its.name ≡ false
       unsmashed t =
-          one_fails (is_some_dim u d.its.name) (is_smashed p i d.its.name)
-          (none_among (λ f. is_some_dim u f.name && is_smashed p i f.name) u.names d.its no_dim_smashed d.among)
-          (some_among (λ f. list_any (is_dim d.its.name) f.dims) u.names e m
-          (some_among (is_dim d.its.name) e.dims (Named z) k (same_is d.its.name z (d.name ∙ same_text x z (sym t)))))
+          not_both (is_some_dim u d.its.name) (is_smashed p i d.its.name)
+          (none_passes (λ f. is_some_dim u f.name && is_smashed p i f.name) u.names d.its no_dim_smashed d.among)
+          (passes_any (λ f. list_any (is_dim d.its.name) f.dims) u.names e m
+          (passes_any (is_dim d.its.name) e.dims (Named z) k (same_is d.its.name z (d.name ∙ same_text x z (sym t)))))
 
   dims_are_other : (x : Name) (ds : List Dim) → ((z : Name) → IsAmong (Named z) ds → same_name x z ≡ false) → DimsAreOther u env x ds
   dims_are_other x [] h = tt
@@ -168,7 +170,7 @@ module _ (dialect : Dialect) (p : Program) (i : ℕ) (u : Routine) (is : slice_g
   fit_line : (line : Line) → IsAmong line u.lines → IsFitLine line.stmt
   fit_line line m =
       let r : IsRightLine u line.stmt = right_line dialect u w line m in
-      let typed = both (has_fit_places scope line.stmt) (list_all (has_fit_operands scope) (all_parts line.stmt)) r.typed in
+      let typed = split (has_fit_places scope line.stmt) (list_all (has_fit_operands scope) (all_parts line.stmt)) r.typed in
       record {
         performs = r.performs;
         form = r.form;
@@ -181,12 +183,12 @@ module _ (dialect : Dialect) (p : Program) (i : ℕ) (u : Routine) (is : slice_g
   -- the statement that a logical IF carries
   fit_carried : (e : Expr) (s : Stmt) → IsFitLine (LogicalIf' e _ (carried s)) → IsFitLine s
   fit_carried e s h =
-      let form = both (may_be_carried s) (has_right_form s) h.form in
+      let form = split (may_be_carried s) (has_right_form s) h.form in
       record {
         performs = carried_performs s form.0;
         form = form.1;
         uses = right_right u (uses_in read e) (uses_of s) h.uses;
-        places = (both (gives_logical scope e) (has_fit_places scope s) h.places).1;
+        places = (split (gives_logical scope e) (has_fit_places scope s) h.places).1;
         operands = fit_right u (parts e) (all_parts s) h.operands;
         smashed = h.smashed;
       }
@@ -214,9 +216,9 @@ module _ (dialect : Dialect) (p : Program) (i : ℕ) (u : Routine) (is : slice_g
       let data_is = (right_first u x counted (uses_of_param first ++ uses_of_param last ++ uses_of_step step) h.uses).0 in
       let behind = right_behind u (occurrence x counted) (uses_of_param first ++ uses_of_param last ++ uses_of_step step) h.uses in
       let two = right_left u (uses_of_param first ++ uses_of_param last) (uses_of_step step) behind in
-      let three = both _ (is_fit_step scope step) h.places in
-      let both_params = both _ (is_fit_param scope last) three.0 in
-      let own = both (is_integer_scalar scope x) (is_fit_param scope first) both_params.0 in
+      let three = split _ (is_fit_step scope step) h.places in
+      let both_params = split _ (is_fit_param scope last) three.0 in
+      let own = split (is_integer_scalar scope x) (is_fit_param scope first) both_params.0 in
       record {
         variable = unit.integer_scalar dialect u w x data_is own.0;
         writes = may x data_is (h.smashed x (0, refl));
@@ -292,7 +294,7 @@ module _ (dialect : Dialect) (p : Program) (i : ℕ) (u : Routine) (is : slice_g
         by_kind false e = tt
         by_kind true e =
             let some = some_passes (λ o. same_name o.name u.name && is_assigned o.«use») (flat_map (λ line. uses_of line.stmt) u.lines) (one_holds (not (is_some u.sort)) _ w.result (ap not e)) in
-            let b = both (same_name (some.0).name u.name) (is_assigned (some.0).«use») some.2 in
+            let b = split (same_name (some.0).name u.name) (is_assigned (some.0).«use») some.2 in
             let from = among_given (λ line. uses_of line.stmt) u.lines some.0 some.1 in
             let right = (fit_line from.0 from.1).uses some.0 from.2 in
             subst (λ x. (q : Sort) × IsScalar u q x) (same_text (some.0).name u.name (sym b.0)) (scalar_by_name (some.0).name (assigned_scalar (some.0).name (some.0).«use» b.1 right))
@@ -337,7 +339,7 @@ module _ (dialect : Dialect) (p : Program) (i : ℕ) (u : Routine) (is : slice_g
         type_is = types.array_sort dialect u w f r.0 ∙ d.sort u.functions
 
         many : length (syntax.listed args) ≡ length (dims_among u.names f)
-        many = types.same_number _ _ (both (is_array scope f) (length (syntax.listed args) == length (dims_among u.names f)) (not_not _ r.1)).1
+        many = types.same_number _ _ (split (is_array scope f) (length (syntax.listed args) == length (dims_among u.names f)) (not_not _ r.1)).1
 
         subscripts : AreInteger u IsReference args
         subscripts =
@@ -405,7 +407,7 @@ module _ (dialect : Dialect) (p : Program) (i : ℕ) (u : Routine) (is : slice_g
     good pc (LogicalIf' e shape (carried b)) h refer calls =
         let inner : IsFitLine b = fit_carried e b h in (
           types.typed dialect u w IsReference read (types.reads_scalars u) Logical e (right_left u (uses_in read e) (uses_of b) h.uses) (fit_left u (parts e) (all_parts b) h.operands)
-              (types.referred_left dialect u w IsReference (sites_in u e) (sites_of u b) refer) (types.same_type _ Logical (both (gives_logical scope e) (has_fit_places scope b) h.places).0),
+              (types.referred_left dialect u w IsReference (sites_in u e) (sites_of u b) refer) (types.same_type _ Logical (split (gives_logical scope e) (has_fit_places scope b) h.places).0),
           good_loops pc,
           executable b inner.performs inner.form,
           good pc b inner (types.referred_right dialect u w IsReference (sites_in u e) (sites_of u b) refer) (called_right (sites_in u e) (sites_of u b) calls),

@@ -10,7 +10,8 @@ use Rattle.fort_model.specs.Paths.{AtAssert, cut_in, Uncut, one, more}
 use Rattle.fort_model.specs.Program.{Assertion, Notes, notes_of, assertion_in, assertion_at}
 use Rattle.fort_model.specs.Rules.{is_bad_clock, bad_clocks, all_clocks}
 use Rattle.fort_laws.specs.GoodDecks.{HaveEqualClocks, ClocksAreEqual, UnitsAreCutUp}
-use Rattle.fort_laws.proofs.Tests.{neither, not_true, not_not}
+use Rattle.fort_laws.proofs.FewSymbols.{assert_is}
+use Rattle.fort_laws.proofs.RulesKept.{is_false, neither, not_not}
 
 -- ---- uncut cycles
 
@@ -44,14 +45,6 @@ assertion_among (b ∷ rest) pc a h = by_test (b.point == pc) h (assertion_among
     by_test true k on = (0, k)
     by_test false k on = let m = on k in (suc m.0, m.1)
 
-assert_at : (o : Option Line) (b : Option Assertion) (a : Assertion) → cut_in o b ≡ AtAssert a → b ≡ Some a
-assert_at None b a h = absurd (cc)
-assert_at (Some line) None a h = absurd (cc)
-assert_at (Some line) (Some b) a h = ap Some (same_assert h)
-  where
-    same_assert : AtAssert b ≡ AtAssert a → b ≡ a
-    same_assert k = cc
-
 clock_parts : (parts n : ℕ) → ((n == 0) || (nat_lt 4 n || not (n == parts))) ≡ false → (n ≡ parts) × (1 ≤ n) × (n ≤ 4)
 clock_parts parts n h =
     let first = neither (n == 0) (nat_lt 4 n || not (n == parts)) h in
@@ -73,11 +66,11 @@ no_bad : (asserts : List Assertion) → ((card : ℕ) → IsAmong card (all_cloc
 no_bad [] none = record { parts = 1; at_least = omega arith; at_most = omega arith; equal = λ a m. absurd (cc) }
 no_bad (b ∷ rest) none =
     let ok : (a : Assertion) → IsAmong a (b ∷ rest) → is_bad_clock (length b.clock) a ≡ false =
-    λ a m. not_true (is_bad_clock (length b.clock) a) (λ t. none a.card (bad_found (length b.clock) (b ∷ rest) a m t)) in
+    λ a m. is_false (is_bad_clock (length b.clock) a) (λ t. none a.card (bad_found (length b.clock) (b ∷ rest) a m t)) in
     let first = clock_parts (length b.clock) (length b.clock) (ok b (0, refl)) in
     record { parts = length b.clock; at_least = first.1; at_most = first.2; equal = λ a m. (clock_parts (length b.clock) (length a.clock) (ok a m)).0 }
 
 pub clocks_are_equal : ClocksAreEqual
 clocks_are_equal fs values p i s keeps is =
     let h : HaveEqualClocks (notes_of p i).asserts = no_bad (notes_of p i).asserts (λ card m. keeps ClockLength i card (record { unit = s.unit; is_unit = is; breaks = m })) in
-    (h.parts, h.at_least, h.at_most, λ a q c. h.equal a (assertion_among (notes_of p i).asserts q a (assert_at (slice_get s.unit.lines q) (assertion_at (notes_of p i) q) a c)))
+    (h.parts, h.at_least, h.at_most, λ a q c. h.equal a (assertion_among (notes_of p i).asserts q a (assert_is (slice_get s.unit.lines q) (assertion_at (notes_of p i) q) a c)))
