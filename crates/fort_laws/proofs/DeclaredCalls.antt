@@ -1,6 +1,6 @@
 -- The calls of a well-formed unit are of units of the deck, and agree with them.
-use Rattle.std.proofs.Common.{◌≡◌, ◌≢◌, ℕ, zero, suc, ◌+◌, Bool, true, false, cond, not, ◌&&◌, ◌||◌, List, [], ◌∷◌, ◌++◌, length, Option, Some, None, is_some, slice_get, refl, sym, ap, ◌∙◌, subst, arith}
-use Rattle.std.specs.List.{list_any, list_all}
+use Rattle.std.proofs.Common.{◌≡◌, ℕ, suc, ◌+◌, Bool, true, false, cond, not, ◌&&◌, ◌||◌, List, [], ◌∷◌, ◌++◌, length, Option, Some, None, is_some, slice_get, refl, sym, ap, ◌∙◌, subst, arith}
+use Rattle.std.specs.List.{list_all}
 use Rattle.std.specs.Cmp.Lexicographic.{same_text}
 use Rattle.fort_syntax.specs.Scopes.{is_among, has_twin, is_name}
 use Rattle.fort_syntax.specs.WellFormed.{IsWellFormedUnit, AreWellFormedUnits, names_of_unit, commons_of_unit, own_value_of_unit, agree_on_blocks}
@@ -15,13 +15,13 @@ use Rattle.fort_syntax.specs.declared.unit.DataName.{DataName}
 use Rattle.fort_syntax.specs.declared.unit.Line.{Line}
 use Rattle.fort_syntax.specs.declared.unit.Role.TheVariants.{InCommon, OwnValue}
 use Rattle.fort_syntax.specs.declared.unit.Unit.{Unit as Routine}
-use Rattle.fort_model.specs.Arguments.{same_sort, same_sort_as, reference_sort, is_own_sort, reference_fits, actuals_fit, sort_of_expr, dims_of_actual, dims_agree, fits_dummy}
+use Rattle.fort_model.specs.Arguments.{same_sort_as, reference_sort, is_own_sort, reference_fits, actuals_fit, sort_of_expr, dims_of_actual, dims_agree, fits_dummy}
 use Rattle.fort_model.specs.CallRules.{is_nobody, mismatches}
 use Rattle.fort_model.specs.Calls.{CallSite, Calls, callee_of, sites_of}
 use Rattle.fort_model.specs.Lists.{IsAmong}
-use Rattle.fort_model.specs.Names.{same_name, first_unit, function, subroutine, is_function, data_name}
+use Rattle.fort_model.specs.Names.{same_name, first_unit, function, subroutine, is_function}
 use Rattle.fort_model.specs.Program.{Program}
-use Rattle.fort_model.specs.Rules.{KeepsRules, cards_of_lines, calls_nobody}
+use Rattle.fort_model.specs.Rules.{KeepsRules, calls_nobody}
 use Rattle.fort_laws.specs.CallLaw.{HasNames, Agrees}
 use Rattle.fort_laws.specs.Called.{IsReferenceTo, IsCallTo}
 use Rattle.fort_laws.specs.GoodDecks.{CallsAgree}
@@ -33,7 +33,7 @@ use Rattle.fort_laws.proofs.DeclaredTypes.{AreReferred}
 use Rattle.fort_laws.proofs.DeclaredUses.{Each, each_of, IsRightLine, right_line}
 use Rattle.fort_laws.proofs.FrameEnter.{SameOrNot, same, other, same_or_not}
 use Rattle.fort_laws.proofs.FrameSeats.{clash, same_self}
-use Rattle.fort_laws.proofs.RulesKept.{card_found, fits_at, is_false, neither, none_passes, not_both, not_not, split, unbroken}
+use Rattle.fort_laws.proofs.RulesKept.{card_found, fits_at, is_false, neither, none_passes, not_not, split, unbroken}
 use Rattle.fort_laws.proofs.Tests.{not_so, one_holds, one_item}
 
 -- ---- units by their names

@@ -1,5 +1,5 @@
 -- The units of a well-formed deck are as declarations make them, and share blocks where no block is missing.
-use Rattle.std.proofs.Common.{◌≡◌, ℕ, zero, suc, Bool, true, false, cond, not, List, [], ◌∷◌, map, Option, Some, None, slice_get, refl, sym, ap, ◌∙◌, subst, rules}
+use Rattle.std.proofs.Common.{◌≡◌, ℕ, zero, suc, Bool, true, false, not, List, [], ◌∷◌, map, Option, Some, None, slice_get, refl, sym, ap, ◌∙◌, subst, rules}
 use Rattle.std.specs.Prelude.{◌==◌}
 use Rattle.std.specs.List.{list_all}
 use Rattle.std.specs.Cmp.Lexicographic.{same_text}
@@ -17,17 +17,14 @@ use Rattle.fort_syntax.specs.declared.stmt.Dim.{Dim}
 use Rattle.fort_syntax.specs.declared.stmt.Dim.TheVariants.{Fixed, Named}
 use Rattle.fort_syntax.specs.declared.stmt.Group.{Group}
 use Rattle.fort_syntax.specs.declared.unit.DataName.{DataName}
-use Rattle.fort_syntax.specs.declared.unit.Line.{Line}
-use Rattle.fort_syntax.specs.declared.stmt.Stmt.{Stmt}
 use Rattle.fort_syntax.specs.declared.unit.Role.{Role}
 use Rattle.fort_syntax.specs.declared.unit.Role.TheVariants.{Dummy, InCommon, OwnValue, Local}
 use Rattle.fort_syntax.specs.declared.unit.Unit.{Unit as Routine}
-use Rattle.fort_model.specs.CallRules.{in_unit, of_unit, some_call, same_block, declares, lacks_block}
-use Rattle.fort_model.specs.Calls.{Calls, callee_of, sites_of}
+use Rattle.fort_model.specs.CallRules.{same_block, declares, lacks_block}
+use Rattle.fort_model.specs.Calls.{Calls}
 use Rattle.fort_model.specs.Lists.{IsAmong}
 use Rattle.fort_model.specs.Names.{data_name}
 use Rattle.fort_model.specs.Program.{Program, has_common, has_role, is_in_common, items_of, commons}
-use Rattle.fort_model.specs.Rules.{cards_of_lines}
 use Rattle.fort_laws.specs.Declared.{IsDimension, IsDeclared, AreDeclared}
 use Rattle.fort_laws.specs.Frame.{HasName}
 use Rattle.fort_laws.specs.GoodDecks.{KeepsRule, WellFormedIsDeclared}
@@ -36,7 +33,7 @@ use Rattle.fort_laws.proofs.DeclaredUnits as unit
 use Rattle.fort_laws.proofs.DeclaredUses.{right_line, set_data, pass_data}
 use Rattle.fort_laws.proofs.FrameSeats.{clash, same_is}
 use Rattle.fort_laws.proofs.Kept.{among_left, among_right}
-use Rattle.fort_laws.proofs.RulesKept.{is_false, none_passes, not_not, split, unbroken}
+use Rattle.fort_laws.proofs.RulesKept.{none_passes, not_not, split, unbroken}
 use Rattle.fort_laws.proofs.Small.{some_passes}
 use Rattle.fort_laws.proofs.Tests.{all_among, one_holds, one_item}
 

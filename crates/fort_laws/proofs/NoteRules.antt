@@ -1,12 +1,12 @@
 -- What the rules on clocks and on uncut cycles give, where they are kept.
-use Rattle.std.proofs.Common.{◌≡◌, ◌≤◌, ℕ, zero, suc, Bool, true, false, cond, not, ◌||◌, List, [], ◌∷◌, length, Option, Some, None, slice_get, nat_lt, refl, sym, ap, ◌∙◌, subst, arith, rules}
+use Rattle.std.proofs.Common.{◌≡◌, ◌≤◌, ℕ, zero, suc, Bool, true, false, cond, not, ◌||◌, List, [], ◌∷◌, length, Some, slice_get, nat_lt, refl, sym, ap, ◌∙◌, subst, arith, rules}
 use Rattle.std.specs.Prelude.{◌==◌}
 use Rattle.fort_syntax.specs.declared.dialect.Dialect.{Dialect}
 use Rattle.fort_syntax.specs.declared.rule.Rule.TheVariants.{UncutCycle, ClockLength}
 use Rattle.fort_syntax.specs.declared.unit.Line.{Line}
 use Rattle.fort_syntax.specs.declared.unit.Unit.{Unit as Routine}
 use Rattle.fort_model.specs.Lists.{IsAmong}
-use Rattle.fort_model.specs.Paths.{AtAssert, cut_in, Uncut, one, more}
+use Rattle.fort_model.specs.Paths.{Uncut, one, more}
 use Rattle.fort_model.specs.Program.{Assertion, Notes, notes_of, assertion_in, assertion_at}
 use Rattle.fort_model.specs.Rules.{is_bad_clock, bad_clocks, all_clocks}
 use Rattle.fort_laws.specs.GoodDecks.{HaveEqualClocks, ClocksAreEqual, UnitsAreCutUp}
