@@ -159,7 +159,13 @@ module _ (dialect : Dialect) (u : Routine) (w : IsWellFormedUnit dialect u) wher
       by_name (other n t) = absurd (clash (same_name x u.name || false) h (ap (λ b. b || false) t))
 
   function_value : is_function u ≡ true → (d : DataName) × IsAmong d u.names × (d.name ≡ u.name) × (d.role ≡ OwnValue)
-  function_value f = (d.its, d.among, d.name, unit.own_role dialect u w d.its d.among (not_held u.dummies (λ t. among_joined_left u.dummies (commons_of_unit u) d.its.name t)) (not_held (commons_of_unit u) (λ t. among_joined_right u.dummies (commons_of_unit u) d.its.name t)) (ap (λ x. is_among x (own_value_of_unit u)) d.name ∙ own))
+  function_value f = (
+    d.its,
+    d.among,
+    d.name,
+    unit.own_role dialect u w d.its d.among (not_held u.dummies (λ t. among_joined_left u.dummies (commons_of_unit u) d.its.name t))
+        (not_held (commons_of_unit u) (λ t. among_joined_right u.dummies (commons_of_unit u) d.its.name t)) (ap (λ x. is_among x (own_value_of_unit u)) d.name ∙ own),
+  )
     where
       own : is_among u.name (own_value_of_unit u) ≡ true
       own = ap (λ b. is_among u.name (cond b (u.name ∷ []) [])) f ∙ ap (λ b. b || false) (same_self u.name)
@@ -172,7 +178,9 @@ module _ (dialect : Dialect) (u : Routine) (w : IsWellFormedUnit dialect u) wher
 
   pub names_are_held : HasNames u
   names_are_held = record {
-    dummies = λ n x e. decks.has_name dialect u w x (let d : IsNamed u.names x = unit.dummy_data dialect u w x (among_named u.dummies x (n, e)) in ap (λ y. is_among y (names_of_unit u)) (sym d.name) ∙ has_own_name u.names d.its d.among);
+    dummies = λ n x e.
+        decks.has_name dialect u w x
+        (let d : IsNamed u.names x = unit.dummy_data dialect u w x (among_named u.dummies x (n, e)) in ap (λ y. is_among y (names_of_unit u)) (sym d.name) ∙ has_own_name u.names d.its d.among);
     own = λ d m r. own_alone u.sort d.name (unit.is_own_value dialect u w d m r);
     function = function_value;
     common = λ d m r e.

@@ -351,16 +351,28 @@ module _ (dialect : Dialect) (u : Routine) (w : IsWellFormedUnit dialect u) wher
           (sym (one_type Integer q t), typed read (reads_scalars u) Integer a h (fit_behind u (Neg' shape (only a)) (parts a) fit) refer (same_type _ Integer (fit (Neg' shape (only a)) (0, refl))))
       typed how of q (Power' shape (only a) n) h fit refer t =
           (sym (one_type Integer q t), typed read (reads_scalars u) Integer a h (fit_behind u (Power' shape (only a) n) (parts a) fit) refer (same_type _ Integer (fit (Power' shape (only a) n) (0, refl))))
-      typed how of q (Bin' o r (only a) s (only b)) h fit refer t =
-          (sym (one_type Integer q t), two_typed Integer a b (typed read (reads_scalars u) Integer a) (typed read (reads_scalars u) Integer b) h (fit_behind u (Bin' o r (only a) s (only b)) (parts a ++ parts b) fit) refer (two_types Integer a b (fit (Bin' o r (only a) s (only b)) (0, refl))))
-      typed how of q (Rel' o r (only a) s (only b)) h fit refer t =
-          (sym (one_type Logical q t), two_typed Integer a b (typed read (reads_scalars u) Integer a) (typed read (reads_scalars u) Integer b) h (fit_behind u (Rel' o r (only a) s (only b)) (parts a ++ parts b) fit) refer (two_types Integer a b (fit (Rel' o r (only a) s (only b)) (0, refl))))
+      typed how of q (Bin' o r (only a) s (only b)) h fit refer t = (
+        sym (one_type Integer q t),
+        two_typed Integer a b (typed read (reads_scalars u) Integer a) (typed read (reads_scalars u) Integer b)
+            h (fit_behind u (Bin' o r (only a) s (only b)) (parts a ++ parts b) fit) refer (two_types Integer a b (fit (Bin' o r (only a) s (only b)) (0, refl))),
+      )
+      typed how of q (Rel' o r (only a) s (only b)) h fit refer t = (
+        sym (one_type Logical q t),
+        two_typed Integer a b (typed read (reads_scalars u) Integer a) (typed read (reads_scalars u) Integer b)
+            h (fit_behind u (Rel' o r (only a) s (only b)) (parts a ++ parts b) fit) refer (two_types Integer a b (fit (Rel' o r (only a) s (only b)) (0, refl))),
+      )
       typed how of q (Not' shape (only a)) h fit refer t =
           (sym (one_type Logical q t), typed read (reads_scalars u) Logical a h (fit_behind u (Not' shape (only a)) (parts a) fit) refer (same_type _ Logical (fit (Not' shape (only a)) (0, refl))))
-      typed how of q (And' r (only a) s (only b)) h fit refer t =
-          (sym (one_type Logical q t), two_typed Logical a b (typed read (reads_scalars u) Logical a) (typed read (reads_scalars u) Logical b) h (fit_behind u (And' r (only a) s (only b)) (parts a ++ parts b) fit) refer (two_types Logical a b (fit (And' r (only a) s (only b)) (0, refl))))
-      typed how of q (Or' r (only a) s (only b)) h fit refer t =
-          (sym (one_type Logical q t), two_typed Logical a b (typed read (reads_scalars u) Logical a) (typed read (reads_scalars u) Logical b) h (fit_behind u (Or' r (only a) s (only b)) (parts a ++ parts b) fit) refer (two_types Logical a b (fit (Or' r (only a) s (only b)) (0, refl))))
+      typed how of q (And' r (only a) s (only b)) h fit refer t = (
+        sym (one_type Logical q t),
+        two_typed Logical a b (typed read (reads_scalars u) Logical a) (typed read (reads_scalars u) Logical b)
+            h (fit_behind u (And' r (only a) s (only b)) (parts a ++ parts b) fit) refer (two_types Logical a b (fit (And' r (only a) s (only b)) (0, refl))),
+      )
+      typed how of q (Or' r (only a) s (only b)) h fit refer t = (
+        sym (one_type Logical q t),
+        two_typed Logical a b (typed read (reads_scalars u) Logical a) (typed read (reads_scalars u) Logical b)
+            h (fit_behind u (Or' r (only a) s (only b)) (parts a ++ parts b) fit) refer (two_types Logical a b (fit (Or' r (only a) s (only b)) (0, refl))),
+      )
 
       pub integers : (how : Use) → IsOfScalars u how → {m : Count} (args : Row_of-Expr m) → AreRight u (uses_in_row how args) → AreFit u (parts_of_row args) → AreReferred u IsReference (sites_in_row u args)
           → list_all (gives_integer scope) (syntax.listed args) ≡ true → AreInteger u IsReference args

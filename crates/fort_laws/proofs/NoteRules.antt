@@ -9,7 +9,7 @@ use Rattle.fort_model.specs.Lists.{IsAmong}
 use Rattle.fort_model.specs.Paths.{Uncut, one, more}
 use Rattle.fort_model.specs.Program.{Assertion, Notes, notes_of, assertion_in, assertion_at}
 use Rattle.fort_model.specs.Rules.{is_bad_clock, bad_clocks, all_clocks}
-use Rattle.fort_laws.specs.GoodDecks.{HaveEqualClocks, ClocksAreEqual, UnitsAreCutUp}
+use Rattle.fort_laws.specs.GoodDecks.{ClocksAreEqual, UnitsAreCutUp}
 use Rattle.fort_laws.proofs.FewSymbols.{assert_is}
 use Rattle.fort_laws.proofs.RulesKept.{is_false, neither, not_not}
 
@@ -60,6 +60,13 @@ clock_parts parts n h =
 
     at_most : (m : ℕ) → nat_lt 4 m ≡ false → m ≤ 4
     at_most m t = search rules
+
+-- the clocks of some ASSERTs have equally many parts, 1 to 4
+record HaveEqualClocks (asserts : List Assertion) : Type 0 where
+  parts : ℕ
+  at_least : 1 ≤ parts
+  at_most : parts ≤ 4
+  equal : (a : Assertion) → IsAmong a asserts → length a.clock ≡ parts
 
 -- by the length of the first clock
 no_bad : (asserts : List Assertion) → ((card : ℕ) → IsAmong card (all_clocks asserts) → ⊥) → HaveEqualClocks asserts

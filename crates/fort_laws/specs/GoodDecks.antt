@@ -1,26 +1,20 @@
 -- What well-formed decks that keep the rules give: all that the laws of runs take of their units.
-use Rattle.std.specs.Prelude.{ℕ, ◌≡◌, ◌≢◌, ◌≤◌, Bool, true, false, List, length, Some, slice_get}
+use Rattle.std.specs.Prelude.{ℕ, ◌≡◌, ◌≤◌, List, Some, slice_get}
 use Rattle.formula.specs.declared.value.Value.{Value}
 use Rattle.formula.specs.Worth.{Function}
 use Rattle.fort_syntax.specs.WellFormed.{IsWellFormedUnit, IsWellFormed}
 use Rattle.fort_syntax.specs.declared.deck.Deck.{Deck}
 use Rattle.fort_syntax.specs.declared.dialect.Dialect.{Dialect}
-use Rattle.fort_syntax.specs.declared.dialect.Sort.{Sort}
-use Rattle.fort_syntax.specs.declared.expr.Expr.{Expr}
-use Rattle.fort_syntax.specs.declared.name.Name.{Name}
 use Rattle.fort_syntax.specs.declared.rule.Rule.{Rule}
-use Rattle.fort_syntax.specs.declared.rule.Rule.TheVariants.{BlockMissing, DimensionSmashed}
-use Rattle.fort_syntax.specs.declared.unit.DataName.{DataName}
+use Rattle.fort_syntax.specs.declared.rule.Rule.TheVariants.{BlockMissing}
 use Rattle.fort_syntax.specs.declared.unit.Line.{Line}
 use Rattle.fort_syntax.specs.declared.unit.Unit.{Unit as Routine}
-use Rattle.fort_model.specs.Arguments.{reference_sort}
 use Rattle.fort_model.specs.Calls.{Calls}
 use Rattle.fort_model.specs.Evaluate.{Scene}
-use Rattle.fort_model.specs.Fits.{IsIn, HaveShapes}
-use Rattle.fort_model.specs.Lists.{IsAmong}
-use Rattle.fort_model.specs.Program.{Program, Assertion, notes_of}
+use Rattle.fort_model.specs.Fits.{HaveShapes}
+use Rattle.fort_model.specs.Program.{Program, notes_of}
 use Rattle.fort_model.specs.Rules.{IsBroken, KeepsRules}
-use Rattle.fort_model.specs.Smashes.{Smashes, HoldsSmashed}
+use Rattle.fort_model.specs.Smashes.{HoldsSmashed}
 use Rattle.fort_model.specs.Storage.{Storage, Environment}
 use Rattle.fort_model.specs.Symbols.{Symbol}
 use Rattle.fort_laws.specs.CallLaw.{Agrees, HasNames, LieApart}
@@ -38,7 +32,8 @@ BlocksHoldCommons = (dialect : Dialect) (u : Routine) → IsWellFormedUnit diale
 
 -- in a well-formed unit whose visible names have their shapes the adjustable dimensions are scalars that have a cell
 abbrev pub DimensionsAreScalars : Type 0
-DimensionsAreScalars = (dialect : Dialect) (u : Routine) → IsWellFormedUnit dialect u → (env : Environment) (st : Storage) → HaveShapes u env st → HasScalarDims u env
+DimensionsAreScalars =
+    (dialect : Dialect) (u : Routine) → IsWellFormedUnit dialect u → (env : Environment) (st : Storage) → HaveShapes u env st → HasScalarDims u env
 
 -- a program keeps a rule
 abbrev pub KeepsRule : Program → Rule → Type 0
@@ -46,7 +41,8 @@ KeepsRule p rule = (i card : ℕ) → IsBroken p rule i card → ⊥
 
 -- the units of a well-formed deck are as declarations make them, where no calling unit lacks a block of the unit that it calls
 abbrev pub WellFormedIsDeclared : Type 0
-WellFormedIsDeclared = (dialect : Dialect) (deck : Deck) (p : Program) → IsWellFormed dialect deck → deck.units ≡ p.units → KeepsRule p BlockMissing → AreDeclared p.units
+WellFormedIsDeclared =
+    (dialect : Dialect) (deck : Deck) (p : Program) → IsWellFormed dialect deck → deck.units ≡ p.units → KeepsRule p BlockMissing → AreDeclared p.units
 
 -- the calls of a well-formed deck that keeps the rules agree with the units that they are of, whose names are held as calls take it
 abbrev pub CallsAgree : Type 0
@@ -61,20 +57,14 @@ CallsAgree =
 abbrev pub StatementsAreGood : Type 0
 StatementsAreGood =
     (dialect : Dialect) (p : Program) (i : ℕ) (u : Routine) → slice_get p.units i ≡ Some u → IsWellFormedUnit dialect u → KeepsRules p → HoldsSmashed p
-    → (env : Environment) → LieApart p.units i u env → (pc : ℕ) (line : Line) → slice_get u.lines pc ≡ Some line → IsGood u env (IsReferenceTo p i u) (IsCallTo p i u) pc line.stmt
+    → (env : Environment) → LieApart p.units i u env → (pc : ℕ) (line : Line) → slice_get u.lines pc ≡ Some line
+    → IsGood u env (IsReferenceTo p i u) (IsCallTo p i u) pc line.stmt
 
 -- ---- notes
 
 -- in a program that keeps the rules no statement lies on an uncut cycle
 abbrev pub UnitsAreCutUp : Type 0
 UnitsAreCutUp = (p : Program) → KeepsRules p → (i : ℕ) (u : Routine) → slice_get p.units i ≡ Some u → IsCutUp p.dialect u (notes_of p i)
-
--- the clocks of some ASSERTs have equally many parts, 1 to 4
-pub record HaveEqualClocks (asserts : List Assertion) : Type 0 where
-  pub parts : ℕ
-  pub at_least : 1 ≤ parts
-  pub at_most : parts ≤ 4
-  pub equal : (a : Assertion) → IsAmong a asserts → length a.clock ≡ parts
 
 -- in a program that keeps the rules the clocks of a unit have equally many parts, 1 to 4
 abbrev pub ClocksAreEqual : Type 0
