@@ -1,6 +1,5 @@
 -- A call on a walk and in a run: what names stand for at the callee's entry and end, and in the caller afterwards.
-use Rattle.std.proofs.Common.{◌≡◌, ◌≢◌, ℕ, zero, suc, ◌+◌, ◌<◌, ◌≤◌, ◌⊎◌, inl, inr, Bool, true, false, cond, ◌&&◌, pos, List, [], ◌∷◌, ◌++◌, map, length, take, Option, Some, None, slice_get, refl, sym, ap, ◌∙◌, subst, arith, ext_get_or}
-use Rattle.std.specs.List.{filter}
+use Rattle.std.proofs.Common.{◌≡◌, ◌≢◌, ℕ, ◌+◌, ◌<◌, ◌≤◌, ◌⊎◌, inl, inr, Bool, true, false, cond, ◌&&◌, List, [], ◌∷◌, map, length, Option, Some, None, slice_get, refl, sym, ap, ◌∙◌, subst, arith, ext_get_or}
 use Rattle.formula.specs.declared.value.Cell.{Cell}
 use Rattle.formula.specs.declared.value.Cell.TheVariants as cell
 use Rattle.formula.specs.declared.value.Value.{Value}
@@ -25,7 +24,7 @@ use Rattle.fort_model.specs.Fits.{IsIn, IsVisible, Fits, has_sort}
 use Rattle.fort_model.specs.Lists.{IsAmong}
 use Rattle.fort_model.specs.Names.{same_name, data_name, dims_in, dims_of, is_function, is_own}
 use Rattle.fort_model.specs.Outcome.{Ended}
-use Rattle.fort_model.specs.Passing.{Taken, Cells, passed, written_back}
+use Rattle.fort_model.specs.Passing.{Taken, Cells}
 use Rattle.fort_model.specs.Processor.{Processor}
 use Rattle.fort_model.specs.Program.{Program, has_common, has_role, is_in_common, is_among, is_smashed, commons}
 use Rattle.fort_model.specs.Seen.{Named}
@@ -43,11 +42,11 @@ use Rattle.fort_laws.proofs.CallBack.{final, shared_back, dummy_back, unsmashed_
 use Rattle.fort_laws.proofs.CallEntry.{SameCells, held_same, dims_alike, alike_same, AreAlike, same_sorts, inside, start, Seat, one_cell, callee_fits, dummy_value, shared_value}
 use Rattle.fort_laws.proofs.CallHits.{smashed_among, among_smashed}
 use Rattle.fort_laws.proofs.CallNames.{data_name_is, seen_is}
-use Rattle.fort_laws.proofs.CallPassed.{bare_operand, are_taken, PassedAt, at_actual, at_operand}
+use Rattle.fort_laws.proofs.CallPassed.{bare_operand, are_taken, at_actual, at_operand}
 use Rattle.fort_laws.proofs.FrameCalls.{call_changes_only}
 use Rattle.fort_laws.proofs.FrameEnter.{SameOrNot, same, other, same_or_not}
-use Rattle.fort_laws.proofs.FrameParts.{IsOpen, still_placed, one_cell as caller_cell}
-use Rattle.fort_laws.proofs.FrameSeats.{clash, same_self, found, is_common, Place, old, new, place_of, Shared, shared, shared_inside, Root, common, dummy, root, bare, bare_cells, inside_by}
+use Rattle.fort_laws.proofs.FrameParts.{still_placed, one_cell as caller_cell}
+use Rattle.fort_laws.proofs.FrameSeats.{clash, same_self, found, is_common, Place, old, new, place_of, Shared, shared, shared_inside, Root, common, dummy, root, bare, bare_cells}
 use Rattle.fort_laws.proofs.Kept.{among_left, among_right}
 use Rattle.fort_laws.proofs.Near.{known}
 use Rattle.fort_laws.proofs.References.{among_either}
@@ -267,9 +266,12 @@ module _ (program : Program) (i j : ℕ) (c : Calls program.units i j) (of_calle
 
     may_actual : (d : DataName) → IsVisible g d → (t : SeatOf d.name) → Smashes program.units j d.name → (e : Extent) → t.taken ≡ Cells e → (k : ℕ) → IsIn k e → MayHit k
     may_actual d v t h e q k here2 =
-        let b = bare program.units i j c of_caller of_callee of_call env st placed copies xs fit d.name t h in
-        (b.has.its, b.has.among, by_dummy t.at d.name t.dummy h (t.is_actual ∙ ap Some (b.is ∙ ap Var (sym b.has.name))),
-        subst (λ (z : Extent). IsIn k z) (bare_cells program.units i j c of_caller of_callee of_call env st placed copies xs fit d.name t b e q) here2)
+        let b = bare program.units i j c of_caller of_callee of_call env st placed copies xs fit d.name t h in (
+          b.has.its,
+          b.has.among,
+          by_dummy t.at d.name t.dummy h (t.is_actual ∙ ap Some (b.is ∙ ap Var (sym b.has.name))),
+          subst (λ (z : Extent). IsIn k z) (bare_cells program.units i j c of_caller of_callee of_call env st placed copies xs fit d.name t b e q) here2,
+        )
 
     may_smashed : (d : DataName) → IsVisible g d → Smashes program.units j d.name → (k : ℕ) → k < length st → IsIn k (cells_in d.name) → MayHit k
     may_smashed d v h k lt here2 = by_root (root program.units i j c of_caller of_callee of_call env st placed copies xs fit d v)
@@ -279,9 +281,12 @@ module _ (program : Program) (i j : ℕ) (c : Calls program.units i j) (of_calle
         by_place t (new y q pl) = let r = (subst (λ (z : Extent). IsIn k z) pl here2).0 in absurd (omega arith)
 
         by_root : Root program.units i j c of_caller of_callee of_call env st placed copies xs fit d → MayHit k
-        by_root (common r s) =
-            (s.its, s.among, by_common (is_common program.units j g of_callee d v.among s.its.name (sym s.name) r) (subst (λ (z : Name). Smashes program.units j z) (sym s.name) h),
-            shared_inside program.units i j c of_caller of_callee of_call env st placed copies xs fit d s k here2)
+        by_root (common r s) = (
+          s.its,
+          s.among,
+          by_common (is_common program.units j g of_callee d v.among s.its.name (sym s.name) r) (subst (λ (z : Name). Smashes program.units j z) (sym s.name) h),
+          shared_inside program.units i j c of_caller of_callee of_call env st placed copies xs fit d s k here2,
+        )
         by_root (dummy r t dims) = by_place t (place_of program.units i j c of_caller of_callee of_call env st placed copies xs fit d.name t)
 
     pub left_frame : (length left ≡ length st) × OthersKept MayHit st left

@@ -1,5 +1,5 @@
 -- What a walk takes of the types of names is true where names stand for cells that hold things of their types.
-use Rattle.std.proofs.Common.{◌≡◌, ℕ, zero, suc, ◌+◌, ◌*◌, ◌<◌, ◌≤◌, Bool, true, false, ◌&&◌, ℤ, pos, ◌*ℤ◌, List, [], ◌∷◌, length, Option, Some, None, refl, sym, ap, ◌∙◌, subst, arith, rules}
+use Rattle.std.proofs.Common.{◌≡◌, ℕ, suc, ◌+◌, ◌*◌, ◌≤◌, Bool, true, ◌&&◌, ℤ, pos, ◌*ℤ◌, List, [], ◌∷◌, length, Option, Some, None, refl, sym, ap, ◌∙◌, subst, arith, rules}
 use Rattle.std.proofs.Math.IntN.{pos-*ℤ-pos}
 use Rattle.std.specs.List.{list_all}
 use Rattle.std.specs.Ordering.{int_eq}
@@ -37,7 +37,6 @@ use Rattle.fort_laws.specs.Frame.{IsSoundUnit}
 use Rattle.fort_laws.specs.Matches.{AllTrue}
 use Rattle.fort_laws.proofs.CallEntry.{all_contents}
 use Rattle.fort_laws.proofs.CallNames.{data_name_is}
-use Rattle.fort_laws.proofs.FrameSeats.{found}
 use Rattle.fort_laws.proofs.StorageLaws.{length-contents}
 
 int_eq_same : (n : ℕ) → int_eq (pos n) (pos n) ≡ true

@@ -1,14 +1,11 @@
 -- Integers of a processor.
-use Rattle.std.proofs.Common.{◌≡◌, ℕ, zero, suc, ◌+◌, ◌%◌, ◌≤◌, Bool, true, false, ◌&&◌, ℤ, pos, negsuc, ◌+ℤ◌, ◌-ℤ◌, ◌*ℤ◌, ◌≤ℤ◌, neg_ℤ, List, [], ◌∷◌, refl, sym, ap, ◌∙◌, subst, arith}
+use Rattle.std.proofs.Common.{◌≡◌, ℕ, suc, ◌%◌, ◌≤◌, Bool, true, false, ◌&&◌, ℤ, pos, negsuc, ◌+ℤ◌, ◌-ℤ◌, ◌*ℤ◌, ◌≤ℤ◌, neg_ℤ, refl, ap, ◌∙◌, arith}
 use Rattle.std.proofs.lemmas.Bool.Decides.{nat_tests}
 use Rattle.std.proofs.lemmas.Int.{ints, quot-rem}
 use Rattle.std.specs.Prelude.{nat_lt, int_le, int_lt, int_div, int_rem, nat_abs, if◌then◌else◌}
 use lib.Signed.{mag_rem}
 use Rattle.formula.specs.Values as value
 use Rattle.formula.specs.Values.{is_between}
-use Rattle.formula.specs.declared.value.Cell.{Cell}
-use Rattle.fort_model.specs.Evaluate as run
-use Rattle.fort_model.specs.Cells.{num}
 use Rattle.fort_model.specs.Processor.{Processor, MeetsBound}
 
 at_most : (a b : ℤ) → a ≤ℤ b → int_le a b ≡ true

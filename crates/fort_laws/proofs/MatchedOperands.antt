@@ -1,7 +1,7 @@
 -- Expressions as a whole: where named values stand for cells, a walk and a strict run evaluate them alike, or the run
 -- errs where the walk's first false check is.
 use Rattle.std.proofs.Common.{◌≡◌, ℕ, zero, suc, ◌+◌, ◌<◌, ◌≤◌, ◌⊎◌, inl, inr, Bool, true, false, cond, not, ◌&&◌, ◌||◌, ℤ, pos, ◌-ℤ◌, List, [], ◌∷◌, length, Some, refl, sym, ap, ◌∙◌, subst, arith}
-use Rattle.std.specs.Prelude.{nat_lt, pred, neg_ℤ, int_le}
+use Rattle.std.specs.Prelude.{nat_lt, pred, neg_ℤ}
 use mathlib.Core.Former.{Count}
 use Rattle.formula.specs.declared.function.BuiltIn.TheVariants as f
 use Rattle.formula.specs.declared.value.Cell.{Cell}
@@ -388,15 +388,17 @@ module _ (fs : List Function) (values : Symbol → Value) (program : Program) (i
         → (IsTyped s.unit IsReference Logical e → Matches (Same st (IsOperand e Logical)) (walk.operand w card now e) (run.taken s caller card k e) st)
         → Matches (Same st (IsPassed s st now e)) (walk.operand w card now e) (run.taken s caller card k e) st
     actual_matches (Var x) card k h hi hl =
-        matches_see (Same st (IsPassed s st now (Var x))) (Bare x (now x)) (Cells (s.environment x)) st
-        (refl, record {
-          taken = refl;
-          operand = (refl, refl);
-          value = (refl, refl);
-          sort = h.data_of.sort;
-          sort_is = ap data_sort h.is;
-          holds = λ n lt. maybe_holds s.processor h.data_of.sort _ (standing.sorts x h.data_of h.is n lt);
-        })
+        matches_see (Same st (IsPassed s st now (Var x))) (Bare x (now x)) (Cells (s.environment x)) st (
+          refl,
+          record {
+            taken = refl;
+            operand = (refl, refl);
+            value = (refl, refl);
+            sort = h.data_of.sort;
+            sort_is = ap data_sort h.is;
+            holds = λ n lt. maybe_holds s.processor h.data_of.sort _ (standing.sorts x h.data_of h.is n lt);
+          },
+        )
     actual_matches (Const n) card k h hi hl = by_sort (Const n) card k (λ z e. cc) h hi hl
     actual_matches (TruthConstant b) card k h hi hl = by_sort (TruthConstant b) card k (λ z e. cc) h hi hl
     actual_matches (Apply' a x args) card k h hi hl = by_sort (Apply' a x args) card k (λ z e. cc) h hi hl
@@ -415,12 +417,14 @@ module _ (fs : List Function) (values : Symbol → Value) (program : Program) (i
       operands_match (Const n) q card k h = as_integer (Const n) q _ _ h (constant_operand card n)
       operands_match (TruthConstant b) q card k h = as_logical (TruthConstant b) q _ _ h (matches_logical (TruthConstant b) (λ c. tt) (λ n z. cc) (Truth b) b refl)
       operands_match (Var x) q card k h =
-          matches_see (Same st (IsOperand (Var x) q)) (Bare x (now x)) (Cells (s.environment x)) st
-          (refl, record {
-            taken = refl;
-            form = (refl, refl);
-            holds = (refl, refl, scalar_stands s.processor s.unit s.environment st now standing q x h, scalar_sort s.processor s.unit s.environment st now standing q x h);
-          })
+          matches_see (Same st (IsOperand (Var x) q)) (Bare x (now x)) (Cells (s.environment x)) st (
+            refl,
+            record {
+              taken = refl;
+              form = (refl, refl);
+              holds = (refl, refl, scalar_stands s.processor s.unit s.environment st now standing q x h, scalar_sort s.processor s.unit s.environment st now standing q x h);
+            },
+          )
       operands_match (Apply' a x args) q card k h =
           matches_applied (Apply' a x args) (λ n z. cc) (λ c. tt) a (λ c g. g) card k q (applied s.unit a) (row_length args) (listed args) (AreInteger s.unit IsReference args) (AreActual s.unit IsReference args) _ _ _ _ h
           (λ t. integers_match args card k t) (λ t. actuals_match args card (suc k) t)

@@ -1,5 +1,5 @@
 -- Small laws of truth values and lists.
-use Rattle.std.proofs.Common.{◌≡◌, ℕ, zero, suc, Bool, true, false, cond, ◌||◌, List, [], ◌∷◌, map, Some, slice_get, refl, ap, ◌∙◌, subst, sym}
+use Rattle.std.proofs.Common.{◌≡◌, ℕ, zero, suc, Bool, true, cond, ◌||◌, List, [], ◌∷◌, map, Some, slice_get, refl, ap, ◌∙◌, subst, sym}
 use Rattle.std.specs.List.{filter, list_any}
 use Rattle.fort_model.specs.Lists.{IsAmong}
 use Rattle.fort_laws.proofs.Near.{known}
