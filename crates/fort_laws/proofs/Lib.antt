@@ -35,6 +35,7 @@ pub mod PlaceBounds
 pub mod References
 pub mod RulesKept
 pub mod SafeRuns
+pub mod SafeUnits
 pub mod Small
 pub mod SameValues
 pub mod SpelledSymbols
