@@ -51,12 +51,8 @@ use Rattle.fort_laws.proofs.Kept.{among_left, among_right}
 use Rattle.fort_laws.proofs.Near.{known}
 use Rattle.fort_laws.proofs.References.{among_either}
 use Rattle.fort_laws.proofs.RulesKept.{passes_filter, passes_any}
-use Rattle.fort_laws.proofs.Small.{filter_passes, some_passes, map_at}
+use Rattle.fort_laws.proofs.Small.{both_hold, both_parts, filter_passes, some_passes, map_at}
 use Rattle.fort_laws.proofs.Written.{equal_or_not}
-
-split : (a b : Bool) → (a && b) ≡ true → (a ≡ true) × (b ≡ true)
-split true b e = (refl, e)
-split false b e = absurd (cc)
 
 in_common : (r : Role) → is_in_common r ≡ true → r ≡ InCommon
 in_common Dummy e = absurd (cc)
@@ -184,9 +180,6 @@ module _ (program : Program) (i j : ℕ) (c : Calls program.units i j) (of_calle
   abbrev is_common_hit : Name → Bool
   is_common_hit x = has_common g x && is_smashed program j x
 
-  both_true : (a b : Bool) → a ≡ true → b ≡ true → (a && b) ≡ true
-  both_true a b s t = ap (λ (z : Bool). z && b) s ∙ t
-
   hit_listed : (y : Name) → Hit y → IsAmong y hit_names
   hit_listed y (by_dummy n d e s a) =
       let r = at_actual here st now c.site.actuals os xs n (Var y) passing a in
@@ -194,7 +187,7 @@ module _ (program : Program) (i j : ℕ) (c : Calls program.units i j) (of_calle
       let o = bare_operand now y r.operand (subst (λ (z : Expr). IsOperandOf now z r.operand) es r.passed.operand) in
       among_left y actuals_hit commons_hit (smashed_among w (is_smashed program j) g.dummies os n d y o.0 e ((table j d).1 s) (r.is_operand ∙ ap Some o.1))
   hit_listed y (by_common h s) =
-      among_right y actuals_hit commons_hit (passes_filter is_common_hit (commons c.caller) y (blocks i j c y h) (both_true (has_common g y) (is_smashed program j y) h ((table j y).1 s)))
+      among_right y actuals_hit commons_hit (passes_filter is_common_hit (commons c.caller) y (blocks i j c y h) (both_hold (has_common g y) (is_smashed program j y) h ((table j y).1 s)))
 
   pub hit_among : (y : Name) → Hit y → is_among hit_names y ≡ true
   hit_among y h = passes_any (same_name y) hit_names y (hit_listed y h) (same_self y)
@@ -218,7 +211,7 @@ module _ (program : Program) (i j : ℕ) (c : Calls program.units i j) (of_calle
           by_dummy r.at r.dummy r.is_dummy ((table j r.dummy).0 r.is_smashed) (t.is_actual ∙ ap Some form.0)
       pick (inr b) =
           let r = filter_passes is_common_hit (commons c.caller) y b in
-          let t = split (has_common g y) (is_smashed program j y) r.1 in
+          let t = both_parts (has_common g y) (is_smashed program j y) r.1 in
           by_common t.0 ((table j y).0 t.1)
 
   pub among_hit : (y : Name) → is_among hit_names y ≡ true → Hit y

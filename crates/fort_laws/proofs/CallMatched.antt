@@ -59,7 +59,7 @@ all_checked kind card (v ∷ vs) h = known (holds v)
     (λ t. (t, all_checked kind card vs (sym (ap (λ (b : Bool). b && list_all holds vs) t) ∙ h)))
     (λ f. let q : false ≡ true = sym (ap (λ (b : Bool). b && list_all holds vs) f) ∙ h in absurd (cc))
 
-all_taken : (vs : List Value) → list_all holds vs ≡ true → AllTrue (takes vs)
+pub all_taken : (vs : List Value) → list_all holds vs ≡ true → AllTrue (takes vs)
 all_taken [] h = tt
 all_taken (v ∷ vs) h = known (holds v)
     (λ t. (t, all_taken vs (sym (ap (λ (b : Bool). b && list_all holds vs) t) ∙ h)))
@@ -76,7 +76,7 @@ abbrev in_front : Named Value → Answers Value → Answers Value
 in_front a answers zero = a
 in_front a answers (suc n) = answers n
 
-may_be : (p : Processor) (q : Sort) (c : Cell) → has_sort p q c ≡ true → MayBe p q c
+pub may_be : (p : Processor) (q : Sort) (c : Cell) → has_sort p q c ≡ true → MayBe p q c
 may_be p Integer (cell.Int z) h = h
 may_be p Integer (cell.Logical b) h = absurd (cc)
 may_be p Integer cell.Undefined h = tt

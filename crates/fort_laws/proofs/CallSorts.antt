@@ -37,6 +37,7 @@ use Rattle.fort_laws.specs.Frame.{IsSoundUnit}
 use Rattle.fort_laws.specs.Matches.{AllTrue}
 use Rattle.fort_laws.proofs.CallEntry.{all_contents}
 use Rattle.fort_laws.proofs.CallNames.{data_name_is}
+use Rattle.fort_laws.proofs.Small.{both_hold}
 use Rattle.fort_laws.proofs.StorageLaws.{length-contents}
 
 int_eq_same : (n : ℕ) → int_eq (pos n) (pos n) ≡ true
@@ -52,9 +53,6 @@ module _ (fs : List Function) (values : Symbol → Value) (p : Processor) (least
   pub cell_sorted : (q : Sort) (c : Cell) → has_sort p q c ≡ true → holds (walk.cell_sort (of_values fs values) q (of_cell c)) ≡ true
   cell_sorted Integer c h = (λ k. is_cell (is_integer_cell (value.num (least k)) (value.num (greatest k))) (of_cell c)) ∙ (as_one (is_integer_cell p.least p.greatest) c ∙ h)
   cell_sorted Logical c h = as_one is_logical_cell c ∙ h
-
-  both_hold : (a b : Bool) → a ≡ true → b ≡ true → (a && b) ≡ true
-  both_hold a b x y = ap (λ (z : Bool). z && b) x ∙ y
 
   are_sorted : (test : Cell → Bool) (cs : List Cell) (n : Value) → value.num n ≡ pos (length cs) → list_all test cs ≡ true → are_cells test (value.num n) (Cells cs) ≡ true
   are_sorted test cs n e h = both_hold (int_eq (pos (length cs)) (value.num n)) (list_all test cs) (ap (int_eq (pos (length cs))) e ∙ int_eq_same (length cs)) h

@@ -11,9 +11,11 @@ pub mod CallPassed
 pub mod CallSorts
 pub mod CallStood
 pub mod Descents
+pub mod Entering
 pub mod Exact
 pub mod Falling
 pub mod FewSymbols
+pub mod FittingNotes
 pub mod FrameCalls
 pub mod FrameClaims
 pub mod FrameEnter
@@ -33,6 +35,7 @@ pub mod Matching
 pub mod Near
 pub mod PlaceBounds
 pub mod References
+pub mod RightUnits
 pub mod RulesKept
 pub mod SafeRuns
 pub mod SafeUnits

@@ -34,5 +34,5 @@ pub use steps::{
 pub use symbols::{
     paths_make_asserts_safe, paths_make_entries_safe, safe_paths_end, walks_read_few_symbols,
 };
-pub use units::{safe_units_end, smashed_have_types};
+pub use units::{safe_units_are_right, safe_units_end, smashed_have_types};
 pub use ways::{statements_lead_on, ways_can_be_completed};

@@ -1,5 +1,5 @@
 // Units of a program.
-ghost use Rattle.fort_laws.specs.UnitLaw.{SafeUnitsEnd, SmashedHaveTypes};
+ghost use Rattle.fort_laws.specs.UnitLaw.{SafeUnitsAreRight, SafeUnitsEnd, SmashedHaveTypes};
 
 /// Where named values stand for cells, what a walk takes of the types of smashed names at an ASSERT
 /// is true. It does nothing.
@@ -14,4 +14,12 @@ pub fn smashed_have_types()
 /// what is taken at the entry to be true. It does nothing.
 pub fn safe_units_end()
     ensures { SafeUnitsEnd }
+{}
+
+/// Such a unit ends well from all storage that fits, where smashed names lie apart and INPUT is met,
+/// if its notes fit it, and RETURNs alone lead to its end: names that its caller sees still hold
+/// things of their types, the value of a FUNCTION is defined and has its type, and OUTPUT is met.
+/// Statements are taken to be good. It does nothing.
+pub fn safe_units_are_right()
+    ensures { SafeUnitsAreRight }
 {}
