@@ -1,6 +1,5 @@
 -- A call on a walk and in a run: what names stand for at the callee's entry and end, and in the caller afterwards.
-use Rattle.std.proofs.Common.{◌≡◌, ◌≢◌, ℕ, zero, suc, ◌+◌, ◌<◌, ◌≤◌, ◌⊎◌, inl, inr, Bool, true, false, cond, ◌&&◌, pos, List, [], ◌∷◌, ◌++◌, map, length, take, Option, Some, None, slice_get, refl, sym, ap, ◌∙◌, subst, arith, ext_get_or}
-use Rattle.std.specs.List.{filter}
+use Rattle.std.proofs.Common.{◌≡◌, ◌≢◌, ℕ, ◌+◌, ◌<◌, ◌≤◌, ◌⊎◌, inl, inr, Bool, true, false, cond, ◌&&◌, List, [], ◌∷◌, map, length, Option, Some, None, slice_get, refl, sym, ap, ◌∙◌, subst, arith, ext_get_or}
 use Rattle.formula.specs.declared.value.Cell.{Cell}
 use Rattle.formula.specs.declared.value.Cell.TheVariants as cell
 use Rattle.formula.specs.declared.value.Value.{Value}
@@ -25,7 +24,7 @@ use Rattle.fort_model.specs.Fits.{IsIn, IsVisible, Fits, has_sort}
 use Rattle.fort_model.specs.Lists.{IsAmong}
 use Rattle.fort_model.specs.Names.{same_name, data_name, dims_in, dims_of, is_function, is_own}
 use Rattle.fort_model.specs.Outcome.{Ended}
-use Rattle.fort_model.specs.Passing.{Taken, Cells, passed, written_back}
+use Rattle.fort_model.specs.Passing.{Taken, Cells}
 use Rattle.fort_model.specs.Processor.{Processor}
 use Rattle.fort_model.specs.Program.{Program, has_common, has_role, is_in_common, is_among, is_smashed, commons}
 use Rattle.fort_model.specs.Seen.{Named}
@@ -43,21 +42,17 @@ use Rattle.fort_laws.proofs.CallBack.{final, shared_back, dummy_back, unsmashed_
 use Rattle.fort_laws.proofs.CallEntry.{SameCells, held_same, dims_alike, alike_same, AreAlike, same_sorts, inside, start, Seat, one_cell, callee_fits, dummy_value, shared_value}
 use Rattle.fort_laws.proofs.CallHits.{smashed_among, among_smashed}
 use Rattle.fort_laws.proofs.CallNames.{data_name_is, seen_is}
-use Rattle.fort_laws.proofs.CallPassed.{bare_operand, are_taken, PassedAt, at_actual, at_operand}
+use Rattle.fort_laws.proofs.CallPassed.{bare_operand, are_taken, at_actual, at_operand}
 use Rattle.fort_laws.proofs.FrameCalls.{call_changes_only}
 use Rattle.fort_laws.proofs.FrameEnter.{SameOrNot, same, other, same_or_not}
-use Rattle.fort_laws.proofs.FrameParts.{IsOpen, still_placed, one_cell as caller_cell}
-use Rattle.fort_laws.proofs.FrameSeats.{clash, same_self, found, is_common, Place, old, new, place_of, Shared, shared, shared_inside, Root, common, dummy, root, bare, bare_cells, inside_by}
+use Rattle.fort_laws.proofs.FrameParts.{still_placed, one_cell as caller_cell}
+use Rattle.fort_laws.proofs.FrameSeats.{clash, same_self, found, is_common, Place, old, new, place_of, Shared, shared, shared_inside, Root, common, dummy, root, bare, bare_cells}
 use Rattle.fort_laws.proofs.Kept.{among_left, among_right}
 use Rattle.fort_laws.proofs.Near.{known}
 use Rattle.fort_laws.proofs.References.{among_either}
 use Rattle.fort_laws.proofs.RulesKept.{passes_filter, passes_any}
-use Rattle.fort_laws.proofs.Small.{filter_passes, some_passes, map_at}
+use Rattle.fort_laws.proofs.Small.{both_hold, both_parts, filter_passes, some_passes, map_at}
 use Rattle.fort_laws.proofs.Written.{equal_or_not}
-
-split : (a b : Bool) → (a && b) ≡ true → (a ≡ true) × (b ≡ true)
-split true b e = (refl, e)
-split false b e = absurd (cc)
 
 in_common : (r : Role) → is_in_common r ≡ true → r ≡ InCommon
 in_common Dummy e = absurd (cc)
@@ -185,9 +180,6 @@ module _ (program : Program) (i j : ℕ) (c : Calls program.units i j) (of_calle
   abbrev is_common_hit : Name → Bool
   is_common_hit x = has_common g x && is_smashed program j x
 
-  both_true : (a b : Bool) → a ≡ true → b ≡ true → (a && b) ≡ true
-  both_true a b s t = ap (λ (z : Bool). z && b) s ∙ t
-
   hit_listed : (y : Name) → Hit y → IsAmong y hit_names
   hit_listed y (by_dummy n d e s a) =
       let r = at_actual here st now c.site.actuals os xs n (Var y) passing a in
@@ -195,7 +187,7 @@ module _ (program : Program) (i j : ℕ) (c : Calls program.units i j) (of_calle
       let o = bare_operand now y r.operand (subst (λ (z : Expr). IsOperandOf now z r.operand) es r.passed.operand) in
       among_left y actuals_hit commons_hit (smashed_among w (is_smashed program j) g.dummies os n d y o.0 e ((table j d).1 s) (r.is_operand ∙ ap Some o.1))
   hit_listed y (by_common h s) =
-      among_right y actuals_hit commons_hit (passes_filter is_common_hit (commons c.caller) y (blocks i j c y h) (both_true (has_common g y) (is_smashed program j y) h ((table j y).1 s)))
+      among_right y actuals_hit commons_hit (passes_filter is_common_hit (commons c.caller) y (blocks i j c y h) (both_hold (has_common g y) (is_smashed program j y) h ((table j y).1 s)))
 
   pub hit_among : (y : Name) → Hit y → is_among hit_names y ≡ true
   hit_among y h = passes_any (same_name y) hit_names y (hit_listed y h) (same_self y)
@@ -219,7 +211,7 @@ module _ (program : Program) (i j : ℕ) (c : Calls program.units i j) (of_calle
           by_dummy r.at r.dummy r.is_dummy ((table j r.dummy).0 r.is_smashed) (t.is_actual ∙ ap Some form.0)
       pick (inr b) =
           let r = filter_passes is_common_hit (commons c.caller) y b in
-          let t = split (has_common g y) (is_smashed program j y) r.1 in
+          let t = both_parts (has_common g y) (is_smashed program j y) r.1 in
           by_common t.0 ((table j y).0 t.1)
 
   pub among_hit : (y : Name) → is_among hit_names y ≡ true → Hit y

@@ -1,16 +1,14 @@
 -- What the cells of smashed names hold after a call.
-use Rattle.std.proofs.Common.{◌≡◌, ◌≢◌, ℕ, zero, suc, ◌+◌, ◌-◌, ◌<◌, ◌≤◌, ◌⊎◌, inl, inr, Bool, true, false, List, [], ◌∷◌, ◌++◌, length, take, Some, slice_get, refl, sym, ap, ◌∙◌, subst, arith, length-append, get_or-take}
+use Rattle.std.proofs.Common.{◌≡◌, ◌≢◌, ℕ, zero, suc, ◌+◌, ◌-◌, ◌<◌, ◌≤◌, ◌⊎◌, inl, inr, Bool, true, false, List, [], ◌∷◌, length, take, Some, slice_get, refl, sym, ap, ◌∙◌, subst, arith, length-append, get_or-take}
 use Rattle.formula.specs.declared.value.Cell.TheVariants.{Undefined}
 use Rattle.fort_syntax.specs.declared.name.Name.{Name}
 use Rattle.fort_syntax.specs.declared.expr.Expr.{Expr}
-use Rattle.fort_syntax.specs.declared.expr.Expr.TheVariants.{Var}
 use Rattle.fort_syntax.specs.declared.unit.DataName.{DataName}
 use Rattle.fort_syntax.specs.declared.unit.Role.TheVariants.{InCommon}
 use Rattle.fort_syntax.specs.declared.unit.Unit.{Unit as Routine}
 use Rattle.fort_model.specs.Arguments.{mentions}
 use Rattle.fort_model.specs.Calls.{Calls}
 use Rattle.fort_model.specs.Fits.{IsIn, IsVisible}
-use Rattle.fort_model.specs.Lists.{IsAmong}
 use Rattle.fort_model.specs.Passing.{Taken, Cells, Passed, ByReference, ByCopy, ByValue, new_cells, passed_by, passed, written_back}
 use Rattle.fort_model.specs.Smashes.{Smashes}
 use Rattle.fort_model.specs.Storage.{Storage, Extent, Environment, load, contents, write}
@@ -18,8 +16,8 @@ use Rattle.fort_laws.specs.Actuals.{IsPart, IsTakenAs, AreTakenAs}
 use Rattle.fort_laws.specs.Frame.{IsPlaced, IsSoundUnit, IsSoundCall, IsSmashedCell, OthersKept}
 use Rattle.fort_laws.proofs.CallEntry.{SameCells, inside, start, Seat}
 use Rattle.fort_laws.proofs.FrameCalls.{copy_of}
-use Rattle.fort_laws.proofs.FrameSeats.{IsOld, old_cells, at_fit, old_within, old_inside, clash, is_common, Shared, shared_inside, shared_smashed, Bare, bare, bare_cells, callee_apart, callee_shapes}
-use Rattle.fort_laws.proofs.StorageLaws.{width, widths, seat, at_passed, length-contents, load-contents, length-write, load-write_at, load-write_past, length-written_back, load-written_back, copies_hold}
+use Rattle.fort_laws.proofs.FrameSeats.{IsOld, old_cells, at_fit, old_within, old_inside, clash, is_common, Shared, shared_smashed, Bare, bare, callee_apart, callee_shapes}
+use Rattle.fort_laws.proofs.StorageLaws.{widths, seat, at_passed, length-contents, load-contents, length-write, load-write_at, load-write_past, load-written_back, copies_hold}
 use Rattle.fort_laws.proofs.Written.{equal_or_not}
 
 -- a cell that one copy alone is written back to

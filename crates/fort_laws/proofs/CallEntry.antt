@@ -1,5 +1,5 @@
 -- A called unit at its entry: its dummies have the cells of their actuals, or cells that hold the same, of the same types.
-use Rattle.std.proofs.Common.{◌≡◌, ℕ, zero, suc, ◌+◌, ◌<◌, ◌≤◌, Bool, true, false, ◌&&◌, pos, List, [], ◌∷◌, ◌++◌, length, Option, Some, None, slice_get, ◌⊎◌, inl, inr, refl, sym, ap, ◌∙◌, subst, arith}
+use Rattle.std.proofs.Common.{◌≡◌, ℕ, zero, suc, ◌+◌, ◌<◌, ◌≤◌, Bool, true, false, ◌&&◌, List, [], ◌∷◌, length, Option, Some, slice_get, ◌⊎◌, inl, inr, refl, sym, ap, ◌∙◌, subst, arith}
 use Rattle.std.specs.List.{list_all}
 use Rattle.formula.specs.declared.value.Cell.{Cell}
 use Rattle.formula.specs.declared.value.Value.{Value}
@@ -12,7 +12,6 @@ use Rattle.fort_syntax.specs.declared.expr.Expr.{Expr}
 use Rattle.fort_syntax.specs.declared.expr.Expr.TheVariants.{Var}
 use Rattle.fort_syntax.specs.declared.stmt.Dim.{Dim}
 use Rattle.fort_syntax.specs.declared.unit.DataName.{DataName}
-use Rattle.fort_syntax.specs.declared.unit.Role.TheVariants.{InCommon}
 use Rattle.fort_syntax.specs.declared.unit.Unit.{Unit as Routine}
 use Rattle.fort_model.specs.Arguments.{same_sort_as, sort_of_expr, dims_of_actual}
 use Rattle.fort_model.specs.Calls.{Calls}
@@ -20,7 +19,7 @@ use Rattle.fort_model.specs.Correct.{held_in}
 use Rattle.fort_model.specs.Evaluate.{Scene}
 use Rattle.fort_model.specs.Fits.{IsVisible, HasShape, Fits, has_sort}
 use Rattle.fort_model.specs.Lists.{IsAmong}
-use Rattle.fort_model.specs.Names.{data_name, dims_in, dims_of}
+use Rattle.fort_model.specs.Names.{dims_in, dims_of}
 use Rattle.fort_model.specs.Passing.{Taken, Cells, Fresh, new_cells, passed_by, passed}
 use Rattle.fort_model.specs.Places.{dim_values}
 use Rattle.fort_model.specs.Processor.{Processor}
@@ -31,7 +30,7 @@ use Rattle.fort_laws.specs.Actuals.{IsPart, AreTakenAs, HoldsSort, IsOperandOf, 
 use Rattle.fort_laws.specs.CallLaw.{Agrees, HoldsName}
 use Rattle.fort_laws.specs.Frame.{IsPlaced, HasName, IsSoundUnit, IsSoundCall, DimsAgree}
 use Rattle.fort_laws.proofs.FrameParts.{good_dims, size_positive}
-use Rattle.fort_laws.proofs.FrameSeats.{inner, begun, same_below, new_at, Seated, old_of, old_within, Shared, shared_below, Root, common, dummy, root, callee_shapes, found, whole_or_not}
+use Rattle.fort_laws.proofs.FrameSeats.{inner, begun, same_below, new_at, Seated, old_of, old_within, Shared, Root, common, dummy, root, callee_shapes, found, whole_or_not}
 use Rattle.fort_laws.proofs.StorageLaws.{widths, seat, copy_holds, value_holds}
 
 -- ---- cells that hold the same

@@ -4,7 +4,6 @@ use Rattle.formula.specs.declared.value.Value.{Value}
 use Rattle.fort_syntax.specs.declared.name.Name.{Name}
 use Rattle.fort_model.specs.Lists.{IsAmong}
 use Rattle.fort_model.specs.WalkCalls.{Sight, Operand, Bare, Part, Computed, smashed_actuals}
-use Rattle.fort_laws.proofs.Near.{known}
 use Rattle.fort_laws.proofs.RulesKept.{more_among}
 
 module _ (w : Sight Value) (smashed : Name → Bool) where

@@ -1,5 +1,5 @@
 -- The law of calls.
-use Rattle.std.proofs.Common.{◌≡◌, ℕ, zero, suc, ◌+◌, ◌<◌, ◌≤◌, Bool, true, false, ◌&&◌, inl, inr, pos, List, [], ◌∷◌, ◌++◌, map, length, take, Option, Some, None, slice_get, refl, sym, ap, ◌∙◌, subst, arith}
+use Rattle.std.proofs.Common.{◌≡◌, ℕ, zero, suc, ◌+◌, ◌<◌, ◌≤◌, Bool, true, false, ◌&&◌, inl, inr, pos, List, [], ◌∷◌, map, length, take, Option, Some, None, refl, sym, ap, ◌∙◌, subst}
 use Rattle.std.specs.List.{list_all}
 use Rattle.formula.specs.declared.value.Cell.{Cell}
 use Rattle.formula.specs.declared.value.Cell.TheVariants as cell
@@ -14,14 +14,13 @@ use Rattle.fort_syntax.specs.declared.dialect.Sort.TheVariants.{Integer, Logical
 use Rattle.fort_syntax.specs.declared.unit.DataName.{DataName}
 use Rattle.fort_syntax.specs.declared.unit.Unit.{Unit as Routine}
 use Rattle.fort_model.specs.Calls.{Calls, callee_of}
-use Rattle.fort_model.specs.Cells.{is_defined}
 use Rattle.fort_model.specs.Conditions.{sight}
-use Rattle.fort_model.specs.Correct.{held_in, IsMet, names_hold}
+use Rattle.fort_model.specs.Correct.{held_in, names_hold}
 use Rattle.fort_model.specs.Evaluate.{Scene}
 use Rattle.fort_model.specs.Events.{checks, takes}
 use Rattle.fort_model.specs.Fits.{IsVisible, IsApart, has_sort}
 use Rattle.fort_model.specs.Lists.{IsAmong}
-use Rattle.fort_model.specs.Names.{data_name, unit_at}
+use Rattle.fort_model.specs.Names.{unit_at}
 use Rattle.fort_model.specs.Outcome.{Outcome, Ended, and_then}
 use Rattle.fort_model.specs.Passing.{Taken, passed, written_back, call}
 use Rattle.fort_model.specs.Places.{dim_values, stretch}
@@ -42,13 +41,13 @@ use Rattle.fort_laws.specs.Frame.{IsPlaced, AreSound, SharesBlocks, IsSmashedCel
 use Rattle.fort_laws.specs.GoodStatements.{Stood}
 use Rattle.fort_laws.specs.Matches.{AllTrue, FirstFails, of_callee, Matches, moves, fails}
 use Rattle.fort_laws.specs.Standing.{MayBe}
-use Rattle.fort_laws.proofs.CallAfter.{fit, cells_in, begun, entry_fits, entry_seen, left, hit_names, new_names, after_names, left_frame, left_placed, left_sorted, left_named, left_kept, new_result, after_seen}
+use Rattle.fort_laws.proofs.CallAfter.{fit, cells_in, begun, entry_fits, entry_seen, left, hit_names, new_names, after_names, left_placed, left_sorted, left_named, left_kept, new_result, after_seen}
 use Rattle.fort_laws.proofs.CallNames.{data_name_is, notes_same}
 use Rattle.fort_laws.proofs.CallSorts.{cell_sorted, sorts_true}
 use Rattle.fort_laws.proofs.CallStood.{stood_sorted, stood_placed}
 use Rattle.fort_laws.proofs.FrameCalls.{runs_change_only_smashed}
 use Rattle.fort_laws.proofs.FrameParts.{one_cell}
-use Rattle.fort_laws.proofs.FrameSeats.{callee_apart, callee_shapes}
+use Rattle.fort_laws.proofs.FrameSeats.{callee_apart}
 use Rattle.fort_laws.proofs.Matching.{all_true_append, fails_before}
 use Rattle.fort_laws.proofs.Near.{known}
 
@@ -60,7 +59,7 @@ all_checked kind card (v ∷ vs) h = known (holds v)
     (λ t. (t, all_checked kind card vs (sym (ap (λ (b : Bool). b && list_all holds vs) t) ∙ h)))
     (λ f. let q : false ≡ true = sym (ap (λ (b : Bool). b && list_all holds vs) f) ∙ h in absurd (cc))
 
-all_taken : (vs : List Value) → list_all holds vs ≡ true → AllTrue (takes vs)
+pub all_taken : (vs : List Value) → list_all holds vs ≡ true → AllTrue (takes vs)
 all_taken [] h = tt
 all_taken (v ∷ vs) h = known (holds v)
     (λ t. (t, all_taken vs (sym (ap (λ (b : Bool). b && list_all holds vs) t) ∙ h)))
@@ -77,7 +76,7 @@ abbrev in_front : Named Value → Answers Value → Answers Value
 in_front a answers zero = a
 in_front a answers (suc n) = answers n
 
-may_be : (p : Processor) (q : Sort) (c : Cell) → has_sort p q c ≡ true → MayBe p q c
+pub may_be : (p : Processor) (q : Sort) (c : Cell) → has_sort p q c ≡ true → MayBe p q c
 may_be p Integer (cell.Int z) h = h
 may_be p Integer (cell.Logical b) h = absurd (cc)
 may_be p Integer cell.Undefined h = tt

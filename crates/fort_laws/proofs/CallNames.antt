@@ -26,7 +26,7 @@ use Rattle.fort_model.specs.Storage.{Storage, Environment}
 use Rattle.fort_model.specs.Symbols.{Symbol, LeastInteger, GreatestInteger}
 use Rattle.fort_model.specs.WalkCalls.{Sight, with_actuals, seen_by}
 use Rattle.fort_laws.specs.CallLaw.{HasNames}
-use Rattle.fort_laws.specs.Frame.{HasName, IsSoundUnit}
+use Rattle.fort_laws.specs.Frame.{IsSoundUnit}
 use Rattle.fort_laws.proofs.FrameEnter.{SameOrNot, same, other, same_or_not}
 use Rattle.fort_laws.proofs.FrameSeats.{clash, same_is, found}
 use Rattle.fort_laws.proofs.Near.{known}

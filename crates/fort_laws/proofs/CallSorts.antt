@@ -1,5 +1,5 @@
 -- What a walk takes of the types of names is true where names stand for cells that hold things of their types.
-use Rattle.std.proofs.Common.{◌≡◌, ℕ, zero, suc, ◌+◌, ◌*◌, ◌<◌, ◌≤◌, Bool, true, false, ◌&&◌, ℤ, pos, ◌*ℤ◌, List, [], ◌∷◌, length, Option, Some, None, refl, sym, ap, ◌∙◌, subst, arith, rules}
+use Rattle.std.proofs.Common.{◌≡◌, ℕ, suc, ◌+◌, ◌*◌, ◌≤◌, Bool, true, ◌&&◌, ℤ, pos, ◌*ℤ◌, List, [], ◌∷◌, length, Option, Some, None, refl, sym, ap, ◌∙◌, subst, arith, rules}
 use Rattle.std.proofs.Math.IntN.{pos-*ℤ-pos}
 use Rattle.std.specs.List.{list_all}
 use Rattle.std.specs.Ordering.{int_eq}
@@ -37,7 +37,7 @@ use Rattle.fort_laws.specs.Frame.{IsSoundUnit}
 use Rattle.fort_laws.specs.Matches.{AllTrue}
 use Rattle.fort_laws.proofs.CallEntry.{all_contents}
 use Rattle.fort_laws.proofs.CallNames.{data_name_is}
-use Rattle.fort_laws.proofs.FrameSeats.{found}
+use Rattle.fort_laws.proofs.Small.{both_hold}
 use Rattle.fort_laws.proofs.StorageLaws.{length-contents}
 
 int_eq_same : (n : ℕ) → int_eq (pos n) (pos n) ≡ true
@@ -54,9 +54,6 @@ module _ (fs : List Function) (values : Symbol → Value) (p : Processor) (least
   cell_sorted Integer c h = (λ k. is_cell (is_integer_cell (value.num (least k)) (value.num (greatest k))) (of_cell c)) ∙ (as_one (is_integer_cell p.least p.greatest) c ∙ h)
   cell_sorted Logical c h = as_one is_logical_cell c ∙ h
 
-  both_hold : (a b : Bool) → a ≡ true → b ≡ true → (a && b) ≡ true
-  both_hold a b x y = ap (λ (z : Bool). z && b) x ∙ y
-
   are_sorted : (test : Cell → Bool) (cs : List Cell) (n : Value) → value.num n ≡ pos (length cs) → list_all test cs ≡ true → are_cells test (value.num n) (Cells cs) ≡ true
   are_sorted test cs n e h = both_hold (int_eq (pos (length cs)) (value.num n)) (list_all test cs) (ap (int_eq (pos (length cs))) e ∙ int_eq_same (length cs)) h
 
@@ -64,17 +61,10 @@ module _ (fs : List Function) (values : Symbol → Value) (p : Processor) (least
   cells_sorted Integer cs n e h = (λ k. are_cells (is_integer_cell (value.num (least k)) (value.num (greatest k))) (value.num n) (Cells cs)) ∙ are_sorted (is_integer_cell p.least p.greatest) cs n e h
   cells_sorted Logical cs n e h = are_sorted is_logical_cell cs n e h
 
-  module _ (units : List Routine) (i : ℕ) (u : Routine) (sound : IsSoundUnit units i u) (env : Environment) (st : Storage) (now : NamedBy Value)
-      (named : (d : DataName) → IsAmong d u.names → now d.name ≡ held_in d.dims st (env d.name)) where
+  module _ (units : List Routine) (i : ℕ) (u : Routine) (sound : IsSoundUnit units i u) (env : Environment) (st : Storage) (now : NamedBy Value) where
     -- adjustable dimensions stand for their cells
-    abbrev DimsStand : List Dim → Type 0
+    abbrev pub DimsStand : List Dim → Type 0
     DimsStand ds = (x : Name) → IsAmong (Adjustable x) ds → now x ≡ of_cell (load st (env x).first)
-
-    dims_stand : (d : DataName) → IsAmong d u.names → DimsStand d.dims
-    dims_stand d m x k =
-        let a = sound.adjustables d x m k in
-        subst (λ (z : Name). now z ≡ of_cell (load st (env z).first)) a.has.name
-        (subst (λ (ds : List Dim). now a.has.its.name ≡ held_in ds st (env a.has.its.name)) a.is_scalar (named a.has.its a.has.among))
 
     dim_is : (d : Dim) (ds : List Dim) → DimsStand (d ∷ ds) → value.num (walk.dim (of_values fs values) now d) ≡ run.dim_value env st d
     dim_is (Fixed n) ds h = refl
@@ -120,7 +110,7 @@ module _ (fs : List Function) (values : Symbol → Value) (p : Processor) (least
         times_one : (z : ℤ) → pos 1 *ℤ z ≡ z
         times_one z = search rules
 
-    size_is : (ds : List Dim) → DimsStand ds → value.num (walk.size (of_values fs values) now ds) ≡ run.stretch (dim_values env st ds)
+    pub size_is : (ds : List Dim) → DimsStand ds → value.num (walk.size (of_values fs values) now ds) ≡ run.stretch (dim_values env st ds)
     size_is ds h = by_size (fixed_size ds) refl
       where
         by_size : (o : Option ℕ) → fixed_size ds ≡ o → value.num (walk.size_or (of_values fs values) (fixed_size ds) (walk.stretch (of_values fs values) now ds)) ≡ run.stretch (dim_values env st ds)
@@ -131,7 +121,13 @@ module _ (fs : List Function) (values : Symbol → Value) (p : Processor) (least
 
     -- ---- the types of names
 
-    module _ (sorted : (d : DataName) → IsAmong d u.names → HoldsName p env st d) (sizes : (d : DataName) → IsAmong d u.names → (1 ≤ (env d.name).size) × (pos (env d.name).size ≡ run.stretch (dim_values env st d.dims))) where
+    module _ (named : (d : DataName) → IsAmong d u.names → now d.name ≡ held_in d.dims st (env d.name)) (sorted : (d : DataName) → IsAmong d u.names → HoldsName p env st d) (sizes : (d : DataName) → IsAmong d u.names → (1 ≤ (env d.name).size) × (pos (env d.name).size ≡ run.stretch (dim_values env st d.dims))) where
+      dims_stand : (d : DataName) → IsAmong d u.names → DimsStand d.dims
+      dims_stand d m x k =
+          let a = sound.adjustables d x m k in
+          subst (λ (z : Name). now z ≡ of_cell (load st (env z).first)) a.has.name
+          (subst (λ (ds : List Dim). now a.has.its.name ≡ held_in ds st (env a.has.its.name)) a.is_scalar (named a.has.its a.has.among))
+
       data_sorted : (d : DataName) → IsAmong d u.names → (ds : List Dim) → d.dims ≡ ds → holds (walk.sort_by (of_values fs values) now ds d.sort (now d.name)) ≡ true
       data_sorted d m [] e =
           let z : (env d.name).first + 0 ≡ (env d.name).first = omega arith in

@@ -1,5 +1,5 @@
 -- Where named values stand for cells, names have their shapes and hold things of their types.
-use Rattle.std.proofs.Common.{◌≡◌, ℕ, ◌+◌, ◌<◌, ◌≤◌, true, pos, List, refl, arith}
+use Rattle.std.proofs.Common.{◌≡◌, ℕ, ◌+◌, ◌≤◌, pos, List, refl}
 use Rattle.formula.specs.declared.value.Value.{Value}
 use Rattle.formula.specs.declared.value.Value.TheVariants.{Int}
 use Rattle.formula.specs.Worth.{Function}

@@ -2,8 +2,8 @@
 use Rattle.std.proofs.Common.{◌≡◌, ℕ, suc, ◌+◌, Bool, true, false, cond, not, ◌&&◌, ◌||◌, List, [], ◌∷◌, ◌++◌, length, Option, Some, None, is_some, slice_get, refl, sym, ap, ◌∙◌, subst, arith}
 use Rattle.std.specs.List.{list_all}
 use Rattle.std.specs.Cmp.Lexicographic.{same_text}
-use Rattle.fort_syntax.specs.Scopes.{is_among, has_twin, is_name}
-use Rattle.fort_syntax.specs.WellFormed.{IsWellFormedUnit, AreWellFormedUnits, names_of_unit, commons_of_unit, own_value_of_unit, agree_on_blocks}
+use Rattle.fort_syntax.specs.Scopes.{is_among, has_twin, is_name, is_given_dims}
+use Rattle.fort_syntax.specs.WellFormed.{IsWellFormedUnit, dims_among, AreWellFormedUnits, names_of_unit, commons_of_unit, own_value_of_unit, agree_on_blocks}
 use Rattle.fort_syntax.specs.TreePatterns as syntax
 use Rattle.fort_syntax.specs.declared.dialect.Dialect.{Dialect}
 use Rattle.fort_syntax.specs.declared.dialect.Sort.{Sort}
@@ -30,7 +30,7 @@ use Rattle.fort_laws.proofs.DeclaredNames.{IsNamed, among_named, has_own_name, o
 use Rattle.fort_laws.proofs.DeclaredTypes as types
 use Rattle.fort_laws.proofs.DeclaredUnits as unit
 use Rattle.fort_laws.proofs.DeclaredTypes.{AreReferred}
-use Rattle.fort_laws.proofs.DeclaredUses.{Each, each_of, IsRightLine, right_line}
+use Rattle.fort_laws.proofs.DeclaredUses.{Each, each_of, IsRightLine, right_line, own_is_scalar}
 use Rattle.fort_laws.proofs.FrameEnter.{SameOrNot, same, other, same_or_not}
 use Rattle.fort_laws.proofs.FrameSeats.{clash, same_self}
 use Rattle.fort_laws.proofs.RulesKept.{card_found, fits_at, is_false, neither, none_passes, not_not, split, unbroken}
@@ -176,12 +176,21 @@ module _ (dialect : Dialect) (u : Routine) (w : IsWellFormedUnit dialect u) wher
       not_held : (xs : List Name) → (is_among d.its.name xs ≡ true → is_among d.its.name (u.dummies ++ commons_of_unit u) ≡ true) → is_among d.its.name xs ≡ false
       not_held xs on = is_false (is_among d.its.name xs) (λ t. clash (is_among u.name (u.dummies ++ commons_of_unit u)) (ap (λ x. is_among x (u.dummies ++ commons_of_unit u)) (sym d.name) ∙ on t) own_name_held)
 
+  own_value : (d : DataName) → IsAmong d u.names → d.role ≡ OwnValue → (d.name ≡ u.name) × (u.sort ≡ Some d.sort) × (d.dims ≡ [])
+  own_value d m r =
+      let own = own_alone u.sort d.name (unit.is_own_value dialect u w d m r) in
+      let e : IsNamed u.names d.name = unit.has_data dialect u w d.name (has_own_name u.names d m) in
+      let same_one : e.its ≡ d = one_data_name u.names e.its d (unit.no_twins dialect u w) e.among m e.name in
+      let scalar : is_given_dims (dims_among u.names d.name) ≡ false = ap (λ x. is_given_dims (dims_among u.names x)) own.0 ∙ (own_is_scalar dialect u w own.1).1 in
+      (own.0, types.same_type_as d.sort u.sort (unit.own_type dialect u w d m r),
+      unit.no_dims d.dims (ap (λ (z : DataName). is_given_dims z.dims) (sym same_one) ∙ (ap is_given_dims (sym e.dims) ∙ scalar)))
+
   pub names_are_held : HasNames u
   names_are_held = record {
     dummies = λ n x e.
         decks.has_name dialect u w x
         (let d : IsNamed u.names x = unit.dummy_data dialect u w x (among_named u.dummies x (n, e)) in ap (λ y. is_among y (names_of_unit u)) (sym d.name) ∙ has_own_name u.names d.its d.among);
-    own = λ d m r. own_alone u.sort d.name (unit.is_own_value dialect u w d m r);
+    own = own_value;
     function = function_value;
     common = λ d m r e.
         clash (is_among u.name (u.dummies ++ commons_of_unit u))

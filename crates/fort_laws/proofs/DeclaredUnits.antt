@@ -29,7 +29,7 @@ use Rattle.fort_laws.proofs.DeclaredNames.{IsNamed, named, named_among, among_na
 use Rattle.fort_laws.proofs.FrameSeats.{clash}
 use Rattle.fort_laws.proofs.Near.{known}
 use Rattle.fort_laws.proofs.RulesKept.{neither, none_passes, split}
-use Rattle.fort_laws.proofs.Tests.{all_among, among_given, not_so, one_item}
+use Rattle.fort_laws.proofs.Tests.{all_among, among_given, not_so, one_holds, one_item}
 
 -- ---- roles
 
@@ -157,6 +157,9 @@ module _ (dialect : Dialect) (u : Routine) (w : IsWellFormedUnit dialect u) wher
 
   pub is_own_value : (d : DataName) → IsAmong d u.names → d.role ≡ OwnValue → is_among d.name (own_value_of_unit u) ≡ true
   is_own_value d m r = by_own (is_among d.name u.dummies) (is_among d.name (commons_of_unit u)) (is_among d.name (own_value_of_unit u)) (sym (right_role d m).0 ∙ r)
+
+  pub own_type : (d : DataName) → IsAmong d u.names → d.role ≡ OwnValue → same_option (Some d.sort) u.sort ≡ true
+  own_type d m r = one_holds (not (same_role d.role OwnValue)) _ (right_role d m).1 (ap (λ (z : Role). not (same_role z OwnValue)) r)
 
   pub own_role : (d : DataName) → IsAmong d u.names → is_among d.name u.dummies ≡ false → is_among d.name (commons_of_unit u) ≡ false → is_among d.name (own_value_of_unit u) ≡ true → d.role ≡ OwnValue
   own_role d m a b c = (right_role d m).0 ∙ no_other (is_among d.name u.dummies) (is_among d.name (commons_of_unit u)) (is_among d.name (own_value_of_unit u)) a b c

@@ -1,11 +1,12 @@
 -- The statements of a well-formed unit: their forms, and that the names that they set or pass are data names.
-use Rattle.std.proofs.Common.{◌≡◌, ℕ, zero, suc, ◌⊎◌, inl, inr, true, false, not, ◌&&◌, List, [], ◌∷◌, ◌++◌, flat_map, length, Option, Some, slice_get, refl, sym, ap, ◌∙◌, subst}
+use Rattle.std.proofs.Common.{◌≡◌, ℕ, zero, suc, ◌⊎◌, inl, inr, true, false, not, ◌&&◌, List, [], ◌∷◌, ◌++◌, flat_map, length, Option, Some, is_some, slice_get, refl, sym, ap, ◌∙◌, subst}
+use Rattle.std.specs.Cmp.Lexicographic.{same_text}
 use mathlib.Core.Former.{Count}
-use Rattle.fort_syntax.specs.Scopes.{is_among, is_given_dims}
+use Rattle.fort_syntax.specs.Scopes.{is_among, is_given_dims, is_array}
 use Rattle.fort_syntax.specs.TypeRules.{is_well_typed}
 use Rattle.fort_syntax.specs.Units.{class_of, is_performing}
 use Rattle.fort_syntax.specs.TreePatterns as syntax
-use Rattle.fort_syntax.specs.UseRules.{is_misused}
+use Rattle.fort_syntax.specs.UseRules.{is_misused, is_assigned}
 use Rattle.fort_syntax.specs.Uses.{Use, Occurrence, occurrence, read, assigned, assigned_element, counted, applied as before_bracket, argument_of, actual, called, uses_in, uses_in_row, uses_on_left, uses_of}
 use Rattle.fort_syntax.specs.WellFormed.{IsWellFormedUnit, names_of_unit, scope_of_unit, is_known, is_left_side, may_be_carried, has_right_form, is_right_statement}
 use Rattle.fort_syntax.specs.declared.dialect.Dialect.{Dialect}
@@ -19,14 +20,15 @@ use Rattle.fort_syntax.specs.declared.unit.Line.{Line}
 use Rattle.fort_syntax.specs.declared.unit.Unit.{Unit as Routine}
 use Rattle.fort_model.specs.Calls.{CallSite, listed, own_site, sites_in, sites_in_row, sites_of}
 use Rattle.fort_model.specs.Lists.{IsAmong}
-use Rattle.fort_model.specs.Names.{Intrinsic, Applied, Element, BuiltIn, Reference, intrinsic, applied_by, applied, dims_of}
+use Rattle.fort_model.specs.Names.{Intrinsic, Applied, Element, BuiltIn, Reference, intrinsic, applied_by, applied, dims_of, same_name}
 use Rattle.fort_model.specs.Smashes.{set_name, set_by}
 use Rattle.fort_model.specs.Trees.{only, carried, row_of}
 use Rattle.fort_laws.proofs.DeclaredNames.{same_dims_told, named_data}
 use Rattle.fort_laws.proofs.Kept.{among_left, among_right, listed_row}
 use Rattle.fort_laws.proofs.References.{among_either}
 use Rattle.fort_laws.proofs.RulesKept.{split}
-use Rattle.fort_laws.proofs.Tests.{all_among, not_so, one_item}
+use Rattle.fort_laws.proofs.Small.{some_passes}
+use Rattle.fort_laws.proofs.Tests.{among_given, one_holds, all_among, not_so, one_item}
 
 -- each of some uses of names is right
 abbrev pub AreRight : Routine → List Occurrence → Type 0
@@ -248,3 +250,24 @@ pass_data u =
     each_of u (PassesData u)
     (λ f m args e k h n x a. (h (occurrence x (argument_of f)) (bare_in_row (argument_of f) args n x a)).0)
     (λ f args k h n x a. (h (occurrence x actual) (bare_in_row actual (row_of args) n x (ap (λ es. slice_get es n) (listed_row args) ∙ a))).0)
+
+-- ---- the value of a FUNCTION
+
+assigned_scalar : (u : Routine) (x : Name) (how : Use) → is_assigned how ≡ true → (is_known u x how ≡ true) × (is_misused (scope_of_unit u) x how ≡ false)
+    → (is_among x (names_of_unit u) ≡ true) × (is_array (scope_of_unit u) x ≡ false)
+assigned_scalar u x assigned h r = r
+assigned_scalar u x read h r = absurd (cc)
+assigned_scalar u x (assigned_element n) h r = absurd (cc)
+assigned_scalar u x counted h r = absurd (cc)
+assigned_scalar u x (before_bracket n) h r = absurd (cc)
+assigned_scalar u x (argument_of f) h r = absurd (cc)
+assigned_scalar u x actual h r = absurd (cc)
+assigned_scalar u x called h r = absurd (cc)
+
+pub own_is_scalar : (dialect : Dialect) (u : Routine) → IsWellFormedUnit dialect u → is_some u.sort ≡ true → (is_among u.name (names_of_unit u) ≡ true) × (is_array (scope_of_unit u) u.name ≡ false)
+own_is_scalar dialect u w f =
+    let some = some_passes (λ o. same_name o.name u.name && is_assigned o.«use») (flat_map (λ line. uses_of line.stmt) u.lines) (one_holds (not (is_some u.sort)) _ w.result (ap not f)) in
+    let b = split (same_name (some.0).name u.name) (is_assigned (some.0).«use») some.2 in
+    let from = among_given (λ line. uses_of line.stmt) u.lines some.0 some.1 in
+    let right = (right_line dialect u w from.0 from.1).uses some.0 from.2 in
+    subst (λ x. (is_among x (names_of_unit u) ≡ true) × (is_array (scope_of_unit u) x ≡ false)) (same_text (some.0).name u.name (sym b.0)) (assigned_scalar u (some.0).name (some.0).«use» b.1 right)

@@ -2,15 +2,14 @@
 use Rattle.std.proofs.Common.{◌≡◌, ℕ, zero, suc, Bool, List, [], ◌∷◌, ◌++◌, map, Option, Some, None, slice_get, cond, true, false, rules, refl, sym, ap, ◌∙◌, subst}
 use Rattle.std.specs.Prelude.{◌==◌}
 use Rattle.formula.specs.declared.value.Value.{Value}
-use Rattle.formula.specs.Tree.{Tree, num, truth, symbol, old, apply, Row, none, more}
-use Rattle.formula.specs.Values.{applied}
-use Rattle.formula.specs.Worth.{Function, used, worth_by, worths_by, function_worth}
+use Rattle.formula.specs.Tree.{Tree}
+use Rattle.formula.specs.Worth.{Function}
 use Rattle.fort_syntax.specs.declared.name.Name.{Name}
 use Rattle.fort_syntax.specs.declared.condition.Kind.{Kind}
 use Rattle.fort_syntax.specs.declared.unit.Line.{Line}
 use Rattle.fort_syntax.specs.declared.unit.Unit.{Unit as Routine}
 use Rattle.fort_model.specs.Evaluate.{Scene}
-use Rattle.fort_model.specs.Events.{Event, Check, Take, checks, takes}
+use Rattle.fort_model.specs.Events.{Event, checks, takes}
 use Rattle.fort_model.specs.Paths.{AtAssert, cut_in, cut_at, IsWay, starts_at}
 use Rattle.fort_model.specs.Program.{Program, Assertion, notes_of, is_smashed, assertion_in, assertion_at}
 use Rattle.fort_model.specs.Seen.{Named, Answers, symbols_of_calls}
@@ -23,7 +22,7 @@ use Rattle.fort_laws.specs.FewSymbols.{WalksReadFewSymbols, PathsAreSafe, PathsM
 use Rattle.fort_laws.specs.WholeRuns.{clock_of, IsTrueAt}
 use Rattle.fort_laws.specs.Matches.{AllTrue}
 use Rattle.fort_laws.specs.Segments.{NoCheckFails, seen, KeepsUnsmashed}
-use Rattle.fort_laws.proofs.BothSenses.{Pairwise, pairwise_map, Correspond, EventsAlike, note_alike}
+use Rattle.fort_laws.proofs.BothSenses.{pairwise_map, Correspond, note_alike}
 use Rattle.fort_laws.proofs.BothParts.{sorts_alike}
 use Rattle.fort_laws.proofs.Matching.{all_true_append}
 use Rattle.fort_laws.proofs.Descents.{true_left, true_right, safe_runs_end}

@@ -1,6 +1,5 @@
 -- What is claimed of runs to a depth, and of the calls that they make.
-use Rattle.std.proofs.Common.{◌≡◌, ℕ, ◌+◌, ◌≤◌, Bool, List, Some, slice_get}
-use Rattle.fort_syntax.specs.declared.name.Name.{Name}
+use Rattle.std.proofs.Common.{◌≡◌, ℕ, Bool, List, Some, slice_get}
 use Rattle.fort_syntax.specs.declared.unit.DataName.{DataName}
 use Rattle.fort_syntax.specs.declared.unit.Line.{Line}
 use Rattle.fort_syntax.specs.declared.unit.Unit.{Unit as Routine}
@@ -11,7 +10,7 @@ use Rattle.fort_model.specs.Names.{unit_at}
 use Rattle.fort_model.specs.Passing.{Taken, passed, call}
 use Rattle.fort_model.specs.Processor.{Processor}
 use Rattle.fort_model.specs.Run.{run_within}
-use Rattle.fort_model.specs.Storage.{Storage, Extent, Environment}
+use Rattle.fort_model.specs.Storage.{Storage, Environment}
 use Rattle.fort_laws.specs.Actuals.{IsPart, AreTakenAs}
 use Rattle.fort_laws.specs.Frame.{IsPlaced, IsSmashedCell, Changes}
 use Rattle.fort_laws.proofs.FrameParts.{IsOpen}

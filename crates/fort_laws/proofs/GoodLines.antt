@@ -48,7 +48,7 @@ use Rattle.fort_laws.proofs.DeclaredNames.{IsNamed, same_dims_told, named_data, 
 use Rattle.fort_laws.proofs.DeclaredTypes as types
 use Rattle.fort_laws.proofs.DeclaredTypes.{AreReferred, AreFit, fit_left, fit_right}
 use Rattle.fort_laws.proofs.DeclaredUnits as unit
-use Rattle.fort_laws.proofs.DeclaredUses.{AreRight, right_left, right_right, right_behind, right_first, IsRightLine, right_line, row_uses}
+use Rattle.fort_laws.proofs.DeclaredUses.{AreRight, right_left, right_right, right_behind, right_first, IsRightLine, right_line, row_uses, own_is_scalar}
 use Rattle.fort_laws.proofs.FrameSeats.{clash, same_is}
 use Rattle.fort_laws.proofs.Kept.{among_right}
 use Rattle.fort_laws.proofs.RulesKept.{is_false, none_passes, not_both, not_not, passes_any, split}
@@ -272,17 +272,6 @@ module _ (dialect : Dialect) (p : Program) (i : ℕ) (u : Routine) (is : slice_g
 
   -- ---- the value of a FUNCTION
 
-  assigned_scalar : (x : Name) (how : Use) → is_assigned how ≡ true → (is_known u x how ≡ true) × (is_misused scope x how ≡ false)
-      → (is_among x (names_of_unit u) ≡ true) × (is_array scope x ≡ false)
-  assigned_scalar x assigned h r = r
-  assigned_scalar x read h r = absurd (cc)
-  assigned_scalar x (assigned_element n) h r = absurd (cc)
-  assigned_scalar x counted h r = absurd (cc)
-  assigned_scalar x (before_bracket n) h r = absurd (cc)
-  assigned_scalar x (argument_of f) h r = absurd (cc)
-  assigned_scalar x actual h r = absurd (cc)
-  assigned_scalar x called h r = absurd (cc)
-
   scalar_by_name : (x : Name) → (is_among x (names_of_unit u) ≡ true) × (is_array scope x ≡ false) → (q : Sort) × IsScalar u q x
   scalar_by_name x h = let d : IsNamed u.names x = unit.has_data dialect u w x h.0 in (d.its.sort, types.scalar_of dialect u w d.its.sort x h.0 h.1 (d.sort u.functions))
 
@@ -292,12 +281,7 @@ module _ (dialect : Dialect) (p : Program) (i : ℕ) (u : Routine) (is : slice_g
       where
         by_kind : (t : Bool) → is_function u ≡ t → HasResult u env IsReference IsCall t
         by_kind false e = tt
-        by_kind true e =
-            let some = some_passes (λ o. same_name o.name u.name && is_assigned o.«use») (flat_map (λ line. uses_of line.stmt) u.lines) (one_holds (not (is_some u.sort)) _ w.result (ap not e)) in
-            let b = split (same_name (some.0).name u.name) (is_assigned (some.0).«use») some.2 in
-            let from = among_given (λ line. uses_of line.stmt) u.lines some.0 some.1 in
-            let right = (fit_line from.0 from.1).uses some.0 from.2 in
-            subst (λ x. (q : Sort) × IsScalar u q x) (same_text (some.0).name u.name (sym b.0)) (scalar_by_name (some.0).name (assigned_scalar (some.0).name (some.0).«use» b.1 right))
+        by_kind true e = scalar_by_name u.name (own_is_scalar dialect u w e)
 
     -- ---- assignments
 

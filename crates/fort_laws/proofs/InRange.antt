@@ -1,30 +1,21 @@
 -- Integers of a processor.
-use Rattle.std.proofs.Common.{◌≡◌, ℕ, zero, suc, ◌+◌, ◌%◌, ◌≤◌, Bool, true, false, ◌&&◌, ℤ, pos, negsuc, ◌+ℤ◌, ◌-ℤ◌, ◌*ℤ◌, ◌≤ℤ◌, neg_ℤ, List, [], ◌∷◌, refl, sym, ap, ◌∙◌, subst, arith}
+use Rattle.std.proofs.Common.{◌≡◌, ℕ, suc, ◌%◌, ◌≤◌, Bool, true, false, ◌&&◌, ℤ, pos, negsuc, ◌+ℤ◌, ◌-ℤ◌, ◌*ℤ◌, ◌≤ℤ◌, neg_ℤ, refl, ap, ◌∙◌, arith}
 use Rattle.std.proofs.lemmas.Bool.Decides.{nat_tests}
 use Rattle.std.proofs.lemmas.Int.{ints, quot-rem}
 use Rattle.std.specs.Prelude.{nat_lt, int_le, int_lt, int_div, int_rem, nat_abs, if◌then◌else◌}
 use lib.Signed.{mag_rem}
 use Rattle.formula.specs.Values as value
 use Rattle.formula.specs.Values.{is_between}
-use Rattle.formula.specs.declared.value.Cell.{Cell}
-use Rattle.fort_model.specs.Evaluate as run
-use Rattle.fort_model.specs.Cells.{num}
 use Rattle.fort_model.specs.Processor.{Processor, MeetsBound}
+use Rattle.fort_laws.proofs.Small.{both_hold, both_parts}
 
-at_most : (a b : ℤ) → a ≤ℤ b → int_le a b ≡ true
+pub at_most : (a b : ℤ) → a ≤ℤ b → int_le a b ≡ true
 at_most a b h = grind (arith, ints)
-
-both : (a b : Bool) → a ≡ true → b ≡ true → (a && b) ≡ true
-both a b x y = ap (λ (z : Bool). z && b) x ∙ y
-
-parts : (a b : Bool) → (a && b) ≡ true → (a ≡ true) × (b ≡ true)
-parts true b e = (refl, e)
-parts false b e = absurd (cc)
 
 module _ (p : Processor) (bound : ℕ) (meets : MeetsBound p bound) where
   -- all integers up to the bound
   pub up_to_bound : (n : ℕ) → nat_lt bound n ≡ false → is_between p.least p.greatest (pos n) ≡ true
-  up_to_bound n h = both (int_le p.least (pos n)) (int_le (pos n) p.greatest) (low (neg_ℤ (pos bound)) meets.0) (high h meets.1)
+  up_to_bound n h = both_hold (int_le p.least (pos n)) (int_le (pos n) p.greatest) (low (neg_ℤ (pos bound)) meets.0) (high h meets.1)
     where
       low : (z : ℤ) → p.least ≤ℤ neg_ℤ (pos bound) → int_le p.least (pos n) ≡ true
       low z a = grind (arith, ints)
@@ -41,9 +32,9 @@ module _ (p : Processor) (bound : ℕ) (meets : MeetsBound p bound) where
 -- a number between zero and one in range
 between_zero : (l h : ℤ) (r n : ℕ) → r ≤ n → is_between l h (pos 0) ≡ true → is_between l h (pos n) ≡ true → is_between l h (pos r) ≡ true
 between_zero l h r n le z b =
-    let x = parts (int_le l (pos 0)) (int_le (pos 0) h) z in
-    let y = parts (int_le l (pos n)) (int_le (pos n) h) b in
-    both (int_le l (pos r)) (int_le (pos r) h) (low x.0) (high y.1)
+    let x = both_parts (int_le l (pos 0)) (int_le (pos 0) h) z in
+    let y = both_parts (int_le l (pos n)) (int_le (pos n) h) b in
+    both_hold (int_le l (pos r)) (int_le (pos r) h) (low x.0) (high y.1)
   where
     low : int_le l (pos 0) ≡ true → int_le l (pos r) ≡ true
     low a = grind (arith, ints)
@@ -53,9 +44,9 @@ between_zero l h r n le z b =
 
 between_below : (l h : ℤ) (r n : ℕ) → r ≤ n → is_between l h (pos 0) ≡ true → is_between l h (neg_ℤ (pos n)) ≡ true → is_between l h (neg_ℤ (pos r)) ≡ true
 between_below l h r n le z b =
-    let x = parts (int_le l (pos 0)) (int_le (pos 0) h) z in
-    let y = parts (int_le l (neg_ℤ (pos n))) (int_le (neg_ℤ (pos n)) h) b in
-    both (int_le l (neg_ℤ (pos r))) (int_le (neg_ℤ (pos r)) h) (low y.0) (high x.1)
+    let x = both_parts (int_le l (pos 0)) (int_le (pos 0) h) z in
+    let y = both_parts (int_le l (neg_ℤ (pos n))) (int_le (neg_ℤ (pos n)) h) b in
+    both_hold (int_le l (neg_ℤ (pos r))) (int_le (neg_ℤ (pos r)) h) (low y.0) (high x.1)
   where
     low : int_le l (neg_ℤ (pos n)) ≡ true → int_le l (neg_ℤ (pos r)) ≡ true
     low a = grind (arith, ints)
@@ -95,11 +86,11 @@ smaller_between l h a b x y = pick (int_lt b a) refl
 
 -- what is in range is not above the greatest
 pub below_greatest : (l h z : ℤ) → is_between l h z ≡ true → int_le z h ≡ true
-below_greatest l h z e = (parts (int_le l z) (int_le z h) e).1
+below_greatest l h z e = (both_parts (int_le l z) (int_le z h) e).1
 
 -- a natural number that is not above the greatest
 pub natural_between : (l h : ℤ) (n : ℕ) → is_between l h (pos 0) ≡ true → int_le (pos n) h ≡ true → is_between l h (pos n) ≡ true
-natural_between l h n z e = both (int_le l (pos n)) (int_le (pos n) h) (low (parts (int_le l (pos 0)) (int_le (pos 0) h) z).0) e
+natural_between l h n z e = both_hold (int_le l (pos n)) (int_le (pos n) h) (low (both_parts (int_le l (pos 0)) (int_le (pos 0) h) z).0) e
   where
     low : int_le l (pos 0) ≡ true → int_le l (pos n) ≡ true
     low a = grind (arith, ints)

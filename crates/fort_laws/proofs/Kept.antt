@@ -25,7 +25,7 @@ use Rattle.fort_model.specs.Sites.{calls_in}
 use Rattle.fort_model.specs.Flow.{target, Loop, loops_at, around}
 use Rattle.fort_model.specs.Calls.{CallSite, listed, own_site, sites_in, sites_in_row, sites_of, callee_of}
 use Rattle.fort_model.specs.Cells.{num, is_defined}
-use Rattle.fort_model.specs.Storage.{Storage, Extent, Environment, load, store}
+use Rattle.fort_model.specs.Storage.{Storage, Extent, load, store}
 use Rattle.fort_model.specs.Places.{dim_values, place}
 use Rattle.fort_model.specs.Processor.{Processor}
 use Rattle.fort_model.specs.Smashes.{set_name, set_by}

@@ -17,9 +17,11 @@ pub mod DeclaredTypes
 pub mod DeclaredUnits
 pub mod DeclaredUses
 pub mod Descents
+pub mod Entering
 pub mod Exact
 pub mod Falling
 pub mod FewSymbols
+pub mod FittingNotes
 pub mod FrameCalls
 pub mod FrameClaims
 pub mod FrameEnter
@@ -41,8 +43,10 @@ pub mod Near
 pub mod NoteRules
 pub mod PlaceBounds
 pub mod References
+pub mod RightUnits
 pub mod RulesKept
 pub mod SafeRuns
+pub mod SafeUnits
 pub mod SameValues
 pub mod Small
 pub mod SpelledSymbols

@@ -1,7 +1,7 @@
 -- Expressions as a whole: where named values stand for cells, a walk and a strict run evaluate them alike, or the run
 -- errs where the walk's first false check is.
 use Rattle.std.proofs.Common.{◌≡◌, ℕ, zero, suc, ◌+◌, ◌<◌, ◌≤◌, ◌⊎◌, inl, inr, Bool, true, false, cond, not, ◌&&◌, ◌||◌, ℤ, pos, ◌-ℤ◌, List, [], ◌∷◌, length, Some, refl, sym, ap, ◌∙◌, subst, arith}
-use Rattle.std.specs.Prelude.{nat_lt, pred, neg_ℤ, int_le}
+use Rattle.std.specs.Prelude.{nat_lt, pred, neg_ℤ}
 use mathlib.Core.Former.{Count}
 use Rattle.formula.specs.declared.function.BuiltIn.TheVariants as f
 use Rattle.formula.specs.declared.value.Cell.{Cell}

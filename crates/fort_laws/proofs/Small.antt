@@ -1,8 +1,15 @@
 -- Small laws of truth values and lists.
-use Rattle.std.proofs.Common.{◌≡◌, ℕ, zero, suc, Bool, true, false, cond, ◌||◌, List, [], ◌∷◌, map, Some, slice_get, refl, ap, ◌∙◌, subst, sym}
+use Rattle.std.proofs.Common.{◌≡◌, ℕ, zero, suc, Bool, true, false, cond, ◌&&◌, ◌||◌, List, [], ◌∷◌, map, Some, slice_get, refl, ap, ◌∙◌, subst, sym}
 use Rattle.std.specs.List.{filter, list_any}
 use Rattle.fort_model.specs.Lists.{IsAmong}
 use Rattle.fort_laws.proofs.Near.{known}
+
+pub both_parts : (a b : Bool) → (a && b) ≡ true → (a ≡ true) × (b ≡ true)
+both_parts true b e = (refl, e)
+both_parts false b e = absurd (cc)
+
+pub both_hold : (a b : Bool) → a ≡ true → b ≡ true → (a && b) ≡ true
+both_hold a b x y = ap (λ (z : Bool). z && b) x ∙ y
 
 -- what passes a filter stands in the list and passes the test
 pub filter_passes : {A : Type 0} (test : A → Bool) (xs : List A) (x : A) → IsAmong x (filter test xs) → IsAmong x xs × (test x ≡ true)

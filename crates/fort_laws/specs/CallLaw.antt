@@ -1,5 +1,5 @@
 -- The law of calls: a called unit that ends well makes the walk and the run of a call match.
-use Rattle.std.specs.Prelude.{ℕ, ◌+◌, ◌<◌, ◌≡◌, ◌≢◌, Bool, true, false, List, Some, slice_get}
+use Rattle.std.specs.Prelude.{ℕ, ◌+◌, ◌<◌, ◌≡◌, ◌≢◌, true, false, List, [], Some, slice_get}
 use Rattle.formula.specs.declared.value.Cell.{Cell}
 use Rattle.formula.specs.declared.value.Cell.TheVariants as cell
 use Rattle.formula.specs.declared.value.Value.{Value}
@@ -8,7 +8,7 @@ use Rattle.fort_syntax.specs.declared.name.Name.{Name}
 use Rattle.fort_syntax.specs.declared.dialect.Sort.{Sort}
 use Rattle.fort_syntax.specs.declared.expr.Expr.{Expr}
 use Rattle.fort_syntax.specs.declared.unit.DataName.{DataName}
-use Rattle.fort_syntax.specs.declared.unit.Role.TheVariants.{Dummy, InCommon, OwnValue}
+use Rattle.fort_syntax.specs.declared.unit.Role.TheVariants.{InCommon, OwnValue}
 use Rattle.fort_syntax.specs.declared.unit.Unit.{Unit as Routine}
 use Rattle.fort_model.specs.Arguments.{same_sort_as, sort_of_expr}
 use Rattle.fort_model.specs.Calls.{Calls, callee_of}
@@ -40,11 +40,11 @@ use Rattle.fort_laws.specs.Standing.{IsOf}
 
 -- ---- what is wanted of declarations
 
--- The names of a unit: dummies are data names; the own value of a FUNCTION, and no other name, has the unit's name, and no
--- COMMON entity has it.
+-- The names of a unit: dummies are data names; the own value of a FUNCTION is a scalar of its type with the unit's name, and no
+-- COMMON entity has that name.
 pub record HasNames (u : Routine) : Type 0 where
   pub dummies : (n : ℕ) (x : Name) → slice_get u.dummies n ≡ Some x → HasName u x
-  pub own : (d : DataName) → IsAmong d u.names → d.role ≡ OwnValue → (d.name ≡ u.name) × (is_function u ≡ true)
+  pub own : (d : DataName) → IsAmong d u.names → d.role ≡ OwnValue → (d.name ≡ u.name) × (u.sort ≡ Some d.sort) × (d.dims ≡ [])
   pub function : is_function u ≡ true → (d : DataName) × IsAmong d u.names × (d.name ≡ u.name) × (d.role ≡ OwnValue)
   pub common : (d : DataName) → IsAmong d u.names → d.role ≡ InCommon → d.name ≢ u.name
 

@@ -1,5 +1,5 @@
 -- Which symbols a walk reads, and how conditions that hold give walks that do not fail.
-use Rattle.std.specs.Prelude.{ℕ, ◌≡◌, Bool, true, false, nat_lt, int_le, pos, List, Option, Some, slice_get}
+use Rattle.std.specs.Prelude.{ℕ, ◌≡◌, false, List, Option, Some, slice_get}
 use Rattle.formula.specs.declared.value.Value.{Value}
 use Rattle.formula.specs.Worth.{Function}
 use Rattle.fort_syntax.specs.declared.name.Name.{Name}
@@ -24,8 +24,6 @@ use Rattle.fort_laws.specs.WholeRuns.{IsSafeIn, AssertsAreSafe, BlocksAreCommon,
 use Rattle.fort_laws.specs.Ways.{IsCutUp}
 use Rattle.fort_model.specs.Run.{run}
 use Rattle.fort_model.specs.Smashes.{HoldsSmashed}
-use Rattle.fort_syntax.specs.declared.dialect.Sort.{Sort}
-use Rattle.fort_syntax.specs.declared.expr.Expr.{Expr}
 use Rattle.fort_syntax.specs.declared.unit.Line.{Line}
 use Rattle.formula.specs.declared.value.Value.TheVariants.{Int}
 

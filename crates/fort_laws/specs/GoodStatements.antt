@@ -1,6 +1,6 @@
 -- Statements whose parts have the types that their places demand, and which write only what may be written; and that walks and
 -- strict runs then perform them alike.
-use Rattle.std.specs.Prelude.{ℕ, ◌+◌, ◌≤◌, ◌≡◌, Bool, true, false, nat_lt, int_le, pos, List, [], ◌∷◌, length, Option, Some, None}
+use Rattle.std.specs.Prelude.{ℕ, ◌+◌, ◌≤◌, ◌≡◌, Bool, true, false, List, [], ◌∷◌, length, Option, Some, None}
 use mathlib.Core.Former.{Count}
 use Rattle.std.specs.List.{list_all}
 use Rattle.formula.specs.declared.value.Value.{Value}

@@ -1,16 +1,16 @@
 -- Runs from one cut point to the next, where no walk on can fail.
-use Rattle.std.specs.Prelude.{ℕ, ◌+◌, ◌≡◌, Bool, true, false, nat_lt, int_le, pos, List, [], Option, Some, slice_get}
+use Rattle.std.specs.Prelude.{ℕ, ◌+◌, ◌≡◌, true, false, List, [], Option, Some, slice_get}
 use Rattle.formula.specs.declared.value.Value.{Value}
 use Rattle.formula.specs.declared.value.Value.TheVariants.{Int}
+use Rattle.formula.specs.Values.{is_defined}
 use Rattle.formula.specs.Worth.{Function}
 use Rattle.fort_syntax.specs.declared.name.Name.{Name}
 use Rattle.fort_syntax.specs.declared.condition.Kind.{Kind}
-use Rattle.fort_syntax.specs.declared.dialect.Sort.{Sort}
-use Rattle.fort_syntax.specs.declared.expr.Expr.{Expr}
 use Rattle.fort_syntax.specs.declared.unit.Line.{Line}
 use Rattle.fort_model.specs.Conditions.{sight}
 use Rattle.fort_model.specs.Evaluate.{Scene}
 use Rattle.fort_model.specs.Events.{Event}
+use Rattle.fort_model.specs.Names.{is_function}
 use Rattle.fort_model.specs.Outcome.{Ended}
 use Rattle.fort_model.specs.Paths.{AtEnd, AtAssert, cut_at, IsWay}
 use Rattle.fort_model.specs.Processor.{MeetsBound}
@@ -27,7 +27,7 @@ use Rattle.fort_laws.specs.Called.{IsReferenceTo, IsCallTo}
 use Rattle.fort_laws.specs.GoodStatements.{Stood, HasScalarDims, ReferencesMatch, CallStatementsMatch, IsGood}
 use Rattle.fort_laws.specs.Matches.{AllTrue, FirstFails}
 use Rattle.fort_laws.specs.Unfolded.{run_from}
-use Rattle.fort_laws.specs.Ways.{IsCutUp}
+use Rattle.fort_laws.specs.Ways.{EndsByReturn, IsCutUp}
 
 -- the first false event of a walk, if there is one, is no check
 abbrev pub NoCheckFails : List (Event Value) → Type 0
@@ -51,11 +51,15 @@ module _ (fs : List Function) (values : Symbol → Value) (program : Program) (i
       (pc : ℕ) (line : Line) (now : Named Value) (answers : Answers Value) (cs : List ℕ) → slice_get s.unit.lines pc ≡ Some line
       → KeepsUnsmashed now → KeepsUnsmashed (performed seen line.card pc now line.stmt cs answers).value
 
+  -- where the end is led to by RETURNs alone, the value of a FUNCTION is defined
+  abbrev pub HasValue : Named Value → Type 0
+  HasValue now = EndsByReturn program.dialect s.unit → is_function s.unit ≡ true → is_defined (now s.unit.name) ≡ true
+
   -- A run from a point comes to the end of the unit, or to a point with an ASSERT, from which it goes on as if it began there. All checks
   -- of the arrival are true, and named values stand for cells.
   pub data Arrives (clock : Option (List Value)) (pc : ℕ) (st : Storage) : Type 0 where
     at_end : (now : Named Value) (after : Storage) (cost card : ℕ) → ((n : ℕ) → run_from s.processor s.units s.unit s.environment pc st (cost + n) ≡ Ended tt after n)
-        → Stood s.processor s.unit s.environment now after → KeepsUnsmashed now → AllTrue (arrive seen clock card AtEnd now []) → Arrives clock pc st
+        → Stood s.processor s.unit s.environment now after → KeepsUnsmashed now → AllTrue (arrive seen clock card AtEnd now []) → HasValue now → Arrives clock pc st
     at_assert : (a : Assertion) (q : ℕ) (now : Named Value) (after : Storage) (cost card : ℕ) → cut_at s.unit (notes_of program i) q ≡ AtAssert a
         → ((n : ℕ) → run_from s.processor s.units s.unit s.environment pc st (cost + n) ≡ run_from s.processor s.units s.unit s.environment q after n)
         → Stood s.processor s.unit s.environment now after → KeepsUnsmashed now → AllTrue (arrive seen clock card (AtAssert a) now []) → Arrives clock pc st

@@ -1,11 +1,9 @@
 -- Runs from a point to the end of a unit, over its ASSERTs.
-use Rattle.std.specs.Prelude.{ℕ, ◌+◌, ◌≡◌, Bool, true, false, nat_lt, int_le, pos, List, [], map, length, Some, None, slice_get}
+use Rattle.std.specs.Prelude.{ℕ, ◌+◌, ◌≡◌, true, false, List, [], map, length, Some, None, slice_get}
 use Rattle.formula.specs.declared.value.Value.{Value}
 use Rattle.formula.specs.declared.value.Value.TheVariants.{Int}
 use Rattle.formula.specs.Worth.{Function}
 use Rattle.fort_syntax.specs.declared.name.Name.{Name}
-use Rattle.fort_syntax.specs.declared.dialect.Sort.{Sort}
-use Rattle.fort_syntax.specs.declared.expr.Expr.{Expr}
 use Rattle.fort_syntax.specs.declared.unit.Line.{Line}
 use Rattle.fort_model.specs.Evaluate.{Scene}
 use Rattle.fort_model.specs.Outcome.{Ended}
@@ -24,7 +22,7 @@ use Rattle.fort_model.specs.Walk.{arrive, at_entry, walk_from}
 use Rattle.fort_laws.specs.Called.{IsReferenceTo, IsCallTo}
 use Rattle.fort_laws.specs.GoodStatements.{Stood, HasScalarDims, ReferencesMatch, CallStatementsMatch, IsGood}
 use Rattle.fort_laws.specs.Matches.{AllTrue}
-use Rattle.fort_laws.specs.Segments.{NoCheckFails, seen, IsSafe, KeepsUnsmashed, StatementsKeep}
+use Rattle.fort_laws.specs.Segments.{NoCheckFails, seen, IsSafe, KeepsUnsmashed, HasValue, StatementsKeep}
 use Rattle.fort_laws.specs.Unfolded.{run_from}
 use Rattle.fort_laws.specs.Ways.{IsCutUp}
 
@@ -63,6 +61,7 @@ module _ (fs : List Function) (values : Symbol → Value) (program : Program) (i
     pub stood : Stood s.processor s.unit s.environment now after
     pub kept : KeepsUnsmashed fs values program i s now
     pub met : AllTrue (arrive (seen fs values program i s) None card AtEnd now [])
+    pub value : (slice_get s.unit.lines pc ≡ None → ⊥) → HasValue fs values program i s now
 
 -- What `SafeRunsArrive` takes is taken; clocks of all ASSERTs have equally many parts, and no way from a true ASSERT fails. Then a run
 -- from a point from which no way fails comes to the end of the unit.

@@ -12,6 +12,7 @@ mod segments;
 mod statements;
 mod steps;
 mod symbols;
+mod units;
 mod ways;
 
 pub use calls::{calls_are_matched, unit_calls_match};
@@ -38,4 +39,5 @@ pub use steps::{
 pub use symbols::{
     paths_make_asserts_safe, paths_make_entries_safe, safe_paths_end, walks_read_few_symbols,
 };
+pub use units::{safe_units_are_right, safe_units_end, smashed_have_types};
 pub use ways::{statements_lead_on, ways_can_be_completed};
