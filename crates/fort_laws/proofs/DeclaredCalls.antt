@@ -181,9 +181,11 @@ module _ (dialect : Dialect) (u : Routine) (w : IsWellFormedUnit dialect u) wher
       let own = own_alone u.sort d.name (unit.is_own_value dialect u w d m r) in
       let e : IsNamed u.names d.name = unit.has_data dialect u w d.name (has_own_name u.names d m) in
       let same_one : e.its ≡ d = one_data_name u.names e.its d (unit.no_twins dialect u w) e.among m e.name in
-      let scalar : is_given_dims (dims_among u.names d.name) ≡ false = ap (λ x. is_given_dims (dims_among u.names x)) own.0 ∙ (own_is_scalar dialect u w own.1).1 in
-      (own.0, types.same_type_as d.sort u.sort (unit.own_type dialect u w d m r),
-      unit.no_dims d.dims (ap (λ (z : DataName). is_given_dims z.dims) (sym same_one) ∙ (ap is_given_dims (sym e.dims) ∙ scalar)))
+      let scalar : is_given_dims (dims_among u.names d.name) ≡ false = ap (λ x. is_given_dims (dims_among u.names x)) own.0 ∙ (own_is_scalar dialect u w own.1).1 in (
+        own.0,
+        types.same_type_as d.sort u.sort (unit.own_type dialect u w d m r),
+        unit.no_dims d.dims (ap (λ (z : DataName). is_given_dims z.dims) (sym same_one) ∙ (ap is_given_dims (sym e.dims) ∙ scalar)),
+      )
 
   pub names_are_held : HasNames u
   names_are_held = record {

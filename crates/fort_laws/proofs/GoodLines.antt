@@ -1,5 +1,5 @@
 -- Statements of a well-formed unit are good: they have the types that their places demand, and write only what may be written.
-use Rattle.std.proofs.Common.{◌≡◌, ℕ, suc, Bool, true, false, cond, not, ◌&&◌, ◌||◌, List, [], ◌∷◌, ◌++◌, flat_map, length, Option, Some, None, is_some, slice_get, nat_lt, refl, sym, ap, ◌∙◌, subst}
+use Rattle.std.proofs.Common.{◌≡◌, ℕ, suc, Bool, true, false, cond, not, ◌&&◌, ◌||◌, List, [], ◌∷◌, ◌++◌, flat_map, length, Option, Some, None, slice_get, nat_lt, refl, sym, ap, ◌∙◌, subst}
 use Rattle.std.specs.Prelude.{◌==◌}
 use Rattle.std.specs.List.{list_any, list_all}
 use Rattle.std.specs.Cmp.Lexicographic.{same_text}
@@ -7,9 +7,8 @@ use Rattle.fort_syntax.specs.Scopes.{Scope, is_among, is_given_dims, is_array, i
 use Rattle.fort_syntax.specs.TreePatterns as syntax
 use Rattle.fort_syntax.specs.TypeRules.{type_of, gives_logical, is_fit_param, is_fit_step, has_fit_places, has_fit_operands}
 use Rattle.fort_syntax.specs.Units.{class_of, is_performing}
-use Rattle.fort_syntax.specs.UseRules.{is_misused, is_assigned}
-use Rattle.fort_syntax.specs.Uses.{Use, occurrence, read, assigned, assigned_element, counted, applied as before_bracket, argument_of, actual, called, uses_in, uses_in_row, uses_on_left, uses_of_param, uses_of_step, uses_of, parts, parts_of_row, all_parts}
-use Rattle.fort_syntax.specs.WellFormed.{IsWellFormedUnit, names_of_unit, dims_among, scope_of_unit, is_known, is_left_side, is_given, may_be_carried, has_right_form}
+use Rattle.fort_syntax.specs.Uses.{occurrence, read, assigned, assigned_element, counted, actual, called, uses_in, uses_in_row, uses_on_left, uses_of_param, uses_of_step, uses_of, parts, parts_of_row, all_parts}
+use Rattle.fort_syntax.specs.WellFormed.{IsWellFormedUnit, names_of_unit, dims_among, scope_of_unit, is_left_side, is_given, may_be_carried, has_right_form}
 use Rattle.fort_syntax.specs.declared.dialect.Dialect.{Dialect}
 use Rattle.fort_syntax.specs.declared.dialect.Sort.{Sort}
 use Rattle.fort_syntax.specs.declared.dialect.Sort.TheVariants.{Integer, Logical}
@@ -52,8 +51,7 @@ use Rattle.fort_laws.proofs.DeclaredUses.{AreRight, right_left, right_right, rig
 use Rattle.fort_laws.proofs.FrameSeats.{clash, same_is}
 use Rattle.fort_laws.proofs.Kept.{among_right}
 use Rattle.fort_laws.proofs.RulesKept.{is_false, none_passes, not_both, not_not, passes_any, split}
-use Rattle.fort_laws.proofs.Small.{some_passes}
-use Rattle.fort_laws.proofs.Tests.{all_among, among_given, one_holds}
+use Rattle.fort_laws.proofs.Tests.{all_among}
 
 -- ---- forms
 

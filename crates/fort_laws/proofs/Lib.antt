@@ -1,3 +1,4 @@
+pub mod BlocksClose
 pub mod BothParts
 pub mod BothSenses
 pub mod BothWalks
@@ -22,6 +23,7 @@ pub mod Exact
 pub mod Falling
 pub mod FewSymbols
 pub mod FittingNotes
+pub mod FlowEnds
 pub mod FrameCalls
 pub mod FrameClaims
 pub mod FrameEnter

@@ -1,5 +1,5 @@
 -- What well-formed decks that keep the rules give: all that the laws of runs take of their units.
-use Rattle.std.specs.Prelude.{ℕ, ◌≡◌, ◌≤◌, List, Some, slice_get}
+use Rattle.std.specs.Prelude.{ℕ, ◌≡◌, ◌≤◌, List, Some, None, slice_get}
 use Rattle.formula.specs.declared.value.Value.{Value}
 use Rattle.formula.specs.Worth.{Function}
 use Rattle.fort_syntax.specs.WellFormed.{IsWellFormedUnit, IsWellFormed}
@@ -21,7 +21,7 @@ use Rattle.fort_laws.specs.CallLaw.{Agrees, HasNames, LieApart}
 use Rattle.fort_laws.specs.Called.{IsReferenceTo, IsCallTo}
 use Rattle.fort_laws.specs.Declared.{AreDeclared}
 use Rattle.fort_laws.specs.GoodStatements.{HasScalarDims, IsGood}
-use Rattle.fort_laws.specs.Ways.{IsCutUp}
+use Rattle.fort_laws.specs.Ways.{IsCutUp, EndsByReturn}
 use Rattle.fort_laws.specs.WholeRuns.{ClocksHave, BlocksAreCommon}
 
 -- ---- units
@@ -59,6 +59,12 @@ StatementsAreGood =
     (dialect : Dialect) (p : Program) (i : ℕ) (u : Routine) → slice_get p.units i ≡ Some u → IsWellFormedUnit dialect u → KeepsRules p → HoldsSmashed p
     → (env : Environment) → LieApart p.units i u env → (pc : ℕ) (line : Line) → slice_get u.lines pc ≡ Some line
     → IsGood u env (IsReferenceTo p i u) (IsCallTo p i u) pc line.stmt
+
+-- a well-formed unit of a program that keeps the rules has a statement, and RETURNs alone lead to its end
+abbrev pub EndsAreReturns : Type 0
+EndsAreReturns =
+    (dialect : Dialect) (p : Program) (i : ℕ) (u : Routine) → slice_get p.units i ≡ Some u → IsWellFormedUnit dialect u → KeepsRules p
+    → EndsByReturn p.dialect u × (slice_get u.lines 0 ≡ None → ⊥)
 
 -- ---- notes
 

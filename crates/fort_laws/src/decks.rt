@@ -4,6 +4,7 @@ ghost use Rattle.fort_laws.specs.GoodDecks.{
   CallsAgree,
   ClocksAreEqual,
   DimensionsAreScalars,
+  EndsAreReturns,
   StatementsAreGood,
   UnitsAreCutUp,
   WellFormedIsDeclared,
@@ -50,4 +51,10 @@ pub fn statements_are_good()
 /// are of, as the law of calls takes it. It does nothing.
 pub fn calls_agree()
     ensures { CallsAgree }
+{}
+
+/// In a well-formed unit of a program that keeps the rules RETURNs alone lead to the end, and there
+/// is a first statement. It does nothing.
+pub fn ends_are_returns()
+    ensures { EndsAreReturns }
 {}

@@ -18,8 +18,8 @@ mod ways;
 pub use calls::{calls_are_matched, unit_calls_match};
 pub use clocks::clocks_fall_only_so_often;
 pub use decks::{
-    blocks_are_common, calls_agree, clocks_are_equal, dimensions_are_scalars, statements_are_good,
-    units_are_cut_up, well_formed_is_declared,
+    blocks_are_common, calls_agree, clocks_are_equal, dimensions_are_scalars, ends_are_returns,
+    statements_are_good, units_are_cut_up, well_formed_is_declared,
 };
 pub use exactness::{
     checks_do_not_depend_on_values, conditions_are_exact, valid_conditions_make_paths_safe,
