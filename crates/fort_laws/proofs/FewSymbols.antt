@@ -96,11 +96,11 @@ taken_append (v ∷ vs) ws h k = (h.0, taken_append vs ws h.1 k)
 
 -- the ASSERT of a cut point
 pub record IsNumbered (asserts : List Assertion) (q : ℕ) (a : Assertion) : Type 0 where
-  number : ℕ
-  among : slice_get asserts number ≡ Some a
-  point : a.point ≡ q
+  pub number : ℕ
+  pub among : slice_get asserts number ≡ Some a
+  pub point : a.point ≡ q
 
-numbered : (asserts : List Assertion) (q : ℕ) (a : Assertion) → assertion_in asserts q ≡ Some a → IsNumbered asserts q a
+pub numbered : (asserts : List Assertion) (q : ℕ) (a : Assertion) → assertion_in asserts q ≡ Some a → IsNumbered asserts q a
 numbered [] q a h = absurd (cc)
 numbered (b ∷ rest) q a h = by_test (b.point == q) refl h (λ k. later (numbered rest q a k))
   where
@@ -120,7 +120,7 @@ numbered (b ∷ rest) q a h = by_test (b.point == q) refl h (λ k. later (number
     by_test true e k on = here (some_is k) e
     by_test false e k on = on k
 
-assert_is : (o : Option Line) (b : Option Assertion) (a : Assertion) → cut_in o b ≡ AtAssert a → b ≡ Some a
+pub assert_is : (o : Option Line) (b : Option Assertion) (a : Assertion) → cut_in o b ≡ AtAssert a → b ≡ Some a
 assert_is None b a h = absurd (cc)
 assert_is (Some line) None a h = absurd (cc)
 assert_is (Some line) (Some b) a h = ap Some (same_assert b a h)

@@ -34,8 +34,10 @@ pub mod MatchedTests
 pub mod Matching
 pub mod Near
 pub mod PlaceBounds
+pub mod Ranks
 pub mod References
 pub mod RightUnits
+pub mod RulesGive
 pub mod RulesKept
 pub mod SafeRuns
 pub mod SafeUnits
@@ -44,6 +46,7 @@ pub mod SameValues
 pub mod SpelledSymbols
 pub mod Stepping
 pub mod StorageLaws
+pub mod StrictPrograms
 pub mod Tied
 pub mod TiedParts
 pub mod TiedRuns

@@ -7,6 +7,7 @@ mod exactness;
 mod expressions;
 mod frames;
 mod places;
+mod programs;
 mod segments;
 mod statements;
 mod steps;
@@ -26,6 +27,7 @@ pub use frames::{
     runs_change_only_smashed, runs_without_smashing_change_nothing,
 };
 pub use places::elements_lie_in_arrays;
+pub use programs::strict_programs_are_correct;
 pub use segments::{safe_runs_arrive, safe_runs_end, statements_keep};
 pub use statements::statements_match;
 pub use steps::{
