@@ -1,0 +1,4 @@
+pub mod AscendingEntries
+pub mod Members
+pub mod Names
+pub mod Tests
