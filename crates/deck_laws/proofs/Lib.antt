@@ -1,4 +1,5 @@
 pub mod AscendingEntries
+pub mod Keeping
 pub mod Members
 pub mod Names
 pub mod Tests
