@@ -2,4 +2,5 @@ pub mod AscendingEntries
 pub mod Keeping
 pub mod Members
 pub mod Names
+pub mod SpelledNames
 pub mod Tests
