@@ -1,6 +1,8 @@
 pub mod AscendingEntries
+pub mod Given
 pub mod Keeping
 pub mod Members
+pub mod Named
 pub mod Names
 pub mod SpelledForms
 pub mod SpelledNames
