@@ -1,9 +1,11 @@
 pub mod AscendingEntries
+pub mod DataNames
 pub mod Given
 pub mod Keeping
 pub mod Members
 pub mod Named
 pub mod Names
+pub mod RuleFacts
 pub mod SpelledForms
 pub mod SpelledNames
 pub mod Tests
