@@ -6,6 +6,7 @@ pub mod Members
 pub mod Named
 pub mod Names
 pub mod RuleFacts
+pub mod SortsAgree
 pub mod SpelledForms
 pub mod SpelledNames
 pub mod Tests

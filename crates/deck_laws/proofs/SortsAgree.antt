@@ -1,0 +1,178 @@
+-- Two scopes with the same dimensions, which give the names of a statement the same types, judge it alike.
+use Rattle.std.proofs.Common.{◌≡◌, ◌⊎◌, inl, inr, ℕ, Bool, true, false, cond, List, [], ◌∷◌, ◌++◌, map, flat_map, Option, Some, None, refl, sym, ap, ◌∙◌, subst, rules}
+use Rattle.std.specs.Prelude.{◌&&◌, ◌||◌, not, ⊤}
+use Rattle.std.specs.List.{list_any, list_all}
+use mathlib.Core.Former.{Count}
+use Rattle.fort_syntax.specs.TreePatterns.{only, carried, listed}
+use Rattle.fort_syntax.specs.Scopes.{Scope, same_option, is_array, is_intrinsic, is_integer_scalar}
+use Rattle.fort_syntax.specs.Uses.{Use, read, assigned, assigned_element, counted, applied, argument_of, actual, called, Occurrence, uses_in, uses_in_row, uses_on_left, uses_of_param, uses_of_step, uses_of, parts, parts_of_row, expressions, all_parts}
+use Rattle.fort_syntax.specs.TypeRules.{type_applied, type_of, gives_integer, gives_logical, are_fit_arguments, has_fit_operands, is_fit_param, is_fit_step, has_fit_places, is_well_typed, is_scalar_name, is_constant, is_sum_or_difference, is_product, is_multiple, is_plain_subscript, has_plain_subscripts, all_plain_subscripts}
+use Rattle.fort_syntax.specs.UseRules.{is_bare, is_misused}
+use Rattle.fort_syntax.specs.declared.dialect.Sort.{Sort}
+use Rattle.fort_syntax.specs.declared.dialect.Sort.TheVariants.{Integer, Logical}
+use Rattle.fort_syntax.specs.declared.expr.Expr.{Expr, Row_of-Expr, end_of-Expr, more_of-Expr}
+use Rattle.fort_syntax.specs.declared.expr.Expr.TheVariants.{Const, Truth, Var, Apply', Paren', Pos', Neg', Power', Bin', Rel', Not', And', Or'}
+use Rattle.fort_syntax.specs.declared.name.Name.{Name}
+use Rattle.fort_syntax.specs.declared.stmt.Dim.{Dim}
+use Rattle.fort_syntax.specs.declared.stmt.Param.{Param}
+use Rattle.fort_syntax.specs.declared.stmt.Param.TheVariants as parameter
+use Rattle.fort_syntax.specs.declared.stmt.Stmt.{Stmt}
+use Rattle.fort_syntax.specs.declared.stmt.Stmt.TheVariants.{Subroutine, Function, Declare, Dimension, Common, Assign, GoTo, Computed, ArithIf, LogicalIf', Do, Continue, Call, Return, End, BlockIf, ElseIf, Else, EndIf}
+use Rattle.deck_laws.proofs.Members.{IsIn, here, there, in_left, in_right, in_flat}
+
+and_same : {a b c e : Bool} → a ≡ b → c ≡ e → (a && c) ≡ (b && e)
+and_same p q = λ i. p i && q i
+
+pub all_same : {A : Type 0} (p q : A → Bool) (xs : List A) → ((x : A) → p x ≡ q x) → list_all p xs ≡ list_all q xs
+all_same p q [] h = refl
+all_same p q (x ∷ xs) h = and_same (h x) (all_same p q xs h)
+
+and_assoc : (a b c : Bool) → (a && (b && c)) ≡ ((a && b) && c)
+and_assoc true b c = refl
+and_assoc false b c = refl
+
+all_joined : {A : Type 0} (p : A → Bool) (xs ys : List A) → list_all p (xs ++ ys) ≡ (list_all p xs && list_all p ys)
+all_joined p [] ys = refl
+all_joined p (x ∷ xs) ys = ap (λ b. p x && b) (all_joined p xs ys) ∙ and_assoc (p x) (list_all p xs) (list_all p ys)
+
+joined_same : {A : Type 0} (p q : A → Bool) (xs ys : List A) → list_all p xs ≡ list_all q xs → list_all p ys ≡ list_all q ys
+    → list_all p (xs ++ ys) ≡ list_all q (xs ++ ys)
+joined_same p q xs ys h k = all_joined p xs ys ∙ (and_same h k ∙ sym (all_joined q xs ys))
+
+module _ (a b : Name → Option Sort) (dims : Name → List Dim) where
+  abbrev pub one : Scope
+  one = record { sort = a; dims = dims }
+
+  abbrev pub other : Scope
+  other = record { sort = b; dims = dims }
+
+  -- ---- what does not depend on types
+
+  pub misused_same : (x : Name) (how : Use) → is_misused one x how ≡ is_misused other x how
+  misused_same x read = refl
+  misused_same x how = refl
+
+  scalar_same : (e : Expr) → is_scalar_name one e ≡ is_scalar_name other e
+  scalar_same (Var x) = refl
+  scalar_same e = refl
+
+  multiple_same : (e : Expr) → is_multiple one e ≡ is_multiple other e
+  multiple_same (Bin' o m (only e) n (only f)) = ap (λ t. is_product o && is_constant e && t) (scalar_same f)
+  multiple_same (Var x) = refl
+  multiple_same e = refl
+
+  plain_same : (e : Expr) → is_plain_subscript one e ≡ is_plain_subscript other e
+  plain_same (Const n) = refl
+  plain_same (Bin' o m (only e) n (only f)) =
+      λ i. multiple_same (Bin' o m (only e) n (only f)) i || (is_sum_or_difference o && multiple_same e i && is_constant f)
+  plain_same (Var x) = refl
+  plain_same e = refl
+
+  subscripts_same : (e : Expr) → has_plain_subscripts one e ≡ has_plain_subscripts other e
+  subscripts_same (Apply' f m args) = ap (λ t. not (is_array one f) || t) (all_same (is_plain_subscript one) (is_plain_subscript other) (listed args) plain_same)
+  subscripts_same e = refl
+
+  pub all_subscripts_same : (s : Stmt) → all_plain_subscripts one s ≡ all_plain_subscripts other s
+  all_subscripts_same s = all_same (has_plain_subscripts one) (has_plain_subscripts other) (all_parts s) subscripts_same
+
+  -- ---- types
+
+  -- both give a use the same type
+  abbrev pub Agree : Use → Name → Type 0
+  Agree (applied n) x = type_applied one x ≡ type_applied other x
+  Agree called x = ⊤
+  Agree read x = a x ≡ b x
+  Agree assigned x = a x ≡ b x
+  Agree (assigned_element n) x = a x ≡ b x
+  Agree counted x = a x ≡ b x
+  Agree (argument_of f) x = a x ≡ b x
+  Agree actual x = a x ≡ b x
+
+  abbrev pub AllAgree : List Occurrence → Type 0
+  AllAgree uses = (o : Occurrence) → IsIn o uses → Agree o.«use» o.name
+
+  lefts : (xs ys : List Occurrence) → AllAgree (xs ++ ys) → AllAgree xs
+  lefts xs ys h o m = h o (in_left xs ys m)
+
+  rights : (xs ys : List Occurrence) → AllAgree (xs ++ ys) → AllAgree ys
+  rights xs ys h o m = h o (in_right xs ys m)
+
+  rest : (o : Occurrence) (xs : List Occurrence) → AllAgree (o ∷ xs) → AllAgree xs
+  rest o xs h p m = h p (there m)
+
+  of_bare : (how : Use) (x : Name) → is_bare how ≡ true → Agree how x → a x ≡ b x
+  of_bare read x t h = h
+  of_bare assigned x t h = h
+  of_bare (assigned_element n) x t h = h
+  of_bare counted x t h = h
+  of_bare (argument_of f) x t h = h
+  of_bare actual x t h = h
+  of_bare (applied n) x t h = search rules
+  of_bare called x t h = search rules
+
+  type_same : (how : Use) → is_bare how ≡ true → (e : Expr) → AllAgree (uses_in how e) → type_of one e ≡ type_of other e
+  type_same how t (Const n) h = refl
+  type_same how t (Truth v) h = refl
+  type_same how t (Var x) h = of_bare how x t (h (record { name = x; «use» = how }) (here refl))
+  type_same how t (Apply' f m args) h = h _ (here refl)
+  type_same how t (Paren' m (only e)) h = type_same read refl e h
+  type_same how t (Pos' m e) h = refl
+  type_same how t (Neg' m e) h = refl
+  type_same how t (Power' m e n) h = refl
+  type_same how t (Bin' o m e n f) h = refl
+  type_same how t (Rel' o m e n f) h = refl
+  type_same how t (Not' m e) h = refl
+  type_same how t (And' m e n f) h = refl
+  type_same how t (Or' m e n f) h = refl
+
+  integer_same : (how : Use) → is_bare how ≡ true → (e : Expr) → AllAgree (uses_in how e) → gives_integer one e ≡ gives_integer other e
+  integer_same how t e h = ap (λ z. same_option z (Some Integer)) (type_same how t e h)
+
+  logical_same : (how : Use) → is_bare how ≡ true → (e : Expr) → AllAgree (uses_in how e) → gives_logical one e ≡ gives_logical other e
+  logical_same how t e h = ap (λ z. same_option z (Some Logical)) (type_same how t e h)
+
+  integers_same : (how : Use) → is_bare how ≡ true → {m : Count} (es : Row_of-Expr m) → AllAgree (uses_in_row how es)
+      → list_all (gives_integer one) (listed es) ≡ list_all (gives_integer other) (listed es)
+  integers_same how t end_of-Expr h = refl
+  integers_same how t (more_of-Expr e es) h =
+      and_same (integer_same how t e (lefts (uses_in how e) (uses_in_row how es) h)) (integers_same how t es (rights (uses_in how e) (uses_in_row how es) h))
+
+  abbrev Alike : List Expr → Type 0
+  Alike es = list_all (has_fit_operands one) es ≡ list_all (has_fit_operands other) es
+
+  both : (es fs : List Expr) → Alike es → Alike fs → Alike (es ++ fs)
+  both es fs h k = joined_same (has_fit_operands one) (has_fit_operands other) es fs h k
+
+  fit_arguments : (how : Use) → is_bare how ≡ true → (f : Name) {m : Count} (args : Row_of-Expr m) → AllAgree (uses_in_row how args)
+      → are_fit_arguments one f (listed args) ≡ are_fit_arguments other f (listed args)
+  fit_arguments how t f args h = ap (λ z. not (is_array one f || is_intrinsic one f) || z) (integers_same how t args h)
+
+  mutual
+    operands_same : (how : Use) → is_bare how ≡ true → (e : Expr) → AllAgree (uses_in how e) → Alike (parts e)
+    operands_same how t (Const n) h = refl
+    operands_same how t (Truth v) h = refl
+    operands_same how t (Var x) h = refl
+    operands_same how t (Apply' f m args) h =
+        and_same (fit_arguments (argument_of f) refl f args (rest _ _ h)) (rows_same (argument_of f) refl args (rest _ _ h))
+    operands_same how t (Paren' m (only e)) h = operands_same read refl e h
+    operands_same how t (Pos' m (only e)) h = and_same (integer_same read refl e h) (operands_same read refl e h)
+    operands_same how t (Neg' m (only e)) h = and_same (integer_same read refl e h) (operands_same read refl e h)
+    operands_same how t (Power' m (only e) n) h = and_same (integer_same read refl e h) (operands_same read refl e h)
+    operands_same how t (Bin' o m (only e) n (only f)) h =
+        let x = lefts (uses_in read e) (uses_in read f) h in let y = rights (uses_in read e) (uses_in read f) h in
+        and_same (and_same (integer_same read refl e x) (integer_same read refl f y)) (both (parts e) (parts f) (operands_same read refl e x) (operands_same read refl f y))
+    operands_same how t (Rel' o m (only e) n (only f)) h =
+        let x = lefts (uses_in read e) (uses_in read f) h in let y = rights (uses_in read e) (uses_in read f) h in
+        and_same (and_same (integer_same read refl e x) (integer_same read refl f y)) (both (parts e) (parts f) (operands_same read refl e x) (operands_same read refl f y))
+    operands_same how t (Not' m (only e)) h = and_same (logical_same read refl e h) (operands_same read refl e h)
+    operands_same how t (And' m (only e) n (only f)) h =
+        let x = lefts (uses_in read e) (uses_in read f) h in let y = rights (uses_in read e) (uses_in read f) h in
+        and_same (and_same (logical_same read refl e x) (logical_same read refl f y)) (both (parts e) (parts f) (operands_same read refl e x) (operands_same read refl f y))
+    operands_same how t (Or' m (only e) n (only f)) h =
+        let x = lefts (uses_in read e) (uses_in read f) h in let y = rights (uses_in read e) (uses_in read f) h in
+        and_same (and_same (logical_same read refl e x) (logical_same read refl f y)) (both (parts e) (parts f) (operands_same read refl e x) (operands_same read refl f y))
+
+    rows_same : (how : Use) → is_bare how ≡ true → {m : Count} (es : Row_of-Expr m) → AllAgree (uses_in_row how es) → Alike (parts_of_row es)
+    rows_same how t end_of-Expr h = refl
+    rows_same how t (more_of-Expr e es) h =
+        both (parts e) (parts_of_row es) (operands_same how t e (lefts (uses_in how e) (uses_in_row how es) h)) (rows_same how t es (rights (uses_in how e) (uses_in_row how es) h))
