@@ -10,3 +10,4 @@ pub mod SortsAgree
 pub mod SpelledForms
 pub mod SpelledNames
 pub mod Tests
+pub mod UnitScopes

@@ -1,11 +1,11 @@
 -- Two scopes with the same dimensions, which give the names of a statement the same types, judge it alike.
 use Rattle.std.proofs.Common.{◌≡◌, ◌⊎◌, inl, inr, ℕ, Bool, true, false, cond, List, [], ◌∷◌, ◌++◌, map, flat_map, Option, Some, None, refl, sym, ap, ◌∙◌, subst, rules}
-use Rattle.std.specs.Prelude.{◌&&◌, ◌||◌, not, ⊤}
+use Rattle.std.specs.Prelude.{◌&&◌, ◌||◌, not, length, ⊤}
 use Rattle.std.specs.List.{list_any, list_all}
 use mathlib.Core.Former.{Count}
 use Rattle.fort_syntax.specs.TreePatterns.{only, carried, listed}
 use Rattle.fort_syntax.specs.Scopes.{Scope, same_option, is_array, is_intrinsic, is_integer_scalar}
-use Rattle.fort_syntax.specs.Uses.{Use, read, assigned, assigned_element, counted, applied, argument_of, actual, called, Occurrence, uses_in, uses_in_row, uses_on_left, uses_of_param, uses_of_step, uses_of, parts, parts_of_row, expressions, all_parts}
+use Rattle.fort_syntax.specs.Uses.{Use, read, assigned, assigned_element, counted, applied, argument_of, actual, called, Occurrence, occurrence, uses_in, uses_in_row, uses_on_left, uses_of_param, uses_of_step, uses_of, parts, parts_of_row, expressions, all_parts}
 use Rattle.fort_syntax.specs.TypeRules.{type_applied, type_of, gives_integer, gives_logical, are_fit_arguments, has_fit_operands, is_fit_param, is_fit_step, has_fit_places, is_well_typed, is_scalar_name, is_constant, is_sum_or_difference, is_product, is_multiple, is_plain_subscript, has_plain_subscripts, all_plain_subscripts}
 use Rattle.fort_syntax.specs.UseRules.{is_bare, is_misused}
 use Rattle.fort_syntax.specs.declared.dialect.Sort.{Sort}
@@ -18,7 +18,9 @@ use Rattle.fort_syntax.specs.declared.stmt.Param.{Param}
 use Rattle.fort_syntax.specs.declared.stmt.Param.TheVariants as parameter
 use Rattle.fort_syntax.specs.declared.stmt.Stmt.{Stmt}
 use Rattle.fort_syntax.specs.declared.stmt.Stmt.TheVariants.{Subroutine, Function, Declare, Dimension, Common, Assign, GoTo, Computed, ArithIf, LogicalIf', Do, Continue, Call, Return, End, BlockIf, ElseIf, Else, EndIf}
-use Rattle.deck_laws.proofs.Members.{IsIn, here, there, in_left, in_right, in_flat}
+use Rattle.deck_laws.proofs.Tests.{second_true}
+use Rattle.deck_laws.proofs.Members.{IsIn, here, there, in_left, in_right}
+use Rattle.fort_syntax.specs.WellFormed.{is_left_side, may_be_carried, has_right_form}
 
 and_same : {a b c e : Bool} → a ≡ b → c ≡ e → (a && c) ≡ (b && e)
 and_same p q = λ i. p i && q i
@@ -176,3 +178,73 @@ module _ (a b : Name → Option Sort) (dims : Name → List Dim) where
     rows_same how t end_of-Expr h = refl
     rows_same how t (more_of-Expr e es) h =
         both (parts e) (parts_of_row es) (operands_same how t e (lefts (uses_in how e) (uses_in_row how es) h)) (rows_same how t es (rights (uses_in how e) (uses_in_row how es) h))
+
+  -- ---- statements
+
+  first_agrees : (o : Occurrence) (more : List Occurrence) → AllAgree (o ∷ more) → Agree o.«use» o.name
+  first_agrees o more h = h o (here refl)
+
+  left_type : (e : Expr) → is_left_side e ≡ true → AllAgree (uses_on_left e) → type_of one e ≡ type_of other e
+  left_type (Var x) t h = first_agrees (occurrence x assigned) [] h
+  left_type (Apply' f m args) t h =
+      ap (λ z. cond (is_intrinsic one f) (Some Integer) z) (first_agrees (occurrence f (assigned_element (length (listed args)))) (uses_in_row read args) h)
+  left_type e t h = search rules
+
+  left_operands : (e : Expr) → is_left_side e ≡ true → AllAgree (uses_on_left e) → Alike (parts e)
+  left_operands (Var x) t h = refl
+  left_operands (Apply' f m args) t h = and_same (fit_arguments read refl f args (rest _ _ h)) (rows_same read refl args (rest _ _ h))
+  left_operands e t h = search rules
+
+  variable_same : (x : Name) → a x ≡ b x → is_integer_scalar one x ≡ is_integer_scalar other x
+  variable_same x e = ap (λ z. same_option z (Some Integer) && not (is_array one x)) e
+
+  param_same : (p : Param) → AllAgree (uses_of_param p) → is_fit_param one p ≡ is_fit_param other p
+  param_same (parameter.Fixed n) h = refl
+  param_same (parameter.Named x) h = variable_same x (first_agrees (occurrence x read) [] h)
+
+  step_same : (p : Option Param) → AllAgree (uses_of_step p) → is_fit_step one p ≡ is_fit_step other p
+  step_same None h = refl
+  step_same (Some p) h = param_same p h
+
+  places_same : (s : Stmt) → has_right_form s ≡ true → AllAgree (uses_of s) → has_fit_places one s ≡ has_fit_places other s
+  places_same (Assign left right) t h =
+      λ i. same_option (left_type left t (lefts (uses_on_left left) (uses_in read right) h) i) (type_same read refl right (rights (uses_on_left left) (uses_in read right) h) i)
+  places_same (Computed labels x) t h = variable_same x (first_agrees (occurrence x read) [] h)
+  places_same (ArithIf e l m n) t h = integer_same read refl e h
+  places_same (LogicalIf' e m (carried s)) t h =
+      and_same (logical_same read refl e (lefts (uses_in read e) (uses_of s) h))
+      (places_same s (second_true (may_be_carried s) (has_right_form s) t) (rights (uses_in read e) (uses_of s) h))
+  places_same (Do label x first last step) t h =
+      let ps = rest (occurrence x counted) (uses_of_param first ++ uses_of_param last ++ uses_of_step step) h in
+      let two = lefts (uses_of_param first ++ uses_of_param last) (uses_of_step step) ps in
+      and_same
+      (and_same
+        (and_same (variable_same x (first_agrees (occurrence x counted) (uses_of_param first ++ uses_of_param last ++ uses_of_step step) h))
+          (param_same first (lefts (uses_of_param first) (uses_of_param last) two)))
+        (param_same last (rights (uses_of_param first) (uses_of_param last) two)))
+      (step_same step (rights (uses_of_param first ++ uses_of_param last) (uses_of_step step) ps))
+  places_same (BlockIf e) t h = logical_same read refl e h
+  places_same (ElseIf e) t h = logical_same read refl e h
+  places_same s t h = refl
+
+  actuals_same : (es : List Expr) → AllAgree (flat_map (uses_in actual) es) → Alike (flat_map parts es)
+  actuals_same [] h = refl
+  actuals_same (e ∷ es) h =
+      both (parts e) (flat_map parts es) (operands_same actual refl e (lefts (uses_in actual e) (flat_map (uses_in actual) es) h))
+      (actuals_same es (rights (uses_in actual e) (flat_map (uses_in actual) es) h))
+
+  all_operands_same : (s : Stmt) → has_right_form s ≡ true → AllAgree (uses_of s) → Alike (all_parts s)
+  all_operands_same (Assign left right) t h =
+      both (parts left) (parts right ++ []) (left_operands left t (lefts (uses_on_left left) (uses_in read right) h))
+      (both (parts right) [] (operands_same read refl right (rights (uses_on_left left) (uses_in read right) h)) refl)
+  all_operands_same (ArithIf e l m n) t h = both (parts e) [] (operands_same read refl e h) refl
+  all_operands_same (LogicalIf' e m (carried s)) t h =
+      both (parts e) (all_parts s) (operands_same read refl e (lefts (uses_in read e) (uses_of s) h))
+      (all_operands_same s (second_true (may_be_carried s) (has_right_form s) t) (rights (uses_in read e) (uses_of s) h))
+  all_operands_same (Call f args) t h = actuals_same args (rest (occurrence f called) (flat_map (uses_in actual) args) h)
+  all_operands_same (BlockIf e) t h = both (parts e) [] (operands_same read refl e h) refl
+  all_operands_same (ElseIf e) t h = both (parts e) [] (operands_same read refl e h) refl
+  all_operands_same s t h = refl
+
+  pub well_typed_same : (s : Stmt) → has_right_form s ≡ true → AllAgree (uses_of s) → is_well_typed one s ≡ is_well_typed other s
+  well_typed_same s t h = and_same (places_same s t h) (all_operands_same s t h)
