@@ -11,7 +11,7 @@ use Rattle.fort_syntax.specs.declared.name.Name.{Name}
 use Rattle.fort_syntax.specs.declared.stmt.Item.{Item}
 use Rattle.fort_syntax.specs.declared.stmt.Stmt.{Stmt}
 use Rattle.fort_syntax.specs.declared.unit.Line.{Line}
-use Rattle.deck_laws.proofs.Tests.{first_false, second_false, both_true, first_true, second_true, not_false, not_true, of_not_true, clash, is_false, case, other_false}
+use Rattle.deck_laws.proofs.Tests.{first_false, second_false, both_true, first_true, second_true, not_false, not_true, of_not_true, clash, is_false, case, other_false, left_true, right_true}
 use Rattle.deck_laws.proofs.Members.{IsIn, here, there, in_left, in_right, in_either, either, in_map, map_in, in_flat, flat_in, in_kept, kept_in, none_of, some_in, in_some}
 use Rattle.deck_laws.proofs.Names.{not_in, not_among, in_among, among_in, same_names, same_self, are_same, in_once, once_in}
 use Rattle.deck_laws.proofs.Named.{item_named, dummy_named, use_named, function_named}
@@ -65,26 +65,18 @@ references_are unit x m =
 
 -- ---- data names
 
-or_first : (a b : Bool) → a ≡ true → (a || b) ≡ true
-or_first true b h = refl
-or_first false b h = search rules
-
-or_second : (a b : Bool) → b ≡ true → (a || b) ≡ true
-or_second true b h = refl
-or_second false b h = h
-
 in_data_names : (unit : Segment) (x : Name) → IsIn x (gathered names_in unit)
     → (is_among x (held_by unit) || not (is_among x (references_of unit))) ≡ true → IsIn x (data_names unit)
 in_data_names unit x m t =
     in_kept (λ y. is_among y (held_by unit) || not (is_among y (references_of unit))) (once (gathered names_in unit)) (in_once x (gathered names_in unit) m) t
 
 held_is_data : (unit : Segment) (x : Name) → IsIn x (gathered names_in unit) → IsIn x (held_by unit) → IsIn x (data_names unit)
-held_is_data unit x m h = in_data_names unit x m (or_first (is_among x (held_by unit)) (not (is_among x (references_of unit))) (in_among x (held_by unit) h))
+held_is_data unit x m h = in_data_names unit x m (left_true (is_among x (held_by unit)) (not (is_among x (references_of unit))) (in_among x (held_by unit) h))
 
 pub others_are_data : (unit : Segment) (x : Name) → IsIn x (gathered names_in unit) → ¬ IsIn x (references_of unit) → IsIn x (data_names unit)
 others_are_data unit x m h =
     in_data_names unit x m
-    (or_second (is_among x (held_by unit)) (not (is_among x (references_of unit))) (not_false (not_among x (references_of unit) h)))
+    (right_true (is_among x (held_by unit)) (not (is_among x (references_of unit))) (not_false (not_among x (references_of unit) h)))
 
 -- a data name stands in a statement
 pub data_named : (unit : Segment) (x : Name) → IsIn x (data_names unit) → IsIn x (gathered names_in unit)

@@ -5,6 +5,7 @@ pub mod Keeping
 pub mod Members
 pub mod Named
 pub mod Names
+pub mod RightStatements
 pub mod RuleFacts
 pub mod SortsAgree
 pub mod SpelledForms

@@ -38,6 +38,14 @@ pub both_false : {a b : Bool} → a ≡ false → b ≡ false → (a || b) ≡ f
 both_false {a = true} e h = search rules
 both_false {a = false} e h = h
 
+pub left_true : (a b : Bool) → a ≡ true → (a || b) ≡ true
+left_true true b h = refl
+left_true false b h = search rules
+
+pub right_true : (a b : Bool) → b ≡ true → (a || b) ≡ true
+right_true true b h = refl
+right_true false b h = h
+
 -- of two tests that are not both passed, one that is passed
 pub other_false : (a b : Bool) → (a && b) ≡ false → a ≡ true → b ≡ false
 other_false true b h e = h
