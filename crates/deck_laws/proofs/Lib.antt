@@ -1,6 +1,8 @@
 pub mod AscendingEntries
+pub mod CommonNames
 pub mod DataNames
 pub mod Given
+pub mod Heads
 pub mod Keeping
 pub mod Members
 pub mod Named
