@@ -40,10 +40,152 @@ flat_same f g (x ∷ xs) h = λ i. h x i ++ flat_same f g xs h i
 
 -- ---- how often a name stands in a list
 
-one_if : Bool → ℕ
+abbrev one_if : Bool → ℕ
 one_if true = 1
 one_if false = 0
 
-times : Name → List Name → ℕ
+abbrev times : Name → List Name → ℕ
 times x [] = 0
 times x (y ∷ ys) = one_if (same_name x y) + times x ys
+
+times_joined : (x : Name) (xs ys : List Name) → times x (xs ++ ys) ≡ times x xs + times x ys
+times_joined x [] ys = let same : 0 + times x ys ≡ times x ys = omega arith in sym same
+times_joined x (y ∷ xs) ys =
+    let h = times_joined x xs ys in
+    ap (λ n. one_if (same_name x y) + n) h
+    ∙ (let same : one_if (same_name x y) + (times x xs + times x ys) ≡ one_if (same_name x y) + times x xs + times x ys = omega arith in same)
+
+never : (x : Name) (xs : List Name) → ¬ IsIn x xs → times x xs ≡ 0
+never x [] h = refl
+never x (y ∷ ys) h =
+    let e = ap one_if (are_others x y (λ s. h (here (sym s)))) in
+    let rest = never x ys (λ m. h (there m)) in
+    omega arith
+
+some_times : (x : Name) (xs : List Name) → IsIn x xs → 1 ≤ times x xs
+some_times x [] m = elim m [ ]
+some_times x (y ∷ ys) (here e) = let s = ap one_if (are_same x y (sym e)) in omega arith
+some_times x (y ∷ ys) (there m) = let h = some_times x ys m in omega arith
+
+-- in a list without twins each name stands once at most
+once_at_most : (x : Name) (xs : List Name) → has_twin xs ≡ false → times x xs ≤ 1
+once_at_most x [] h = omega arith
+once_at_most x (y ∷ ys) h =
+    let rest = once_at_most x ys (second_false (is_among y ys) (has_twin ys) h) in
+    case (same_name x y)
+    (λ t. let e = ap one_if t in
+      let none = never x ys (subst (λ z. ¬ IsIn z ys) (sym (same_names x y t)) (not_in y ys (first_false (is_among y ys) (has_twin ys) h))) in omega arith)
+    (λ f. let e = ap one_if f in omega arith)
+
+no_twin : (xs : List Name) → ((x : Name) → times x xs ≤ 1) → has_twin xs ≡ false
+no_twin [] h = refl
+no_twin (y ∷ ys) h =
+    both_false (not_among y ys alone) (no_twin ys (λ x. let all = h x in omega arith))
+  where
+    alone : ¬ IsIn y ys
+    alone m =
+        let all = h y in
+        let self = ap one_if (same_self y) in
+        let more = some_times y ys m in
+        absurd (omega arith)
+
+-- ---- groups and blocks
+
+abbrev of_group : Group → List Name
+of_group g = names_of_items g.items
+
+-- the names in the groups of a block
+abbrev in_block : List Group → Name → List Name
+in_block groups b = names_of_items (items_of_block_in groups b)
+
+abbrev if_named : Name → List Name → Name → List Name
+if_named c names b = cond (same_name c b) names []
+
+names_if : (s : Bool) (items : List Item) → names_of_items (cond s items []) ≡ cond s (names_of_items items) []
+names_if true items = refl
+names_if false items = refl
+
+one_group : (g : Group) (groups : List Group) (b : Name) → in_block (g ∷ groups) b ≡ if_named (name_of_block g.block) (of_group g) b ++ in_block groups b
+one_group g groups b =
+    map_joined (λ i. i.name) (cond (same_name (name_of_block g.block) b) g.items []) (items_of_block_in groups b)
+    ∙ ap (λ zs. zs ++ in_block groups b) (names_if (same_name (name_of_block g.block) b) g.items)
+
+times_groups : (x : Name) (g : Group) (groups : List Group) (bs : List Name)
+    → times x (flat_map (in_block (g ∷ groups)) bs)
+    ≡ times x (flat_map (if_named (name_of_block g.block) (of_group g)) bs) + times x (flat_map (in_block groups) bs)
+times_groups x g groups [] = refl
+times_groups x g groups (b ∷ bs) =
+    let h = times_groups x g groups bs in
+    let first = times_joined x (in_block (g ∷ groups) b) (flat_map (in_block (g ∷ groups)) bs) in
+    let split = ap (times x) (one_group g groups b) ∙ times_joined x (if_named (name_of_block g.block) (of_group g) b) (in_block groups b) in
+    let left = times_joined x (if_named (name_of_block g.block) (of_group g) b) (flat_map (if_named (name_of_block g.block) (of_group g)) bs) in
+    let right = times_joined x (in_block groups b) (flat_map (in_block groups) bs) in
+    omega arith
+
+of_none : (x c : Name) (names bs : List Name) → ¬ IsIn c bs → times x (flat_map (if_named c names) bs) ≡ 0
+of_none x c names [] h = refl
+of_none x c names (b ∷ bs) h =
+    let joined = times_joined x (if_named c names b) (flat_map (if_named c names) bs) in
+    let here_none = ap (λ s. times x (cond s names [])) (are_others c b (λ e. h (here (sym e)))) in
+    let rest = of_none x c names bs (λ m. h (there m)) in
+    omega arith
+
+-- each group counts for one block at most
+of_one : (x c : Name) (names bs : List Name) → has_twin bs ≡ false → times x (flat_map (if_named c names) bs) ≤ times x names
+of_one x c names [] h = omega arith
+of_one x c names (b ∷ bs) h =
+    let joined = times_joined x (if_named c names b) (flat_map (if_named c names) bs) in
+    case (same_name c b)
+    (λ t. let one = ap (λ s. times x (cond s names [])) t in
+      let none = of_none x c names bs (subst (λ z. ¬ IsIn z bs) (sym (same_names c b t)) (not_in b bs (first_false (is_among b bs) (has_twin bs) h))) in omega arith)
+    (λ f. let none = ap (λ s. times x (cond s names [])) f in
+      let rest = of_one x c names bs (second_false (is_among b bs) (has_twin bs) h) in omega arith)
+
+no_groups : (x : Name) (bs : List Name) → times x (flat_map (in_block []) bs) ≡ 0
+no_groups x [] = refl
+no_groups x (b ∷ bs) = no_groups x bs
+
+blocks_at_most : (x : Name) (groups : List Group) (bs : List Name) → has_twin bs ≡ false
+    → times x (flat_map (in_block groups) bs) ≤ times x (flat_map of_group groups)
+blocks_at_most x [] bs h = let none = no_groups x bs in omega arith
+blocks_at_most x (g ∷ groups) bs h =
+    let rest = blocks_at_most x groups bs h in
+    let split = times_groups x g groups bs in
+    let one = of_one x (name_of_block g.block) (of_group g) bs h in
+    let joined = times_joined x (of_group g) (flat_map of_group groups) in
+    omega arith
+
+-- ---- the COMMON entities
+
+module _ (unit : Segment) where
+  abbrev all_groups : List Group
+  all_groups = gathered groups_by unit
+
+  names_again : (xs : List Name) → names_of_items (map (item_of unit) xs) ≡ xs
+  names_again [] = refl
+  names_again (x ∷ xs) = ap (λ ys. x ∷ ys) (names_again xs)
+
+  -- the names of a block
+  pub block_names : (b : Name) → names_of_items (group_of unit b).items ≡ names_of_items (items_of_block unit b)
+  block_names b = names_again (names_of_items (items_of_block unit b))
+
+  commons_by_blocks : commons_of_unit (unit_of unit) ≡ flat_map (in_block all_groups) (once (gathered blocks_by unit))
+  commons_by_blocks =
+      flat_map_of (λ g. names_of_items g.items) (group_of unit) (once (gathered blocks_by unit))
+      ∙ flat_same (λ b. names_of_items (group_of unit b).items) (in_block all_groups) (once (gathered blocks_by unit)) block_names
+
+  commons_by_groups : gathered commons_by unit ≡ flat_map of_group all_groups
+  commons_by_groups =
+      flat_same (λ l. commons_by l.stmt) (λ l. flat_map of_group (groups_by l.stmt)) unit (λ l. map_flat (λ i. i.name) (λ g. g.items) (groups_by l.stmt))
+      ∙ sym (flat_flat of_group (λ l. groups_by l.stmt) unit)
+
+  pub commons_are : gathered commons_by unit ≡ commons_of unit
+  commons_are = sym (map_flat (λ i. i.name) (λ l. common_items_by l.stmt) unit)
+
+  pub no_common_twice : has_twin (gathered commons_by unit) ≡ false → has_twin (commons_of_unit (unit_of unit)) ≡ false
+  no_common_twice h =
+      no_twin (commons_of_unit (unit_of unit))
+      (λ x. let most = once_at_most x (gathered commons_by unit) h in
+        let few = blocks_at_most x all_groups (once (gathered blocks_by unit)) (once_without_twin (gathered blocks_by unit)) in
+        let p = ap (times x) commons_by_blocks in
+        let q = ap (times x) commons_by_groups in omega arith)
