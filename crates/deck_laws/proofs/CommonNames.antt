@@ -2,19 +2,20 @@
 use Rattle.std.proofs.Common.{◌≡◌, ◌≤◌, ◌⊎◌, inl, inr, ℕ, suc, ◌+◌, Bool, true, false, cond, List, [], ◌∷◌, ◌++◌, map, flat_map, Option, Some, None, refl, sym, ap, ◌∙◌, subst, rules, arith, append_assoc}
 use Rattle.std.specs.Prelude.{◌&&◌, ◌||◌, not}
 use Rattle.fort_syntax.specs.Scopes.{same_name, is_among, has_twin, once}
-use Rattle.fort_syntax.specs.Units.{Segment, gathered, groups_by, blocks_by, common_items_by, commons_of, names_of_items, name_of_block, block_of_name, items_of_block_in, items_of_block, item_of, group_of, unit_of}
+use Rattle.fort_syntax.specs.Units.{Segment, gathered, groups_by, blocks_by, items_by, names_in, data_names, dummies_of, own_value_of, common_items_by, commons_of, names_of_items, name_of_block, block_of_name, items_of_block_in, items_of_block, item_of, group_of, unit_of}
 use Rattle.fort_syntax.specs.NameRules.{commons_by}
 use Rattle.fort_syntax.specs.WellFormed.{commons_of_unit}
 use Rattle.fort_syntax.specs.declared.name.Name.{Name}
 use Rattle.fort_syntax.specs.declared.stmt.Group.{Group}
 use Rattle.fort_syntax.specs.declared.stmt.Item.{Item}
 use Rattle.fort_syntax.specs.declared.stmt.Stmt.{Stmt}
+use Rattle.fort_syntax.specs.declared.stmt.Stmt.TheVariants.{Declare, Dimension}
 use Rattle.fort_syntax.specs.declared.unit.Line.{Line}
 use Rattle.deck_laws.proofs.Tests.{case, clash, first_false, second_false, both_false}
 use Rattle.deck_laws.proofs.Members.{IsIn, here, there, in_left, in_right, in_either, either, in_map, map_in, in_flat, flat_in}
 use Rattle.deck_laws.proofs.Names.{same_names, same_self, are_same, are_others, not_in, not_among, in_once, once_in, once_without_twin}
 use Rattle.deck_laws.proofs.RuleFacts.{flat_joined}
-use Rattle.deck_laws.proofs.DataNames.{in_gathered, gathered_in}
+use Rattle.deck_laws.proofs.DataNames.{in_gathered, gathered_in, item_is_named, held_is_data}
 
 -- ---- lists of lists
 
@@ -189,3 +190,62 @@ module _ (unit : Segment) where
         let few = blocks_at_most x all_groups (once (gathered blocks_by unit)) (once_without_twin (gathered blocks_by unit)) in
         let p = ap (times x) commons_by_blocks in
         let q = ap (times x) commons_by_groups in omega arith)
+
+  -- ---- which names are in COMMON
+
+  block_given : (g : Group) → IsIn g all_groups → IsIn (name_of_block g.block) (once (gathered blocks_by unit))
+  block_given g m =
+      let w = gathered_in groups_by unit m in
+      in_once (name_of_block g.block) (gathered blocks_by unit)
+      (in_gathered blocks_by w.0 unit w.1 (in_map (λ h. name_of_block h.block) (groups_by w.0.stmt) w.2))
+
+  if_of : {i : Item} (s : Bool) (items : List Item) → IsIn i (cond s items []) → IsIn i items
+  if_of true items m = m
+  if_of false items m = elim m [ ]
+
+  of_if : {i : Item} (s : Bool) (items : List Item) → s ≡ true → IsIn i items → IsIn i (cond s items [])
+  of_if true items e m = m
+  of_if false items e m = search rules
+
+  common_of_blocks : (x : Name) → IsIn x (flat_map (in_block all_groups) (once (gathered blocks_by unit))) → IsIn x (flat_map of_group all_groups)
+  common_of_blocks x m =
+      let b = flat_in (in_block all_groups) (once (gathered blocks_by unit)) m in
+      let i = map_in (λ j. j.name) (items_of_block_in all_groups b.0) b.2 in
+      let h = flat_in (λ k. cond (same_name (name_of_block k.block) b.0) k.items []) all_groups i.1 in
+      in_flat of_group all_groups h.1
+      (subst (λ z. IsIn z (of_group h.0)) i.2 (in_map (λ j. j.name) h.0.items (if_of (same_name (name_of_block h.0.block) b.0) h.0.items h.2)))
+
+  blocks_of_common : (x : Name) → IsIn x (flat_map of_group all_groups) → IsIn x (flat_map (in_block all_groups) (once (gathered blocks_by unit)))
+  blocks_of_common x m =
+      let h = flat_in of_group all_groups m in
+      let i = map_in (λ j. j.name) h.0.items h.2 in
+      let b = name_of_block h.0.block in
+      in_flat (in_block all_groups) (once (gathered blocks_by unit)) (block_given h.0 h.1)
+      (subst (λ z. IsIn z (in_block all_groups b)) i.2
+      (in_map (λ j. j.name) (items_of_block_in all_groups b)
+      (in_flat (λ k. cond (same_name (name_of_block k.block) b) k.items []) all_groups h.1
+      (of_if (same_name b b) h.0.items (same_self b) i.1))))
+
+  pub common_in : (x : Name) → IsIn x (commons_of_unit (unit_of unit)) → IsIn x (commons_of unit)
+  common_in x m =
+      subst (λ z. IsIn x z) (sym commons_by_groups ∙ commons_are) (common_of_blocks x (subst (λ z. IsIn x z) commons_by_blocks m))
+
+  pub in_common : (x : Name) → IsIn x (commons_of unit) → IsIn x (commons_of_unit (unit_of unit))
+  in_common x m =
+      subst (λ z. IsIn x z) (sym commons_by_blocks) (blocks_of_common x (subst (λ z. IsIn x z) (sym commons_are ∙ commons_by_groups) m))
+
+  -- each COMMON entity is an item of a statement
+  common_is_item : (s : Stmt) (i : Item) → IsIn i (common_items_by s) → IsIn i (items_by s)
+  common_is_item (Declare sort items) i m = elim m [ ]
+  common_is_item (Dimension items) i m = elim m [ ]
+  common_is_item s i m = m
+
+  pub common_is_named : (x : Name) → IsIn x (commons_of unit) → IsIn x (gathered names_in unit)
+  common_is_named x m =
+      let i = map_in (λ j. j.name) (gathered common_items_by unit) m in
+      let w = gathered_in common_items_by unit i.1 in
+      subst (λ z. IsIn z (gathered names_in unit)) i.2 (item_is_named unit w.0 w.1 i.0 (common_is_item w.0.stmt i.0 w.2))
+
+  pub common_is_data : (x : Name) → IsIn x (commons_of unit) → IsIn x (data_names unit)
+  common_is_data x m =
+      held_is_data unit x (common_is_named x m) (in_left (dummies_of unit ++ commons_of unit) (own_value_of unit) (in_right (dummies_of unit) (commons_of unit) m))

@@ -70,7 +70,7 @@ in_data_names : (unit : Segment) (x : Name) → IsIn x (gathered names_in unit)
 in_data_names unit x m t =
     in_kept (λ y. is_among y (held_by unit) || not (is_among y (references_of unit))) (once (gathered names_in unit)) (in_once x (gathered names_in unit) m) t
 
-held_is_data : (unit : Segment) (x : Name) → IsIn x (gathered names_in unit) → IsIn x (held_by unit) → IsIn x (data_names unit)
+pub held_is_data : (unit : Segment) (x : Name) → IsIn x (gathered names_in unit) → IsIn x (held_by unit) → IsIn x (data_names unit)
 held_is_data unit x m h = in_data_names unit x m (left_true (is_among x (held_by unit)) (not (is_among x (references_of unit))) (in_among x (held_by unit) h))
 
 pub others_are_data : (unit : Segment) (x : Name) → IsIn x (gathered names_in unit) → ¬ IsIn x (references_of unit) → IsIn x (data_names unit)

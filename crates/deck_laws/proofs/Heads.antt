@@ -94,7 +94,7 @@ module _ (d : Dialect) (earlier : List Segment) (unit : Segment) (g : Given d ea
           let w = references_are unit (own_name unit) r in
           own_used f w.0 w.1 w.2 w.3 (applied_not_called w.2.«use» (first_true (is_applied w.2.«use») _ w.4)) w.5
 
-  own_gathered_no_dummy : ¬ IsIn (own_name unit) (dummies_of unit)
+  pub own_gathered_no_dummy : ¬ IsIn (own_name unit) (dummies_of unit)
   own_gathered_no_dummy m = let w = gathered_in dummies_by unit m in own_no_dummy d earlier unit g w.0 w.1 w.2
 
   -- a name that is a dimension, and that of its array, are dummies, and the first is an integer scalar

@@ -6,6 +6,7 @@ pub mod Heads
 pub mod Keeping
 pub mod Members
 pub mod Named
+pub mod NamesProved
 pub mod Names
 pub mod RightStatements
 pub mod RuleFacts

@@ -66,3 +66,9 @@ of_not_true {b = false} h = refl
 pub of_not_false : {b : Bool} → not b ≡ false → b ≡ true
 of_not_false {b = true} h = refl
 of_not_false {b = false} h = search rules
+
+-- two tests that imply each other
+pub same_test : {a b : Bool} → (a ≡ true → b ≡ true) → (b ≡ true → a ≡ true) → a ≡ b
+same_test {a = true} h k = sym (h refl)
+same_test {a = false} {b = true} h k = k refl
+same_test {a = false} {b = false} h k = refl
