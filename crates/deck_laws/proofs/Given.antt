@@ -28,7 +28,7 @@ AreParts d card (unit ∷ units) = IsPart d card unit × AreParts d card units
 lower : (low card other : ℕ) → low < card → nat_lt card other ≡ true → nat_lt low other ≡ true
 lower low card other less h = grind (arith, nat_tests)
 
-ascend_lower : (low card : ℕ) (lines : List Line) → low < card → ascend_above card lines ≡ true → ascend_above low lines ≡ true
+pub ascend_lower : (low card : ℕ) (lines : List Line) → low < card → ascend_above card lines ≡ true → ascend_above low lines ≡ true
 ascend_lower low card [] less h = refl
 ascend_lower low card (line ∷ lines) less h =
     both_true (lower low card line.card less (first_true (nat_lt card line.card) (ascend_above line.card lines) h))

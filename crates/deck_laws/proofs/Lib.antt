@@ -8,8 +8,11 @@ pub mod Members
 pub mod Named
 pub mod NamesProved
 pub mod Names
+pub mod OrderProved
 pub mod RightStatements
+pub mod RolesProved
 pub mod RuleFacts
+pub mod ShapesProved
 pub mod SortsAgree
 pub mod SpelledForms
 pub mod SpelledNames

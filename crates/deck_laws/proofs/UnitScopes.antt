@@ -15,6 +15,10 @@ use Rattle.deck_laws.proofs.DataNames.{array_is_data, data_named, gathered_in}
 use Rattle.deck_laws.proofs.Given.{Given}
 use Rattle.deck_laws.proofs.RuleFacts.{typed_at}
 
+pub no_dims : (dims : List Dim) → is_given_dims dims ≡ false → dims ≡ []
+no_dims [] h = refl
+no_dims (e ∷ dims) h = search rules
+
 module _ (unit : Segment) where
   names_are : (xs : List Name) → map (λ d. d.name) (map (data_name_of unit) xs) ≡ xs
   names_are [] = refl
@@ -47,10 +51,6 @@ module _ (unit : Segment) where
   dims_not_in (y ∷ xs) x h =
       ap (λ b. cond b ((scope_of unit).dims y) (dims_among (map (data_name_of unit) xs) x)) (are_others y x (λ e. h (here e)))
       ∙ dims_not_in xs x (λ m. h (there m))
-
-  no_dims : (dims : List Dim) → is_given_dims dims ≡ false → dims ≡ []
-  no_dims [] h = refl
-  no_dims (e ∷ dims) h = search rules
 
   -- the unit gives each name the dimensions that its declarations give
   pub dims_agree : (x : Name) → (scope_of_unit (unit_of unit)).dims x ≡ (scope_of unit).dims x
