@@ -1,7 +1,7 @@
 -- The statements of a deck stand on ascending cards.
 use Rattle.std.proofs.Common.{◌≡◌, ◌<◌, ℕ, ◌+◌, Bool, true, false, if◌then◌else◌, List, [], ◌∷◌, ◌++◌, refl, ap, ◌∙◌, arith}
 use Rattle.std.specs.Prelude.{◌&&◌, nat_lt}
-use Rattle.fort_syntax.specs.Cards.{Card, kind_of, is_plus, begun_by, note_text, noted, entries_from, entries_of, cards_of}
+use Rattle.fort_syntax.specs.Cards.{Card, kind_of, is_plus, begun_by, note_text, noted, entries_from, cards_of}
 use Rattle.fort_syntax.specs.declared.cards.CardKind.{CardKind}
 use Rattle.fort_syntax.specs.declared.cards.CardKind.TheVariants.{NoteCard, CommentCard, ContinuationCard, InitialCard}
 use Rattle.fort_syntax.specs.declared.cards.Entry.{Entry}

@@ -1,8 +1,7 @@
 -- The COMMON entities of a unit made of statements are those of the statements.
-use Rattle.std.proofs.Common.{◌≡◌, ◌≤◌, ◌⊎◌, inl, inr, ℕ, suc, ◌+◌, Bool, true, false, cond, List, [], ◌∷◌, ◌++◌, map, flat_map, Option, Some, None, refl, sym, ap, ◌∙◌, subst, rules, arith, append_assoc}
-use Rattle.std.specs.Prelude.{◌&&◌, ◌||◌, not}
+use Rattle.std.proofs.Common.{◌≡◌, ◌≤◌, ℕ, ◌+◌, Bool, true, false, cond, List, [], ◌∷◌, ◌++◌, map, flat_map, refl, sym, ap, ◌∙◌, subst, rules, arith}
 use Rattle.fort_syntax.specs.Scopes.{same_name, is_among, has_twin, once}
-use Rattle.fort_syntax.specs.Units.{Segment, gathered, groups_by, blocks_by, items_by, names_in, data_names, dummies_of, own_value_of, common_items_by, commons_of, names_of_items, name_of_block, block_of_name, items_of_block_in, items_of_block, item_of, group_of, unit_of}
+use Rattle.fort_syntax.specs.Units.{Segment, gathered, groups_by, blocks_by, items_by, names_in, data_names, dummies_of, own_value_of, common_items_by, commons_of, names_of_items, name_of_block, items_of_block_in, items_of_block, item_of, group_of, unit_of}
 use Rattle.fort_syntax.specs.NameRules.{commons_by}
 use Rattle.fort_syntax.specs.WellFormed.{commons_of_unit}
 use Rattle.fort_syntax.specs.declared.name.Name.{Name}
@@ -10,10 +9,9 @@ use Rattle.fort_syntax.specs.declared.stmt.Group.{Group}
 use Rattle.fort_syntax.specs.declared.stmt.Item.{Item}
 use Rattle.fort_syntax.specs.declared.stmt.Stmt.{Stmt}
 use Rattle.fort_syntax.specs.declared.stmt.Stmt.TheVariants.{Declare, Dimension}
-use Rattle.fort_syntax.specs.declared.unit.Line.{Line}
-use Rattle.deck_laws.proofs.Tests.{case, clash, first_false, second_false, both_false}
-use Rattle.deck_laws.proofs.Members.{IsIn, here, there, in_left, in_right, in_either, either, in_map, map_in, in_flat, flat_in}
-use Rattle.deck_laws.proofs.Names.{same_names, same_self, are_same, are_others, not_in, not_among, in_once, once_in, once_without_twin}
+use Rattle.deck_laws.proofs.Tests.{case, first_false, second_false, both_false}
+use Rattle.deck_laws.proofs.Members.{IsIn, here, there, in_left, in_right, in_map, map_in, in_flat, flat_in}
+use Rattle.deck_laws.proofs.Names.{same_names, same_self, are_same, are_others, not_in, not_among, in_once, once_without_twin}
 use Rattle.deck_laws.proofs.RuleFacts.{flat_joined}
 use Rattle.deck_laws.proofs.DataNames.{in_gathered, gathered_in, item_is_named, held_is_data}
 
@@ -207,13 +205,19 @@ module _ (unit : Segment) where
   of_if true items e m = m
   of_if false items e m = search rules
 
-  common_of_blocks : (x : Name) → IsIn x (flat_map (in_block all_groups) (once (gathered blocks_by unit))) → IsIn x (flat_map of_group all_groups)
-  common_of_blocks x m =
-      let b = flat_in (in_block all_groups) (once (gathered blocks_by unit)) m in
-      let i = map_in (λ j. j.name) (items_of_block_in all_groups b.0) b.2 in
-      let h = flat_in (λ k. cond (same_name (name_of_block k.block) b.0) k.items []) all_groups i.1 in
+  common_of_block : (x b : Name) → IsIn x (in_block all_groups b) → IsIn x (flat_map of_group all_groups)
+  common_of_block x b m =
+      let i = map_in (λ j. j.name) (items_of_block_in all_groups b) m in
+      let h = flat_in (λ k. cond (same_name (name_of_block k.block) b) k.items []) all_groups i.1 in
       in_flat of_group all_groups h.1
-      (subst (λ z. IsIn z (of_group h.0)) i.2 (in_map (λ j. j.name) h.0.items (if_of (same_name (name_of_block h.0.block) b.0) h.0.items h.2)))
+      (subst (λ z. IsIn z (of_group h.0)) i.2 (in_map (λ j. j.name) h.0.items (if_of (same_name (name_of_block h.0.block) b) h.0.items h.2)))
+
+  as_common : (x : Name) → IsIn x (flat_map of_group all_groups) → IsIn x (commons_of unit)
+  as_common x m = subst (λ z. IsIn x z) (sym commons_by_groups ∙ commons_are) m
+
+  -- each name in a block is a COMMON entity
+  pub block_in_common : (x b : Name) → IsIn x (names_of_items (items_of_block unit b)) → IsIn x (commons_of unit)
+  block_in_common x b m = as_common x (common_of_block x b m)
 
   blocks_of_common : (x : Name) → IsIn x (flat_map of_group all_groups) → IsIn x (flat_map (in_block all_groups) (once (gathered blocks_by unit)))
   blocks_of_common x m =
@@ -228,7 +232,8 @@ module _ (unit : Segment) where
 
   pub common_in : (x : Name) → IsIn x (commons_of_unit (unit_of unit)) → IsIn x (commons_of unit)
   common_in x m =
-      subst (λ z. IsIn x z) (sym commons_by_groups ∙ commons_are) (common_of_blocks x (subst (λ z. IsIn x z) commons_by_blocks m))
+      let b = flat_in (in_block all_groups) (once (gathered blocks_by unit)) (subst (λ z. IsIn x z) commons_by_blocks m) in
+      block_in_common x b.0 b.2
 
   pub in_common : (x : Name) → IsIn x (commons_of unit) → IsIn x (commons_of_unit (unit_of unit))
   in_common x m =

@@ -1,20 +1,19 @@
 -- The data names and functions of a unit that keeps the rules.
-use Rattle.std.proofs.Common.{◌≡◌, ◌⊎◌, inl, inr, ℕ, Bool, true, false, cond, List, [], ◌∷◌, ◌++◌, map, flat_map, refl, sym, ap, ◌∙◌, subst, rules}
+use Rattle.std.proofs.Common.{◌≡◌, Bool, true, false, cond, List, [], ◌∷◌, ◌++◌, refl, ap, ◌∙◌, subst, rules}
 use Rattle.std.specs.Prelude.{◌&&◌, ◌||◌, not}
-use Rattle.std.specs.List.{list_any}
-use Rattle.fort_syntax.specs.Scopes.{same_name, is_among, is_array, is_given_dims, kept, once, is_intrinsic_name}
-use Rattle.fort_syntax.specs.Uses.{Use, read, assigned, assigned_element, counted, applied, argument_of, actual, called, Occurrence, uses_of}
-use Rattle.fort_syntax.specs.Units.{Segment, gathered, own_name, own_value_of, is_function, dummies_by, dummies_of, commons_of, common_items_by, items_by, names_of_items, names_in, data_names, held_by, scope_of, dims_in, is_called, is_applied, is_reference, references_in, references_of, functions_of}
+use Rattle.fort_syntax.specs.Scopes.{same_name, is_among, is_array, is_given_dims, kept, once}
+use Rattle.fort_syntax.specs.Uses.{Use, called, Occurrence, uses_of}
+use Rattle.fort_syntax.specs.Units.{Segment, gathered, own_value_of, dummies_by, dummies_of, commons_of, items_by, names_in, data_names, held_by, scope_of, dims_in, is_called, is_applied, is_reference, references_in, references_of}
 use Rattle.fort_syntax.specs.UseRules.{is_bare, is_bare_use_of, is_reference_to}
 use Rattle.fort_syntax.specs.declared.dialect.Dialect.{Dialect}
 use Rattle.fort_syntax.specs.declared.name.Name.{Name}
 use Rattle.fort_syntax.specs.declared.stmt.Item.{Item}
 use Rattle.fort_syntax.specs.declared.stmt.Stmt.{Stmt}
 use Rattle.fort_syntax.specs.declared.unit.Line.{Line}
-use Rattle.deck_laws.proofs.Tests.{first_false, second_false, both_true, first_true, second_true, not_false, not_true, of_not_true, clash, is_false, case, other_false, left_true, right_true}
-use Rattle.deck_laws.proofs.Members.{IsIn, here, there, in_left, in_right, in_either, either, in_map, map_in, in_flat, flat_in, in_kept, kept_in, none_of, some_in, in_some}
-use Rattle.deck_laws.proofs.Names.{not_in, not_among, in_among, among_in, same_names, same_self, are_same, in_once, once_in}
-use Rattle.deck_laws.proofs.Named.{item_named, dummy_named, use_named, function_named}
+use Rattle.deck_laws.proofs.Tests.{both_true, first_true, second_true, not_false, not_true, of_not_true, clash, case, left_true, right_true}
+use Rattle.deck_laws.proofs.Members.{IsIn, here, there, in_left, in_map, map_in, in_flat, flat_in, in_kept, kept_in, in_some}
+use Rattle.deck_laws.proofs.Names.{not_among, in_among, among_in, same_names, same_self, are_same, in_once, once_in}
+use Rattle.deck_laws.proofs.Named.{item_named, dummy_named, use_named}
 use Rattle.deck_laws.proofs.Given.{Given}
 use Rattle.deck_laws.proofs.RuleFacts.{not_both_ways}
 

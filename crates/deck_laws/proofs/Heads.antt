@@ -1,29 +1,27 @@
 -- The head of a unit, and the unit's own name.
-use Rattle.std.proofs.Common.{◌≡◌, ◌⊎◌, inl, inr, ℕ, Bool, true, false, cond, List, [], ◌∷◌, ◌++◌, map, flat_map, Option, Some, None, refl, sym, ap, ◌∙◌, subst, rules}
+use Rattle.std.proofs.Common.{◌≡◌, Bool, true, false, List, [], ◌∷◌, ◌++◌, refl, sym, ap, ◌∙◌, subst, rules}
 use Rattle.std.specs.Prelude.{◌&&◌, ◌||◌, not}
-use Rattle.std.specs.List.{list_any, list_all}
 use Rattle.fort_syntax.specs.Scopes.{same_name, is_among, is_name, is_integer_scalar}
 use Rattle.fort_syntax.specs.Uses.{Use, assigned, applied, called, Occurrence, uses_of}
-use Rattle.fort_syntax.specs.Units.{Segment, gathered, own_name, own_value_of, is_function, is_function_head, headed_by, dummies_by, dummies_of, items_by, names_in, names_in_dims, data_names, references_of, scope_of, class_of, is_heading, is_declaring, is_called, is_applied, is_reference}
-use Rattle.fort_syntax.specs.OrderRules.{is_empty, has_executable}
+use Rattle.fort_syntax.specs.Units.{Segment, gathered, own_name, is_function, is_function_head, headed_by, dummies_by, dummies_of, items_by, names_in, names_in_dims, data_names, references_of, scope_of, class_of, is_heading, is_declaring, is_called, is_applied}
+use Rattle.fort_syntax.specs.OrderRules.{has_executable}
 use Rattle.fort_syntax.specs.NameRules.{may_be_dim, typed_by, dimensioned_by, commons_by}
 use Rattle.fort_syntax.specs.UseRules.{is_bare, is_assigned, assigns}
-use Rattle.fort_syntax.specs.declared.class.Class.{Class}
 use Rattle.fort_syntax.specs.declared.dialect.Dialect.{Dialect}
 use Rattle.fort_syntax.specs.declared.name.Name.{Name}
 use Rattle.fort_syntax.specs.declared.stmt.Item.{Item}
 use Rattle.fort_syntax.specs.declared.stmt.Stmt.{Stmt}
 use Rattle.fort_syntax.specs.declared.stmt.Stmt.TheVariants.{Function}
 use Rattle.fort_syntax.specs.declared.unit.Line.{Line}
-use Rattle.deck_laws.proofs.Tests.{case, clash, first_true, second_true, both_true, first_false, second_false, not_false, not_true, of_not_false, of_not_true, other_false}
-use Rattle.deck_laws.proofs.Members.{IsIn, here, there, either, none_of, some_in}
-use Rattle.deck_laws.proofs.Names.{in_among, among_in, not_in, same_names, are_same}
+use Rattle.deck_laws.proofs.Tests.{case, clash, first_true, second_true, both_true, first_false, second_false, not_false, of_not_false, other_false}
+use Rattle.deck_laws.proofs.Members.{IsIn, here, either, none_of, some_in}
+use Rattle.deck_laws.proofs.Names.{among_in, same_names, are_same}
 use Rattle.deck_laws.proofs.Named.{NamedAs, dummy, function, item, dim, used, named_as, function_named}
 use Rattle.deck_laws.proofs.SpelledNames.{head_named}
 use Rattle.deck_laws.proofs.SpelledForms.{item_declared}
-use Rattle.deck_laws.proofs.Keeping.{found, place}
+use Rattle.deck_laws.proofs.Keeping.{found}
 use Rattle.deck_laws.proofs.Given.{Given}
-use Rattle.deck_laws.proofs.RuleFacts.{kept_at, adjusted_at, kinds_at, own_no_dummy, own_untyped, own_undimensioned, own_no_common}
+use Rattle.deck_laws.proofs.RuleFacts.{adjusted_at, kinds_at, own_no_dummy, own_untyped, own_undimensioned, own_no_common}
 use Rattle.deck_laws.proofs.DataNames.{gathered_in, in_gathered, references_are, bare_no_reference, data_named}
 
 function_heads : (s : Stmt) → is_function_head s ≡ true → is_heading (class_of s) ≡ true

@@ -1,9 +1,9 @@
 -- What statements keep where a deck has no fault: each place breaks no rule.
-use Rattle.std.proofs.Common.{◌≡◌, ℕ, Bool, true, false, cond, List, [], ◌∷◌, ◌++◌, map, flat_map, Option, Some, None, refl, sym, ap, ◌∙◌, subst, rules, append_assoc, append-nil}
+use Rattle.std.proofs.Common.{◌≡◌, ℕ, Bool, true, false, cond, List, [], ◌∷◌, ◌++◌, Option, Some, None, refl, sym, ap, ◌∙◌, subst, rules, append_assoc, append-nil}
 use Rattle.std.specs.Prelude.{⊤}
 use Rattle.fort_syntax.specs.CardRules.{fault_or}
 use Rattle.fort_syntax.specs.Units.{Segment}
-use Rattle.fort_syntax.specs.OrderRules.{Place, places_in, places_from, places, breaks_12, breaks_13, breaks_14, breaks_50}
+use Rattle.fort_syntax.specs.OrderRules.{Place, places_in, places_from, breaks_12, breaks_13, breaks_14, breaks_50}
 use Rattle.fort_syntax.specs.NameRules.{breaks_15, breaks_16, breaks_17, breaks_24, breaks_25}
 use Rattle.fort_syntax.specs.UseRules.{breaks_18, breaks_19, breaks_20, breaks_21, breaks_22, breaks_23}
 use Rattle.fort_syntax.specs.UnitRules.{breaks, order_rules, block_rules, name_rules, use_rules, type_rules, stages, first_broken, fault_in_stage, fault_before, fault_in_stages}

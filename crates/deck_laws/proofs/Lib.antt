@@ -1,4 +1,5 @@
 pub mod AscendingEntries
+pub mod BlocksAgree
 pub mod CommonNames
 pub mod DataNames
 pub mod Given
@@ -18,3 +19,4 @@ pub mod SpelledForms
 pub mod SpelledNames
 pub mod Tests
 pub mod UnitScopes
+pub mod WellFormedDecks

@@ -1,14 +1,12 @@
 -- As what a name stands in a statement.
-use Rattle.std.proofs.Common.{◌≡◌, ◌⊎◌, inl, inr, Bool, true, false, cond, List, [], ◌∷◌, ◌++◌, map, flat_map, refl, sym, ap, ◌∙◌, subst, rules}
-use Rattle.std.specs.Prelude.{not}
+use Rattle.std.proofs.Common.{◌≡◌, Bool, true, false, cond, [], ◌∷◌, refl, rules}
 use Rattle.fort_syntax.specs.Uses.{Occurrence, uses_of}
 use Rattle.fort_syntax.specs.Units.{names_in, names_in_item, names_in_dims, names_used, is_called, dummies_by, headed_by, is_function_head, items_by, common_items_by}
 use Rattle.fort_syntax.specs.declared.name.Name.{Name}
 use Rattle.fort_syntax.specs.declared.stmt.Item.{Item}
 use Rattle.fort_syntax.specs.declared.stmt.Stmt.{Stmt}
 use Rattle.fort_syntax.specs.declared.stmt.Stmt.TheVariants.{Subroutine, Function, Declare, Dimension, Common}
-use Rattle.deck_laws.proofs.Tests.{case}
-use Rattle.deck_laws.proofs.Members.{IsIn, here, there, in_map, in_flat, flat_in}
+use Rattle.deck_laws.proofs.Members.{IsIn, here, there, in_flat, flat_in}
 
 -- a name is a dummy, or the one that a FUNCTION is headed by, or that of an item, or one in its dimensions, or is used otherwise than by a CALL
 pub data NamedAs (s : Stmt) (x : Name) : Type 0 where

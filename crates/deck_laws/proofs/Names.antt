@@ -1,11 +1,10 @@
 -- Names among names.
-use Rattle.std.proofs.Common.{◌≡◌, ◌⊎◌, inl, inr, ℕ, Bool, true, false, cond, List, [], ◌∷◌, ◌++◌, map, flat_map, refl, sym, ap, ◌∙◌, subst, rules, arith}
-use Rattle.std.specs.Prelude.{◌&&◌, ◌||◌, not, nat_eq}
-use Rattle.std.specs.List.{list_any, list_all}
+use Rattle.std.proofs.Common.{◌≡◌, ℕ, Bool, true, false, cond, List, [], ◌∷◌, ◌++◌, refl, sym, ap, ◌∙◌, subst, rules, arith}
+use Rattle.std.specs.Prelude.{◌&&◌, not, nat_eq}
 use Rattle.fort_syntax.specs.Scopes.{same_name, is_among, do_meet, has_twin, kept, once}
 use Rattle.fort_syntax.specs.declared.name.Name.{Name}
-use Rattle.deck_laws.proofs.Tests.{clash, is_false, case, first_true, second_true, first_false, second_false, both_false, not_false, of_not_true}
-use Rattle.deck_laws.proofs.Members.{IsIn, here, there, in_left, in_right, in_either, either, in_kept, kept_in, none_of, none_are, some_in, in_some}
+use Rattle.deck_laws.proofs.Tests.{clash, is_false, case, first_false, second_false, both_false, not_false, of_not_true}
+use Rattle.deck_laws.proofs.Members.{IsIn, here, there, in_either, either, in_kept, kept_in, none_of, none_are, some_in, in_some}
 
 more_letters : (b : Bool) (c d : ℕ) (cs ds : Name) → nat_eq c d ≡ b → (same_name cs ds ≡ true → cs ≡ ds)
     → (b && same_name cs ds) ≡ true → c ∷ cs ≡ d ∷ ds

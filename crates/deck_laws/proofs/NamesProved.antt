@@ -1,27 +1,24 @@
 -- The names, data names, roles and functions of a unit that is made of statements which keep the rules.
-use Rattle.std.proofs.Common.{◌≡◌, ◌⊎◌, inl, inr, ℕ, Bool, true, false, cond, List, [], ◌∷◌, ◌++◌, map, flat_map, Option, Some, None, refl, sym, ap, ◌∙◌, subst, rules}
-use Rattle.std.specs.Prelude.{◌&&◌, ◌||◌, not, is_some}
-use Rattle.std.specs.List.{list_any, list_all}
-use Rattle.fort_syntax.specs.Scopes.{same_name, same_sort, same_option, is_among, do_meet, has_twin, is_name, is_intrinsic_name, kept, once}
+use Rattle.std.proofs.Common.{◌≡◌, Bool, true, false, cond, List, [], ◌∷◌, ◌++◌, map, flat_map, Some, None, refl, sym, ap, ◌∙◌, subst, rules}
+use Rattle.std.specs.Prelude.{◌||◌, not, is_some}
+use Rattle.std.specs.List.{list_all}
+use Rattle.fort_syntax.specs.Scopes.{is_among, has_twin, is_name, is_intrinsic_name, once}
 use Rattle.fort_syntax.specs.Uses.{uses_of}
-use Rattle.fort_syntax.specs.Units.{Segment, gathered, own_name, own_value_of, is_function, dummies_of, commons_of, blocks_by, names_in, data_names, references_of, functions_of, role_of, data_name_of, group_of, block_of_name, held_by, scope_of, sort_or_integer, unit_of, is_reference}
+use Rattle.fort_syntax.specs.Units.{Segment, gathered, own_name, own_value_of, is_function, dummies_of, commons_of, blocks_by, names_in, data_names, references_of, functions_of, group_of, block_of_name, held_by, scope_of, sort_or_integer, unit_of}
 use Rattle.fort_syntax.specs.NameRules.{commons_by}
-use Rattle.fort_syntax.specs.WellFormed.{names_of_unit, functions_of_unit, commons_of_unit, own_value_of_unit, role_in_unit, same_role, name_as_block, are_names, are_held_once, are_data_names, has_right_role, are_functions}
+use Rattle.fort_syntax.specs.WellFormed.{names_of_unit, functions_of_unit, commons_of_unit, own_value_of_unit, name_as_block, are_names, are_held_once, are_data_names}
 use Rattle.fort_syntax.specs.declared.dialect.Dialect.{Dialect}
 use Rattle.fort_syntax.specs.declared.dialect.Sort.{Sort}
-use Rattle.fort_syntax.specs.declared.dialect.Sort.TheVariants.{Integer, Logical}
 use Rattle.fort_syntax.specs.declared.name.Name.{Name}
-use Rattle.fort_syntax.specs.declared.unit.Role.{Role}
-use Rattle.fort_syntax.specs.declared.unit.Role.TheVariants.{Dummy, InCommon, OwnValue, Local}
-use Rattle.deck_laws.proofs.Tests.{case, clash, first_true, second_true, both_true, not_false, other_false, left_true, right_true, same_test, both_false}
-use Rattle.deck_laws.proofs.Members.{IsIn, here, there, either, in_either, all_are, all_of, none_are, map_in, flat_in, in_map, in_left, in_right, kept_in}
-use Rattle.deck_laws.proofs.Names.{in_among, among_in, not_in, not_among, same_names, joined_without_twin, kept_without_twin, once_without_twin, once_in, do_not_meet}
+use Rattle.deck_laws.proofs.Tests.{case, both_true, not_false, left_true, right_true, both_false}
+use Rattle.deck_laws.proofs.Members.{IsIn, here, there, either, in_either, all_are, all_of, map_in, flat_in, in_right, kept_in}
+use Rattle.deck_laws.proofs.Names.{in_among, not_among, joined_without_twin, kept_without_twin, once_without_twin, once_in}
 use Rattle.deck_laws.proofs.SpelledNames.{all_joined, all_named, uses_named, blocks_named, is_named}
 use Rattle.deck_laws.proofs.Given.{Given}
-use Rattle.deck_laws.proofs.RuleFacts.{kinds_at, own_no_dummy, own_no_common, common_no_dummy, dummies_without_twin, commons_without_twin}
-use Rattle.deck_laws.proofs.DataNames.{gathered_in, references_are, data_named, data_held, dummy_is_data, held_is_data}
-use Rattle.deck_laws.proofs.Heads.{own_named, own_no_reference, own_no_data, own_value_named, own_gathered_no_dummy}
-use Rattle.deck_laws.proofs.CommonNames.{no_common_twice, commons_are, common_in, in_common, common_is_data}
+use Rattle.deck_laws.proofs.RuleFacts.{own_no_common, common_no_dummy, dummies_without_twin, commons_without_twin}
+use Rattle.deck_laws.proofs.DataNames.{gathered_in, references_are, data_named, dummy_is_data, held_is_data}
+use Rattle.deck_laws.proofs.Heads.{own_named, own_no_data, own_value_named, own_gathered_no_dummy}
+use Rattle.deck_laws.proofs.CommonNames.{no_common_twice, commons_are, common_in, common_is_data}
 use Rattle.deck_laws.proofs.UnitScopes.{data_names_are, functions_are}
 
 module _ (d : Dialect) (earlier : List Segment) (unit : Segment) (g : Given d earlier unit) where

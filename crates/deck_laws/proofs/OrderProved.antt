@@ -1,9 +1,8 @@
 -- The order of the statements of a made unit, and the value of a FUNCTION.
-use Rattle.std.proofs.Common.{◌≡◌, ◌<◌, ◌⊎◌, inl, inr, ℕ, zero, suc, Bool, true, false, cond, List, [], ◌∷◌, ◌++◌, map, flat_map, Option, Some, None, refl, sym, ap, ap₂, ◌∙◌, subst, rules, arith, append_assoc, append-nil}
-use Rattle.std.specs.Prelude.{◌&&◌, ◌||◌, not, nat_lt, ◌==◌, is_some}
-use Rattle.std.specs.List.{list_any, list_all}
+use Rattle.std.proofs.Common.{◌≡◌, ℕ, zero, suc, Bool, true, false, cond, List, [], ◌∷◌, ◌++◌, Some, None, refl, sym, ap, ◌∙◌, rules, arith, append_assoc, append-nil}
+use Rattle.std.specs.Prelude.{◌&&◌, not, nat_lt, ◌==◌, is_some}
+use Rattle.std.specs.List.{list_any}
 use Rattle.std.proofs.lemmas.Bool.Decides.{nat_tests}
-use Rattle.fort_syntax.specs.Scopes.{kept}
 use Rattle.fort_syntax.specs.Uses.{uses_of}
 use Rattle.fort_syntax.specs.Units.{Segment, gathered, executables, own_name, is_function, class_of, is_performing, scope_of, sort_or_integer, unit_of}
 use Rattle.fort_syntax.specs.OrderRules.{blocks_behind, blocks_open, has_no_branch, is_outside, still_open, is_ended, stays_open, is_bad_block}
@@ -14,9 +13,8 @@ use Rattle.fort_syntax.specs.declared.stmt.Stmt.{Stmt}
 use Rattle.fort_syntax.specs.declared.stmt.Stmt.TheVariants.{Subroutine, Function, Declare, Dimension, Common, End, BlockIf, ElseIf, Else, EndIf}
 use Rattle.fort_syntax.specs.declared.unit.Line.{Line}
 use Rattle.deck_laws.specs.Ascent.{ascend_above}
-use Rattle.deck_laws.proofs.Tests.{case, clash, first_true, second_true, both_true, not_false, of_not_false, other_false, left_true, right_true}
-use Rattle.deck_laws.proofs.Members.{IsIn, here, there, none_are, none_of, kept_in}
-use Rattle.deck_laws.proofs.Keeping.{place}
+use Rattle.deck_laws.proofs.Tests.{case, first_true, second_true, both_true, not_false, of_not_false, other_false, left_true, right_true}
+use Rattle.deck_laws.proofs.Members.{none_are, none_of, kept_in}
 use Rattle.deck_laws.proofs.Given.{Given, ascend_lower}
 use Rattle.deck_laws.proofs.RuleFacts.{flat_joined}
 

@@ -1,22 +1,20 @@
 -- The executable statements of a unit that keeps the rules are right in the unit made of it.
-use Rattle.std.proofs.Common.{◌≡◌, ◌⊎◌, inl, inr, ℕ, Bool, true, false, cond, List, [], ◌∷◌, ◌++◌, map, flat_map, Option, Some, None, refl, sym, ap, ◌∙◌, subst, rules}
+use Rattle.std.proofs.Common.{◌≡◌, ℕ, true, false, cond, List, Some, refl, sym, ap, ◌∙◌}
 use Rattle.std.specs.Prelude.{◌&&◌, ◌||◌, not, length, ◌==◌}
-use Rattle.std.specs.List.{list_any, list_all}
-use Rattle.fort_syntax.specs.Scopes.{Scope, same_name, is_among, is_array, is_given_dims, is_name, is_intrinsic, is_intrinsic_name}
+use Rattle.std.specs.List.{list_all}
+use Rattle.fort_syntax.specs.Scopes.{Scope, is_among, is_array, is_given_dims, is_intrinsic, is_intrinsic_name}
 use Rattle.fort_syntax.specs.Uses.{Use, read, assigned, assigned_element, counted, applied, argument_of, actual, called, Occurrence, occurrence, uses_of, all_parts, used_labels}
-use Rattle.fort_syntax.specs.Units.{Segment, gathered, executables, names_in, data_names, references_of, functions_of, scope_of, unit_of, class_of, is_performing, is_called, is_reference, dummies_of, commons_of}
+use Rattle.fort_syntax.specs.Units.{Segment, executables, names_in, data_names, references_of, functions_of, scope_of, unit_of, class_of, is_performing}
 use Rattle.fort_syntax.specs.TypeRules.{is_well_typed, all_plain_subscripts}
 use Rattle.fort_syntax.specs.UseRules.{is_misused, is_bare, wants_plain_subscripts, has_label}
 use Rattle.fort_syntax.specs.WellFormed.{scope_of_unit, names_of_unit, functions_of_unit, is_block_statement, has_right_form, has_right_numbers, is_known, has_right_uses, is_right_statement}
 use Rattle.fort_syntax.specs.declared.dialect.Dialect.{Dialect}
-use Rattle.fort_syntax.specs.declared.dialect.Sort.{Sort}
 use Rattle.fort_syntax.specs.declared.dialect.Sort.TheVariants.{Integer}
 use Rattle.fort_syntax.specs.declared.name.Name.{Name}
-use Rattle.fort_syntax.specs.declared.stmt.Stmt.{Stmt}
 use Rattle.fort_syntax.specs.declared.unit.Line.{Line}
-use Rattle.deck_laws.proofs.Tests.{case, clash, first_true, second_true, both_true, first_false, second_false, not_false, not_true, of_not_false, of_not_true, other_false, left_true, right_true}
-use Rattle.deck_laws.proofs.Members.{IsIn, here, there, all_are, all_of, none_of, in_kept, kept_in}
-use Rattle.deck_laws.proofs.Names.{in_among, not_among, not_in}
+use Rattle.deck_laws.proofs.Tests.{case, first_true, both_true, not_false, of_not_false, other_false, left_true, right_true}
+use Rattle.deck_laws.proofs.Members.{IsIn, all_are, all_of, none_of, in_kept, kept_in}
+use Rattle.deck_laws.proofs.Names.{in_among}
 use Rattle.deck_laws.proofs.Named.{use_named}
 use Rattle.deck_laws.proofs.SpelledNames.{uses_named, is_named}
 use Rattle.deck_laws.proofs.SpelledForms.{statement_numbers, statement_form, no_blocks}
@@ -24,7 +22,7 @@ use Rattle.deck_laws.proofs.Given.{Given}
 use Rattle.deck_laws.proofs.RuleFacts.{kept_at, well_used, kinds_at}
 use Rattle.deck_laws.proofs.DataNames.{in_references, in_gathered, array_is_data, bare_is_data}
 use Rattle.deck_laws.proofs.UnitScopes.{data_names_are, functions_are, dims_agree, data_sort, function_sort, scope_is}
-use Rattle.deck_laws.proofs.SortsAgree.{Agree, AllAgree, misused_same, all_subscripts_same, well_typed_same}
+use Rattle.deck_laws.proofs.SortsAgree.{Agree, misused_same, all_subscripts_same, well_typed_same}
 
 module _ (d : Dialect) (earlier : List Segment) (unit : Segment) (g : Given d earlier unit) where
   abbrev made : Scope

@@ -1,11 +1,11 @@
 -- The roles of the data names of a made unit, and its functions.
-use Rattle.std.proofs.Common.{◌≡◌, ◌⊎◌, inl, inr, ℕ, Bool, true, false, cond, List, [], ◌∷◌, ◌++◌, map, flat_map, Option, Some, None, refl, sym, ap, ap₂, ◌∙◌, subst, rules}
-use Rattle.std.specs.Prelude.{◌&&◌, ◌||◌, not, is_some}
+use Rattle.std.proofs.Common.{◌≡◌, ◌⊎◌, inl, inr, Bool, true, false, cond, List, [], ◌∷◌, ◌++◌, map, Some, None, refl, sym, ap, ap₂, ◌∙◌, subst, rules}
+use Rattle.std.specs.Prelude.{◌||◌, not, is_some}
 use Rattle.std.specs.List.{list_any, list_all}
-use Rattle.fort_syntax.specs.Scopes.{same_name, same_sort, same_option, is_among, do_meet, has_twin, is_intrinsic_name, kept, once}
+use Rattle.fort_syntax.specs.Scopes.{same_sort, same_option, is_among, do_meet, has_twin, is_intrinsic_name}
 use Rattle.fort_syntax.specs.Uses.{uses_of}
 use Rattle.fort_syntax.specs.Units.{Segment, gathered, own_name, own_value_of, is_function, dummies_of, commons_of, data_names, references_of, references_in, functions_of, role_of, data_name_of, scope_of, sort_or_integer, unit_of, is_reference}
-use Rattle.fort_syntax.specs.WellFormed.{names_of_unit, functions_of_unit, commons_of_unit, own_value_of_unit, role_in_unit, same_role, has_right_role, are_functions}
+use Rattle.fort_syntax.specs.WellFormed.{commons_of_unit, own_value_of_unit, role_in_unit, same_role, has_right_role, are_functions}
 use Rattle.fort_syntax.specs.declared.dialect.Dialect.{Dialect}
 use Rattle.fort_syntax.specs.declared.dialect.Sort.{Sort}
 use Rattle.fort_syntax.specs.declared.dialect.Sort.TheVariants.{Integer, Logical}

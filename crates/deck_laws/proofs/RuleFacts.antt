@@ -1,10 +1,10 @@
 -- What the rules on units give for each statement of a unit.
-use Rattle.std.proofs.Common.{◌≡◌, ◌⊎◌, inl, inr, ℕ, Bool, true, false, cond, List, [], ◌∷◌, ◌++◌, map, flat_map, refl, sym, ap, ◌∙◌, subst, rules, append_assoc, append-nil}
+use Rattle.std.proofs.Common.{◌≡◌, Bool, true, false, List, [], ◌∷◌, ◌++◌, flat_map, refl, sym, ap, ◌∙◌, subst, append_assoc, append-nil}
 use Rattle.std.specs.Prelude.{◌&&◌, ◌||◌, not, is_none}
-use Rattle.std.specs.List.{list_any, list_all}
+use Rattle.std.specs.List.{list_any}
 use Rattle.fort_syntax.specs.Scopes.{same_name, is_among, do_meet, has_twin}
 use Rattle.fort_syntax.specs.Uses.{Occurrence, uses_of}
-use Rattle.fort_syntax.specs.Units.{Segment, gathered, own_name, is_function, dummies_by, dummies_of, commons_of, common_items_by, items_by, names_of_items, names_in, data_names, scope_of, is_called, is_reference}
+use Rattle.fort_syntax.specs.Units.{Segment, gathered, own_name, is_function, dummies_by, dummies_of, commons_of, items_by, names_in, data_names, scope_of, is_called, is_reference}
 use Rattle.fort_syntax.specs.NameRules.{typed_by, dimensioned_by, commons_by, does_again, is_bad_shape, is_bad_item}
 use Rattle.fort_syntax.specs.UseRules.{is_misused, is_bare_use_of, is_reference_to, is_used_both_ways, is_use_of_other_kind, is_second_kind_of_use}
 use Rattle.fort_syntax.specs.declared.dialect.Dialect.{Dialect}
@@ -12,8 +12,8 @@ use Rattle.fort_syntax.specs.declared.name.Name.{Name}
 use Rattle.fort_syntax.specs.declared.stmt.Item.{Item}
 use Rattle.fort_syntax.specs.declared.stmt.Stmt.{Stmt}
 use Rattle.fort_syntax.specs.declared.unit.Line.{Line}
-use Rattle.deck_laws.proofs.Tests.{first_false, second_false, both_true, first_true, second_true, not_false, clash, is_false, case, other_false}
-use Rattle.deck_laws.proofs.Members.{IsIn, here, there, in_left, in_right, in_either, either, none_of, some_in, in_some}
+use Rattle.deck_laws.proofs.Tests.{first_false, second_false, both_true, first_true, second_true, not_false, clash, is_false}
+use Rattle.deck_laws.proofs.Members.{IsIn, in_left, in_right, in_either, either, none_of, some_in, in_some}
 use Rattle.deck_laws.proofs.Names.{not_in, meet_not, same_names, joined_without_twin}
 use Rattle.deck_laws.proofs.Keeping.{KeepsRules, place, found}
 use Rattle.deck_laws.proofs.Given.{Given}

@@ -1,8 +1,8 @@
 -- The dimensions and the blocks of a made unit.
-use Rattle.std.proofs.Common.{◌≡◌, ◌⊎◌, inl, inr, ℕ, Bool, true, false, cond, List, [], ◌∷◌, ◌++◌, map, flat_map, Option, Some, None, refl, sym, ap, ap₂, ◌∙◌, subst, rules, arith}
-use Rattle.std.specs.Prelude.{◌&&◌, ◌||◌, not, ◌==◌}
-use Rattle.std.specs.List.{list_any, list_all}
-use Rattle.fort_syntax.specs.Scopes.{Scope, same_name, same_option, same_dim, same_dims, is_among, is_array, is_given_dims, is_integer_scalar, has_twin, once}
+use Rattle.std.proofs.Common.{◌≡◌, ℕ, Bool, true, false, cond, List, [], ◌∷◌, map, Some, refl, sym, ap, ap₂, ◌∙◌, subst, arith}
+use Rattle.std.specs.Prelude.{◌&&◌, not, ◌==◌}
+use Rattle.std.specs.List.{list_all}
+use Rattle.fort_syntax.specs.Scopes.{Scope, same_option, same_dim, same_dims, is_among, is_array, is_given_dims, is_integer_scalar, has_twin, once}
 use Rattle.fort_syntax.specs.Units.{Segment, gathered, dummies_of, commons_of, blocks_by, items_by, names_of_items, names_in_dims, data_names, role_of, own_value_of, data_name_of, item_of, group_of, items_of_block, block_of_name, name_of_block, scope_of, unit_of}
 use Rattle.fort_syntax.specs.NameRules.{is_bad_shape}
 use Rattle.fort_syntax.specs.WellFormed.{scope_of_unit, same_role, has_right_dims, is_bare, is_right_item, are_blocks}
@@ -15,8 +15,8 @@ use Rattle.fort_syntax.specs.declared.stmt.Dim.TheVariants.{Fixed, Named}
 use Rattle.fort_syntax.specs.declared.stmt.Group.{Group}
 use Rattle.fort_syntax.specs.declared.stmt.Item.{Item}
 use Rattle.fort_syntax.specs.declared.unit.Role.TheVariants.{Dummy, InCommon, OwnValue, Local}
-use Rattle.deck_laws.proofs.Tests.{case, clash, both_true, not_false, is_false}
-use Rattle.deck_laws.proofs.Members.{IsIn, here, there, all_are, map_in}
+use Rattle.deck_laws.proofs.Tests.{case, both_true, not_false}
+use Rattle.deck_laws.proofs.Members.{IsIn, all_are, map_in}
 use Rattle.deck_laws.proofs.Names.{among_in, same_self, once_without_twin}
 use Rattle.deck_laws.proofs.Given.{Given}
 use Rattle.deck_laws.proofs.RuleFacts.{shape_at}

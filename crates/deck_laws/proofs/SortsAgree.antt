@@ -1,11 +1,11 @@
 -- Two scopes with the same dimensions, which give the names of a statement the same types, judge it alike.
-use Rattle.std.proofs.Common.{◌≡◌, ◌⊎◌, inl, inr, ℕ, Bool, true, false, cond, List, [], ◌∷◌, ◌++◌, map, flat_map, Option, Some, None, refl, sym, ap, ◌∙◌, subst, rules}
+use Rattle.std.proofs.Common.{◌≡◌, Bool, true, false, cond, List, [], ◌∷◌, ◌++◌, flat_map, Option, Some, None, refl, sym, ap, ◌∙◌, rules}
 use Rattle.std.specs.Prelude.{◌&&◌, ◌||◌, not, length, ⊤}
-use Rattle.std.specs.List.{list_any, list_all}
+use Rattle.std.specs.List.{list_all}
 use mathlib.Core.Former.{Count}
 use Rattle.fort_syntax.specs.TreePatterns.{only, carried, listed}
 use Rattle.fort_syntax.specs.Scopes.{Scope, same_option, is_array, is_intrinsic, is_integer_scalar}
-use Rattle.fort_syntax.specs.Uses.{Use, read, assigned, assigned_element, counted, applied, argument_of, actual, called, Occurrence, occurrence, uses_in, uses_in_row, uses_on_left, uses_of_param, uses_of_step, uses_of, parts, parts_of_row, expressions, all_parts}
+use Rattle.fort_syntax.specs.Uses.{Use, read, assigned, assigned_element, counted, applied, argument_of, actual, called, Occurrence, occurrence, uses_in, uses_in_row, uses_on_left, uses_of_param, uses_of_step, uses_of, parts, parts_of_row, all_parts}
 use Rattle.fort_syntax.specs.TypeRules.{type_applied, type_of, gives_integer, gives_logical, are_fit_arguments, has_fit_operands, is_fit_param, is_fit_step, has_fit_places, is_well_typed, is_scalar_name, is_constant, is_sum_or_difference, is_product, is_multiple, is_plain_subscript, has_plain_subscripts, all_plain_subscripts}
 use Rattle.fort_syntax.specs.UseRules.{is_bare, is_misused}
 use Rattle.fort_syntax.specs.declared.dialect.Sort.{Sort}
@@ -17,7 +17,7 @@ use Rattle.fort_syntax.specs.declared.stmt.Dim.{Dim}
 use Rattle.fort_syntax.specs.declared.stmt.Param.{Param}
 use Rattle.fort_syntax.specs.declared.stmt.Param.TheVariants as parameter
 use Rattle.fort_syntax.specs.declared.stmt.Stmt.{Stmt}
-use Rattle.fort_syntax.specs.declared.stmt.Stmt.TheVariants.{Subroutine, Function, Declare, Dimension, Common, Assign, GoTo, Computed, ArithIf, LogicalIf', Do, Continue, Call, Return, End, BlockIf, ElseIf, Else, EndIf}
+use Rattle.fort_syntax.specs.declared.stmt.Stmt.TheVariants.{Assign, Computed, ArithIf, LogicalIf', Do, Call, BlockIf, ElseIf}
 use Rattle.deck_laws.proofs.Tests.{second_true}
 use Rattle.deck_laws.proofs.Members.{IsIn, here, there, in_left, in_right}
 use Rattle.fort_syntax.specs.WellFormed.{is_left_side, may_be_carried, has_right_form}

@@ -1,9 +1,9 @@
 -- The forms and numbers of statements that texts spell.
-use Rattle.std.proofs.Common.{◌≡◌, ◌≤◌, ◌<◌, ◌⊎◌, inl, inr, ℕ, zero, suc, ◌+◌, ◌-◌, ◌*◌, ◌^◌, get_or, Bool, true, false, cond, List, [], ◌∷◌, ◌++◌, length, take, map, flat_map, Option, Some, None, refl, sym, ap, ◌∙◌, subst, rules, arith}
-use Rattle.std.specs.Prelude.{◌&&◌, ◌||◌, not, nat_le, nat_lt}
-use Rattle.std.specs.List.{list_any, list_all}
+use Rattle.std.proofs.Common.{◌≡◌, ◌≤◌, ◌<◌, ◌⊎◌, inl, inr, ℕ, zero, suc, ◌+◌, ◌-◌, ◌*◌, ◌^◌, get_or, true, false, List, [], ◌∷◌, ◌++◌, length, flat_map, Option, Some, None, refl, sym, ap, ◌∙◌, subst, rules, arith}
+use Rattle.std.specs.Prelude.{◌&&◌, nat_le, nat_lt}
+use Rattle.std.specs.List.{list_all}
 use mathlib.Core.Former.{Count}
-use Rattle.formula.specs.Atoms.{is_digits, is_long, spelled, without_zeros, is_digit}
+use Rattle.formula.specs.Atoms.{without_zeros, is_digit}
 use Rattle.formula.proofs.Digits as digits
 use Rattle.fort_syntax.specs.TreePatterns.{only, carried}
 use Rattle.fort_syntax.specs.Scopes.{is_given_dims, kept}
@@ -11,7 +11,7 @@ use Rattle.fort_syntax.specs.Spelled as spelling
 use Rattle.fort_syntax.specs.Spelled.{Texts, expression, arguments, more_arguments, row_of}
 use Rattle.fort_syntax.specs.Grammar as grammar
 use Rattle.fort_syntax.specs.Grammar.{form}
-use Rattle.fort_syntax.specs.Uses.{parts, parts_of_row, expressions, all_parts}
+use Rattle.fort_syntax.specs.Uses.{parts, parts_of_row, all_parts}
 use Rattle.fort_syntax.specs.Units.{items_by, common_items_by}
 use Rattle.fort_syntax.specs.NameRules.{typed_by, dimensioned_by, commons_by}
 use Rattle.fort_syntax.specs.UseRules.{wants_plain_subscripts}
@@ -20,16 +20,15 @@ use Rattle.fort_syntax.specs.declared.dialect.Dialect.{Dialect}
 use Rattle.fort_syntax.specs.declared.dialect.Dialect.TheVariants.{Common as CommonForms, SeventySeven}
 use Rattle.fort_syntax.specs.declared.expr.Expr.{Expr, Row_of-Expr, end_of-Expr, more_of-Expr}
 use Rattle.fort_syntax.specs.declared.expr.Expr.TheVariants.{Const, Truth, Var, Apply', Paren', Pos', Neg', Power', Bin', Rel', Not', And', Or'}
-use Rattle.fort_syntax.specs.declared.name.Name.{Name}
 use Rattle.fort_syntax.specs.declared.stmt.Item.{Item}
 use Rattle.fort_syntax.specs.declared.stmt.Dim.{Dim}
 use Rattle.fort_syntax.specs.declared.stmt.Param.{Param}
 use Rattle.fort_syntax.specs.declared.stmt.Param.TheVariants as parameter
 use Rattle.fort_syntax.specs.declared.stmt.Stmt.{Stmt}
-use Rattle.fort_syntax.specs.declared.stmt.Stmt.TheVariants.{Subroutine, Function, Declare, Dimension, Common, Assign, GoTo, Computed, ArithIf, LogicalIf', Do, Continue, Call, Return, End, BlockIf, ElseIf, Else, EndIf}
-use Rattle.deck_laws.proofs.Tests.{first_true, second_true, both_true}
-use Rattle.deck_laws.proofs.Members.{IsIn, here, there, in_map, in_kept, all_of}
-use Rattle.deck_laws.proofs.SpelledNames.{all_joined, all_flat, listed_pass}
+use Rattle.fort_syntax.specs.declared.stmt.Stmt.TheVariants.{Declare, Dimension, Assign, GoTo, Computed, ArithIf, LogicalIf', Do, Continue, Call, Return, BlockIf, ElseIf, Else, EndIf}
+use Rattle.deck_laws.proofs.Tests.{both_true}
+use Rattle.deck_laws.proofs.Members.{IsIn, in_map, in_kept, all_of}
+use Rattle.deck_laws.proofs.SpelledNames.{all_joined, listed_pass}
 
 -- ---- constants
 

@@ -1,7 +1,7 @@
 -- The names in statements that texts spell are names.
-use Rattle.std.proofs.Common.{◌≡◌, ◌⊎◌, inl, inr, ℕ, Bool, true, false, cond, List, [], ◌∷◌, ◌++◌, map, flat_map, Option, Some, None, refl, sym, ap, ◌∙◌, subst, rules}
-use Rattle.std.specs.Prelude.{◌&&◌, ◌||◌, not, length, nat_le}
-use Rattle.std.specs.List.{list_any, list_all}
+use Rattle.std.proofs.Common.{◌≡◌, ℕ, Bool, true, false, cond, List, [], ◌∷◌, ◌++◌, map, flat_map, Option, Some, None, refl, sym, ap, ◌∙◌, rules}
+use Rattle.std.specs.Prelude.{◌&&◌, length, nat_le}
+use Rattle.std.specs.List.{list_all}
 use mathlib.Core.Former.{Count}
 use Rattle.formula.specs.Atoms.{starts, is_name_byte, is_letter as is_upper}
 use Rattle.fort_syntax.specs.TreePatterns.{only, carried}
@@ -27,9 +27,8 @@ use Rattle.fort_syntax.specs.declared.stmt.Item.{Item}
 use Rattle.fort_syntax.specs.declared.stmt.Param.{Param}
 use Rattle.fort_syntax.specs.declared.stmt.Param.TheVariants as parameter
 use Rattle.fort_syntax.specs.declared.stmt.Stmt.{Stmt}
-use Rattle.fort_syntax.specs.declared.stmt.Stmt.TheVariants.{Subroutine, Function, Declare, Dimension, Common, Assign, GoTo, Computed, ArithIf, LogicalIf', Do, Continue, Call, Return, End, BlockIf, ElseIf, Else, EndIf}
+use Rattle.fort_syntax.specs.declared.stmt.Stmt.TheVariants.{Subroutine, Function, Declare, Dimension, Common, Assign, Computed, ArithIf, LogicalIf', Do, Call, BlockIf, ElseIf}
 use Rattle.deck_laws.proofs.Tests.{first_true, second_true, both_true}
-use Rattle.deck_laws.proofs.Members.{IsIn, here, there, all_of, all_are, map_in}
 
 -- ---- lists of texts
 

@@ -1,5 +1,5 @@
 -- Tests and their parts.
-use Rattle.std.proofs.Common.{◌≡◌, Bool, true, false, refl, sym, ◌∙◌, rules}
+use Rattle.std.proofs.Common.{◌≡◌, Bool, true, false, refl, sym, rules}
 use Rattle.std.specs.Prelude.{◌&&◌, ◌||◌, not}
 
 pub clash : {b : Bool} → b ≡ true → b ≡ false → ⊥

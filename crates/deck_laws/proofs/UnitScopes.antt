@@ -1,7 +1,7 @@
 -- What a unit made of statements says of names, and what its declarations say.
-use Rattle.std.proofs.Common.{◌≡◌, ◌⊎◌, inl, inr, ℕ, Bool, true, false, cond, List, [], ◌∷◌, ◌++◌, map, flat_map, Option, Some, None, refl, sym, ap, ◌∙◌, subst, rules}
-use Rattle.std.specs.Prelude.{◌&&◌, ◌||◌, not, is_none}
-use Rattle.fort_syntax.specs.Scopes.{Scope, same_name, is_among, is_array, is_given_dims}
+use Rattle.std.proofs.Common.{◌≡◌, Bool, true, false, cond, List, [], ◌∷◌, map, Option, Some, None, refl, sym, ap, ◌∙◌, rules}
+use Rattle.std.specs.Prelude.{is_none}
+use Rattle.fort_syntax.specs.Scopes.{same_name, is_among, is_array, is_given_dims}
 use Rattle.fort_syntax.specs.Units.{Segment, gathered, names_in, data_names, functions_of, data_name_of, function_name_of, scope_of, sort_or_integer, unit_of}
 use Rattle.fort_syntax.specs.WellFormed.{sort_of_function, sort_among, dims_among, scope_of_unit, names_of_unit, functions_of_unit}
 use Rattle.fort_syntax.specs.declared.dialect.Dialect.{Dialect}
@@ -10,7 +10,7 @@ use Rattle.fort_syntax.specs.declared.name.Name.{Name}
 use Rattle.fort_syntax.specs.declared.stmt.Dim.{Dim}
 use Rattle.deck_laws.proofs.Tests.{case, clash, is_false}
 use Rattle.deck_laws.proofs.Members.{IsIn, here, there}
-use Rattle.deck_laws.proofs.Names.{same_names, same_self, are_same, are_others, among_in, not_in}
+use Rattle.deck_laws.proofs.Names.{same_names, are_same, are_others, among_in, not_in}
 use Rattle.deck_laws.proofs.DataNames.{array_is_data, data_named, gathered_in}
 use Rattle.deck_laws.proofs.Given.{Given}
 use Rattle.deck_laws.proofs.RuleFacts.{typed_at}

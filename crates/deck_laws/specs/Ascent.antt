@@ -1,5 +1,5 @@
 -- Cards that ascend.
-use Rattle.std.specs.Prelude.{ℕ, ◌≡◌, ◌&&◌, nat_lt, Bool, true, List, [], ◌∷◌}
+use Rattle.std.specs.Prelude.{ℕ, ◌&&◌, nat_lt, Bool, true, List, [], ◌∷◌}
 use Rattle.fort_syntax.specs.declared.unit.Line.{Line}
 use Rattle.fort_syntax.specs.declared.cards.Entry.{Entry}
 use Rattle.fort_syntax.specs.declared.cards.Entry.TheVariants.{Statement, Note}

@@ -1,5 +1,5 @@
 -- The laws of decks.
-use Rattle.std.specs.Prelude.{ℕ, ◌≡◌, List, true, Option, None}
+use Rattle.std.specs.Prelude.{ℕ, ◌≡◌, List, true, None}
 use Rattle.fort_syntax.specs.Cards.{entries_of}
 use Rattle.fort_syntax.specs.Units.{Piece, statements, deck_of}
 use Rattle.fort_syntax.specs.UnitRules.{unit_fault}

@@ -2,5 +2,7 @@
 #![tactic(auto)]
 
 mod entries;
+mod well_formed;
 
 pub use entries::entries_ascend;
+pub use well_formed::decks_without_fault_are_well_formed;
