@@ -92,7 +92,7 @@ as_earlier d earlier unit g b (line ∷ behind) before e n m =
     first t =
         let p = place d earlier unit before line behind in
         let kept = none_of (λ c. not (is_among c (gathered blocks_by before)) && is_bad_block_of p c) (blocks_by line.stmt)
-          (g.keeps before line behind e).blocks (among_in b (blocks_by line.stmt) t) in
+        (g.keeps before line behind e).blocks (among_in b (blocks_by line.stmt) t) in
         first_false (list_any (declares_otherwise b (members unit b)) earlier) (list_any (λ m. is_adjustable m.dims) (members unit b))
         (other_false (not (is_among b (gathered blocks_by before))) (is_bad_block_of p b) kept (not_false (not_among b (gathered blocks_by before) n)))
 
@@ -109,7 +109,7 @@ agrees_with_earlier d earlier unit g other k b m n =
     let none = none_of (declares_otherwise b (members unit b)) earlier (as_earlier d earlier unit g b unit [] refl (λ h. elim h [ ]) m) k in
     members_equal (members unit b) (members other b)
     (of_not_false (other_false (is_among b (gathered blocks_by other)) (not (same_members (members unit b) (members other b))) none
-      (in_among b (gathered blocks_by other) n)))
+    (in_among b (gathered blocks_by other) n)))
 
 abbrev AllAgree : List Segment → Type 0
 AllAgree units = (p q : Segment) → IsIn p units → IsIn q units → Agree p q
@@ -185,16 +185,16 @@ module _ (d : Dialect) (units : List Segment) (given : AreGiven d [] units) wher
   two_agree p q k l =
       all_are (λ g. list_all (agree_groups (unit_of p) (unit_of q) g) (unit_of q).blocks) (unit_of p).blocks
       (λ g m. all_are (agree_groups (unit_of p) (unit_of q) g) (unit_of q).blocks (λ h n.
-        let b = map_in (group_of p) (once (gathered blocks_by p)) m in
-        let c = map_in (group_of q) (once (gathered blocks_by q)) n in
-        ap₂ (agree_groups (unit_of p) (unit_of q)) (sym b.2) (sym c.2)
-        ∙ groups_agree p q k l b.0 c.0 (once_in b.0 (gathered blocks_by p) b.1) (once_in c.0 (gathered blocks_by q) c.1)))
+      let b = map_in (group_of p) (once (gathered blocks_by p)) m in
+      let c = map_in (group_of q) (once (gathered blocks_by q)) n in
+      ap₂ (agree_groups (unit_of p) (unit_of q)) (sym b.2) (sym c.2)
+      ∙ groups_agree p q k l b.0 c.0 (once_in b.0 (gathered blocks_by p) b.1) (once_in c.0 (gathered blocks_by q) c.1)))
 
   -- any two units agree on the blocks that both have
   pub blocks_agree : list_all (λ u. list_all (agree_on_blocks u) (map unit_of units)) (map unit_of units) ≡ true
   blocks_agree =
       all_are (λ u. list_all (agree_on_blocks u) (map unit_of units)) (map unit_of units) (λ u m.
-        all_are (agree_on_blocks u) (map unit_of units) (λ v n.
-          let p = map_in unit_of units m in
-          let q = map_in unit_of units n in
-          ap₂ agree_on_blocks (sym p.2) (sym q.2) ∙ two_agree p.0 q.0 p.1 q.1))
+      all_are (agree_on_blocks u) (map unit_of units) (λ v n.
+      let p = map_in unit_of units m in
+      let q = map_in unit_of units n in
+      ap₂ agree_on_blocks (sym p.2) (sym q.2) ∙ two_agree p.0 q.0 p.1 q.1))

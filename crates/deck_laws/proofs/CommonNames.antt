@@ -73,7 +73,7 @@ once_at_most x (y ∷ ys) h =
     let rest = once_at_most x ys (second_false (is_among y ys) (has_twin ys) h) in
     case (same_name x y)
     (λ t. let e = ap one_if t in
-      let none = never x ys (subst (λ z. ¬ IsIn z ys) (sym (same_names x y t)) (not_in y ys (first_false (is_among y ys) (has_twin ys) h))) in omega arith)
+    let none = never x ys (subst (λ z. ¬ IsIn z ys) (sym (same_names x y t)) (not_in y ys (first_false (is_among y ys) (has_twin ys) h))) in omega arith)
     (λ f. let e = ap one_if f in omega arith)
 
 no_twin : (xs : List Name) → ((x : Name) → times x xs ≤ 1) → has_twin xs ≡ false
@@ -136,9 +136,9 @@ of_one x c names (b ∷ bs) h =
     let joined = times_joined x (if_named c names b) (flat_map (if_named c names) bs) in
     case (same_name c b)
     (λ t. let one = ap (λ s. times x (cond s names [])) t in
-      let none = of_none x c names bs (subst (λ z. ¬ IsIn z bs) (sym (same_names c b t)) (not_in b bs (first_false (is_among b bs) (has_twin bs) h))) in omega arith)
+    let none = of_none x c names bs (subst (λ z. ¬ IsIn z bs) (sym (same_names c b t)) (not_in b bs (first_false (is_among b bs) (has_twin bs) h))) in omega arith)
     (λ f. let none = ap (λ s. times x (cond s names [])) f in
-      let rest = of_one x c names bs (second_false (is_among b bs) (has_twin bs) h) in omega arith)
+    let rest = of_one x c names bs (second_false (is_among b bs) (has_twin bs) h) in omega arith)
 
 no_groups : (x : Name) (bs : List Name) → times x (flat_map (in_block []) bs) ≡ 0
 no_groups x [] = refl
@@ -185,9 +185,9 @@ module _ (unit : Segment) where
   no_common_twice h =
       no_twin (commons_of_unit (unit_of unit))
       (λ x. let most = once_at_most x (gathered commons_by unit) h in
-        let few = blocks_at_most x all_groups (once (gathered blocks_by unit)) (once_without_twin (gathered blocks_by unit)) in
-        let p = ap (times x) commons_by_blocks in
-        let q = ap (times x) commons_by_groups in omega arith)
+      let few = blocks_at_most x all_groups (once (gathered blocks_by unit)) (once_without_twin (gathered blocks_by unit)) in
+      let p = ap (times x) commons_by_blocks in
+      let q = ap (times x) commons_by_groups in omega arith)
 
   -- ---- which names are in COMMON
 

@@ -59,9 +59,6 @@ references_are unit x m =
     let w = gathered_in uses_of unit k.0 in
     (w.0, w.1, s.0, w.2, k.1, s.2)
 
-
-
-
 -- ---- data names
 
 in_data_names : (unit : Segment) (x : Name) → IsIn x (gathered names_in unit)
@@ -116,8 +113,8 @@ module _ (d : Dialect) (earlier : List Segment) (unit : Segment) (g : Given d ea
       let w = references_are unit o.name r in
       clash
       (both_true
-        (in_some (is_reference_to (scope_of unit) o.name) (gathered uses_of unit) (in_gathered uses_of w.0 unit w.1 w.3) (both_true (are_same w.2.name o.name w.5) w.4))
-        (in_some (is_bare_use_of o.name) (gathered uses_of unit) (in_gathered uses_of line unit m k) (both_true (same_self o.name) b)))
+      (in_some (is_reference_to (scope_of unit) o.name) (gathered uses_of unit) (in_gathered uses_of w.0 unit w.1 w.3) (both_true (are_same w.2.name o.name w.5) w.4))
+      (in_some (is_bare_use_of o.name) (gathered uses_of unit) (in_gathered uses_of line unit m k) (both_true (same_self o.name) b)))
       (not_both_ways d earlier unit g o.name)
 
   bare_not_called : (how : Use) → is_bare how ≡ true → is_called how ≡ false

@@ -36,9 +36,10 @@ ascend_lower low card (line ∷ lines) less h =
 
 parts_lower : (d : Dialect) (low card : ℕ) (units : List Segment) → low < card → AreParts d card units → AreParts d low units
 parts_lower d low card [] less h = tt
-parts_lower d low card (unit ∷ units) less h =
-    (record { head = h.0.head; rest = h.0.rest; whole = h.0.whole; spelled = h.0.spelled; ascend = ascend_lower low card unit less h.0.ascend },
-    parts_lower d low card units less h.1)
+parts_lower d low card (unit ∷ units) less h = (
+  record { head = h.0.head; rest = h.0.rest; whole = h.0.whole; spelled = h.0.spelled; ascend = ascend_lower low card unit less h.0.ascend },
+  parts_lower d low card units less h.1,
+)
 
 begin : (d : Dialect) (card : ℕ) (line : Line) (unit : Segment) → IsSpelled d line.stmt → nat_lt card line.card ≡ true
     → ((other : Line) → IsIn other unit → IsSpelled d other.stmt) → ascend_above line.card unit ≡ true → IsPart d card (line ∷ unit)

@@ -120,7 +120,7 @@ module _ (d : Dialect) (earlier : List Segment) (unit : Segment) (g : Given d ea
           either (item_declared d line.stmt s.0 s.1.0 i k)
           (λ t. own_untyped d earlier unit g line l (subst (λ z. IsIn z (typed_by line.stmt)) e t))
           (λ r. either r (λ t. own_undimensioned d earlier unit g line l (subst (λ z. IsIn z (dimensioned_by line.stmt)) e t))
-            (λ t. own_no_common d earlier unit g line l (subst (λ z. IsIn z (commons_by line.stmt)) e t)))
+          (λ t. own_no_common d earlier unit g line l (subst (λ z. IsIn z (commons_by line.stmt)) e t)))
       no_name line l (dim i k n) =
           own_gathered_no_dummy (among_in (own_name unit) (dummies_of unit) (dim_is_dummy line l i k (own_name unit) n).1)
       no_name line l (used o k c e) = own_used f line l o k c e

@@ -124,12 +124,13 @@ AllKeep d earlier (unit ∷ units) = KeepsAll d earlier unit × AllKeep d (earli
 pub all_keep : (d : Dialect) (earlier units : List Segment) → ((p : Place) → IsIn p (places_from d earlier units) → KeepsRules p)
     → AllKeep d earlier units
 all_keep d earlier [] h = tt
-all_keep d earlier (unit ∷ units) h =
-    (λ before line behind e.
+all_keep d earlier (unit ∷ units) h = (
+  λ before line behind e.
       h (place d earlier unit before line behind)
       (in_left (places_in d earlier unit [] unit) (places_from d (earlier ++ unit ∷ []) units) (place_in d earlier unit [] unit before line behind e)),
-    all_keep d (earlier ++ unit ∷ []) units
-    (λ p m. h p (in_right (places_in d earlier unit [] unit) (places_from d (earlier ++ unit ∷ []) units) m)))
+  all_keep d (earlier ++ unit ∷ []) units
+      (λ p m. h p (in_right (places_in d earlier unit [] unit) (places_from d (earlier ++ unit ∷ []) units) m)),
+)
 
 -- ---- members as places
 

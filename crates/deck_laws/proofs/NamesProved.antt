@@ -50,8 +50,8 @@ module _ (d : Dialect) (earlier : List Segment) (unit : Segment) (g : Given d ea
       all_joined is_name (own_name unit ∷ names_of_unit (unit_of unit) ++ functions_of_unit (unit_of unit))
       (flat_map (λ group. name_as_block group.block) (map (group_of unit) (once (gathered blocks_by unit))))
       (all_joined is_name (own_name unit ∷ names_of_unit (unit_of unit)) (functions_of_unit (unit_of unit))
-        (both_true (own_named d earlier unit g) (ap (list_all is_name) (data_names_are unit) ∙ all_are is_name (data_names unit) (λ x m. named x (data_named unit x m))))
-        (ap (list_all is_name) (functions_are unit) ∙ all_are is_name (functions_of unit) function_is_named))
+      (both_true (own_named d earlier unit g) (ap (list_all is_name) (data_names_are unit) ∙ all_are is_name (data_names unit) (λ x m. named x (data_named unit x m))))
+      (ap (list_all is_name) (functions_are unit) ∙ all_are is_name (functions_of unit) function_is_named))
       (all_are is_name (flat_map (λ group. name_as_block group.block) (map (group_of unit) (once (gathered blocks_by unit)))) block_is_named)
 
   -- ---- dummies and COMMON entities
@@ -69,10 +69,10 @@ module _ (d : Dialect) (earlier : List Segment) (unit : Segment) (g : Given d ea
   held_proved =
       not_false
       (both_false
-        (not_among (own_name unit) (dummies_of unit ++ commons_of_unit (unit_of unit))
-          (λ m. either (in_either (dummies_of unit) (commons_of_unit (unit_of unit)) m) (own_gathered_no_dummy d earlier unit g) own_not_common))
-        (joined_without_twin (dummies_of unit) (commons_of_unit (unit_of unit)) (dummies_without_twin d earlier unit g)
-          (no_common_twice unit (commons_without_twin d earlier unit g)) no_dummy_common))
+      (not_among (own_name unit) (dummies_of unit ++ commons_of_unit (unit_of unit))
+      (λ m. either (in_either (dummies_of unit) (commons_of_unit (unit_of unit)) m) (own_gathered_no_dummy d earlier unit g) own_not_common))
+      (joined_without_twin (dummies_of unit) (commons_of_unit (unit_of unit)) (dummies_without_twin d earlier unit g)
+      (no_common_twice unit (commons_without_twin d earlier unit g)) no_dummy_common))
 
   -- ---- data names
 
@@ -94,9 +94,9 @@ module _ (d : Dialect) (earlier : List Segment) (unit : Segment) (g : Given d ea
   held_is_among x m =
       either (in_either (dummies_of unit ++ commons_of_unit (unit_of unit)) (own_value_of_unit (unit_of unit)) m)
       (λ k. either (in_either (dummies_of unit) (commons_of_unit (unit_of unit)) k) (λ h. is_data_name x (dummy_is_data unit x h))
-        (λ h. is_data_name x (common_is_data unit x (common_in unit x h))))
+      (λ h. is_data_name x (common_is_data unit x (common_in unit x h))))
       (λ k. let o = own_value_is (is_function unit) (sort_or_integer ((scope_of unit).sort (own_name unit))) x (own_name unit) k in
-        is_data_name x (subst (λ z. IsIn z (data_names unit)) o.1 (own_is_data o.0)))
+      is_data_name x (subst (λ z. IsIn z (data_names unit)) o.1 (own_is_data o.0)))
 
   function_or_no_data : (is_some (unit_of unit).sort || not (is_among (own_name unit) (names_of_unit (unit_of unit)))) ≡ true
   function_or_no_data = case (is_function unit) function subroutine
@@ -119,7 +119,7 @@ module _ (d : Dialect) (earlier : List Segment) (unit : Segment) (g : Given d ea
   data_names_proved =
       both_true
       (both_true
-        (not_false (ap has_twin (data_names_are unit)
-          ∙ kept_without_twin (λ x. is_among x (held_by unit) || not (is_among x (references_of unit))) (once (gathered names_in unit)) (once_without_twin (gathered names_in unit))))
-        (all_are (λ x. is_among x (names_of_unit (unit_of unit))) (dummies_of unit ++ commons_of_unit (unit_of unit) ++ own_value_of_unit (unit_of unit)) held_is_among))
+      (not_false (ap has_twin (data_names_are unit)
+      ∙ kept_without_twin (λ x. is_among x (held_by unit) || not (is_among x (references_of unit))) (once (gathered names_in unit)) (once_without_twin (gathered names_in unit))))
+      (all_are (λ x. is_among x (names_of_unit (unit_of unit))) (dummies_of unit ++ commons_of_unit (unit_of unit) ++ own_value_of_unit (unit_of unit)) held_is_among))
       function_or_no_data

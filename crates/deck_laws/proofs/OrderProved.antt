@@ -71,7 +71,7 @@ same_behind (line ∷ lines) open_blocks =
     case (is_performing (class_of line.stmt))
     (λ t. ap (blocks_open open_blocks) (with_one line lines t) ∙ same_behind lines (blocks_behind line.stmt open_blocks))
     (λ f. ap (blocks_open open_blocks) (without_one line lines f)
-      ∙ (same_behind lines open_blocks ∙ ap (λ o. blocks_open o lines) (sym (same_blocks line.stmt f open_blocks))))
+    ∙ (same_behind lines open_blocks ∙ ap (λ o. blocks_open o lines) (sym (same_blocks line.stmt f open_blocks))))
 
 stays : (n : ℕ) (lines : List Line) → (not (is_ended n) && stays_open n lines) ≡ stays_open n lines
 stays zero [] = refl
@@ -84,7 +84,7 @@ same_stays (line ∷ lines) n =
     case (is_performing (class_of line.stmt))
     (λ t. ap (stays_open n) (with_one line lines t) ∙ ap (λ b. not (is_ended n) && b) (same_stays lines (still_open line.stmt n)))
     (λ f. ap (stays_open n) (without_one line lines f)
-      ∙ (same_stays lines n ∙ (sym (stays n lines) ∙ ap (λ k. not (is_ended n) && stays_open k lines) (sym (same_open line.stmt f n)))))
+    ∙ (same_stays lines n ∙ (sym (stays n lines) ∙ ap (λ k. not (is_ended n) && stays_open k lines) (sym (same_open line.stmt f n)))))
 
 same_bad : (s : Stmt) (before behind : List Line) → is_bad_block (executables before) s (executables behind) ≡ is_bad_block before s behind
 same_bad (BlockIf e) before behind = same_stays behind 1
@@ -142,7 +142,7 @@ module _ (d : Dialect) (earlier : List Segment) (unit : Segment) (g : Given d ea
       case (is_performing (class_of line.stmt))
       (λ t. ap (gathered uses_of) (with_one line lines t) ∙ ap (λ zs. uses_of line.stmt ++ zs) (same_uses lines))
       (λ f. ap (gathered uses_of) (without_one line lines f)
-        ∙ (same_uses lines ∙ ap (λ zs. zs ++ gathered uses_of lines) (sym (no_uses line.stmt f))))
+      ∙ (same_uses lines ∙ ap (λ zs. zs ++ gathered uses_of lines) (sym (no_uses line.stmt f))))
 
   pub result_proved : has_result (unit_of unit) ≡ true
   result_proved = case (is_function unit) assigned none
@@ -152,7 +152,7 @@ module _ (d : Dialect) (earlier : List Segment) (unit : Segment) (g : Given d ea
           right_true (not (is_some (unit_of unit).sort)) (assigns (own_name unit) (gathered uses_of (executables unit)))
           (ap (assigns (own_name unit)) (same_uses unit)
           ∙ of_not_false (other_false (is_function unit) (not (assigns (own_name unit) (gathered uses_of unit)))
-            (g.keeps [] g.part.head g.part.rest (sym g.part.whole)).result t))
+          (g.keeps [] g.part.head g.part.rest (sym g.part.whole)).result t))
 
       none : is_function unit ≡ false → has_result (unit_of unit) ≡ true
       none f =

@@ -102,8 +102,8 @@ module _ (d : Dialect) (earlier : List Segment) (unit : Segment) (g : Given d ea
     applied_agrees x n k =
         case (is_array (scope_of unit) x) (λ a. ap (cond (is_intrinsic (scope_of unit) x) (Some Integer)) (data_sort unit d earlier g x (array_is_data unit x a)))
         (λ a. case (is_intrinsic_name x) (λ i. intrinsic (both_true i (not_false a)))
-          (λ i. ap (cond (is_intrinsic (scope_of unit) x) (Some Integer))
-            (function_sort unit d earlier g x (applied_to x n k a i) (in_gathered names_in line unit m (use_named line.stmt (occurrence x (applied n)) k refl)))))
+        (λ i. ap (cond (is_intrinsic (scope_of unit) x) (Some Integer))
+        (function_sort unit d earlier g x (applied_to x n k a i) (in_gathered names_in line unit m (use_named line.stmt (occurrence x (applied n)) k refl)))))
       where
         intrinsic : is_intrinsic (scope_of unit) x ≡ true
             → cond (is_intrinsic (scope_of unit) x) (Some Integer) (made.sort x) ≡ cond (is_intrinsic (scope_of unit) x) (Some Integer) ((scope_of unit).sort x)

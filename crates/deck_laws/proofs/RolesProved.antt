@@ -122,11 +122,11 @@ module _ (unit : Segment) where
         let functions = functions_are unit in
         both_true
         (both_true
-          (both_true
-            (not_false (ap has_twin functions
-              ∙ kept_without_twin (λ f. not (is_intrinsic_name f)) (references_of unit) (once_without_twin (references_in (scope_of unit) (gathered uses_of unit)))))
-            (not_false (ap₂ do_meet functions (data_names_are unit) ∙ do_not_meet (functions_of unit) (data_names unit) no_data)))
-          (not_false (ap (list_any is_intrinsic_name) functions
-            ∙ none_are is_intrinsic_name (functions_of unit) (λ f m. of_not_true (kept_in (λ h. not (is_intrinsic_name h)) (references_of unit) m).1))))
+        (both_true
+        (not_false (ap has_twin functions
+        ∙ kept_without_twin (λ f. not (is_intrinsic_name f)) (references_of unit) (once_without_twin (references_in (scope_of unit) (gathered uses_of unit)))))
+        (not_false (ap₂ do_meet functions (data_names_are unit) ∙ do_not_meet (functions_of unit) (data_names unit) no_data)))
+        (not_false (ap (list_any is_intrinsic_name) functions
+        ∙ none_are is_intrinsic_name (functions_of unit) (λ f m. of_not_true (kept_in (λ h. not (is_intrinsic_name h)) (references_of unit) m).1))))
         (not_false (ap (is_among (own_name unit)) functions
-          ∙ not_among (own_name unit) (functions_of unit) (λ m. own_no_reference d earlier unit g (reference_in (own_name unit) m))))
+        ∙ not_among (own_name unit) (functions_of unit) (λ m. own_no_reference d earlier unit g (reference_in (own_name unit) m))))

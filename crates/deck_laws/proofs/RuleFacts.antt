@@ -182,8 +182,8 @@ module _ (d : Dialect) (earlier : List Segment) (unit : Segment) (g : Given d ea
           let bare = some_in (is_bare_use_of x) (a ++ b) (second_true (list_any (is_reference_to (scope_of unit) x) (a ++ b)) _ now) in
           either (in_either a b refers.1)
           (λ r. either (in_either a b bare.1)
-            (λ s. clash (both_true (in_some (is_reference_to (scope_of unit) x) a r refers.2) (in_some (is_bare_use_of x) a s bare.2)) was)
-            (λ s. second_kind x before line behind e was now bare.0 s (same_names bare.0.name x (first_true (same_name bare.0.name x) _ bare.2))))
+          (λ s. clash (both_true (in_some (is_reference_to (scope_of unit) x) a r refers.2) (in_some (is_bare_use_of x) a s bare.2)) was)
+          (λ s. second_kind x before line behind e was now bare.0 s (same_names bare.0.name x (first_true (same_name bare.0.name x) _ bare.2))))
           (λ r. second_kind x before line behind e was now refers.0 r (same_names refers.0.name x (first_true (same_name refers.0.name x) _ refers.2)))
 
   one_kind : (x : Name) (before lines : List Line) → before ++ lines ≡ unit → both_ways (gathered uses_of before) x ≡ false

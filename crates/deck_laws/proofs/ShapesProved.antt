@@ -71,9 +71,9 @@ module _ (d : Dialect) (earlier : List Segment) (unit : Segment) (g : Given d ea
       let w = gathered_in items_by unit m in
       both_true (not_false (shape_at d earlier unit g w.0 w.1 i w.2))
       (all_are (fits x) (names_in_dims i.dims) (λ y k.
-        let h = dim_is_dummy d earlier unit g w.0 w.1 i w.2 y k in
-        both_true (both_true (dummy_role x (ap (λ z. is_among z (dummies_of unit)) (sym e) ∙ h.0)) h.1)
-        (integer_scalar y (dummy_is_data unit y (among_in y (dummies_of unit) h.1)) ∙ h.2)))
+      let h = dim_is_dummy d earlier unit g w.0 w.1 i w.2 y k in
+      both_true (both_true (dummy_role x (ap (λ z. is_among z (dummies_of unit)) (sym e) ∙ h.0)) h.1)
+      (integer_scalar y (dummy_is_data unit y (among_in y (dummies_of unit) h.1)) ∙ h.2)))
 
   dims_right : (x : Name) → AreRight x ((scope_of unit).dims x)
   dims_right x =
@@ -108,5 +108,5 @@ module _ (d : Dialect) (earlier : List Segment) (unit : Segment) (g : Given d ea
   blocks_proved =
       both_true (not_false (ap has_twin (blocks_again all_blocks) ∙ once_without_twin (gathered blocks_by unit)))
       (all_are (λ group. not (is_bare group.block) && list_all (is_right_item (unit_of unit)) group.items) (map (group_of unit) all_blocks)
-        (λ group m. let b = map_in (group_of unit) all_blocks m in
-          ap (λ (h : Group). not (is_bare h.block) && list_all (is_right_item (unit_of unit)) h.items) (sym b.2) ∙ block_is_right b.0))
+      (λ group m. let b = map_in (group_of unit) all_blocks m in
+      ap (λ (h : Group). not (is_bare h.block) && list_all (is_right_item (unit_of unit)) h.items) (sym b.2) ∙ block_is_right b.0))

@@ -219,9 +219,9 @@ module _ (a b : Name → Option Sort) (dims : Name → List Dim) where
       let two = lefts (uses_of_param first ++ uses_of_param last) (uses_of_step step) ps in
       and_same
       (and_same
-        (and_same (variable_same x (first_agrees (occurrence x counted) (uses_of_param first ++ uses_of_param last ++ uses_of_step step) h))
-          (param_same first (lefts (uses_of_param first) (uses_of_param last) two)))
-        (param_same last (rights (uses_of_param first) (uses_of_param last) two)))
+      (and_same (variable_same x (first_agrees (occurrence x counted) (uses_of_param first ++ uses_of_param last ++ uses_of_step step) h))
+      (param_same first (lefts (uses_of_param first) (uses_of_param last) two)))
+      (param_same last (rights (uses_of_param first) (uses_of_param last) two)))
       (step_same step (rights (uses_of_param first ++ uses_of_param last) (uses_of_step step) ps))
   places_same (BlockIf e) t h = logical_same read refl e h
   places_same (ElseIf e) t h = logical_same read refl e h

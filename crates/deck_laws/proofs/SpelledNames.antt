@@ -181,8 +181,8 @@ uses_named d (Do label x first last step) t h =
     let the_last = the_first.4.4 in
     both_true (name_named x the_name.0 the_name.3)
     (all_joined is_named (uses_of_param first ++ uses_of_param last) (uses_of_step step)
-      (all_joined is_named (uses_of_param first) (uses_of_param last) (param_named first the_first.0 the_first.3) (param_named last the_last.0 the_last.3))
-      (step_named step the_last.1 the_last.4))
+    (all_joined is_named (uses_of_param first) (uses_of_param last) (param_named first the_first.0 the_first.3) (param_named last the_last.0 the_last.3))
+    (step_named step the_last.1 the_last.4))
 uses_named d (Call f args) t h = both_true (name_named f h.4.0 h.4.3) (actuals_named args h.4.1 h.4.4)
 uses_named d (BlockIf e) t h = block_named d e _ _ t h
 uses_named d (ElseIf e) t h = block_named d e _ _ t h
