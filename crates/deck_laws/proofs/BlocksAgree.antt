@@ -14,6 +14,7 @@ use Rattle.fort_syntax.specs.declared.stmt.Dim.{Dim}
 use Rattle.fort_syntax.specs.declared.stmt.Dim.TheVariants.{Fixed, Named}
 use Rattle.fort_syntax.specs.declared.unit.Line.{Line}
 use Rattle.deck_laws.proofs.Tests.{case, first_true, second_true, both_true, first_false, not_false, of_not_false, other_false, left_true, right_true}
+use Rattle.deck_laws.proofs.Lists.{map_same}
 use Rattle.deck_laws.proofs.Members.{IsIn, here, there, in_either, either, all_are, none_of, map_in}
 use Rattle.deck_laws.proofs.Names.{same_names, same_self, among_in, in_among, not_among, not_in, once_in}
 use Rattle.deck_laws.proofs.Keeping.{place}
@@ -132,10 +133,6 @@ all_agree d earlier (unit ∷ units) g h =
     subst AllAgree (append_assoc earlier (unit ∷ []) units) (all_agree d (earlier ++ unit ∷ []) units g.1 (one_more_agrees d earlier unit g.0 h))
 
 -- ---- the blocks of made units
-
-map_same : {A B : Type 0} (f g : A → B) (xs : List A) → ((x : A) → IsIn x xs → f x ≡ g x) → map f xs ≡ map g xs
-map_same f g [] h = refl
-map_same f g (x ∷ xs) h = ap₂ (λ y ys. y ∷ ys) (h x (here refl)) (map_same f g xs (λ y m. h y (there m)))
 
 -- the members of a block are what the declarations say
 made_members : (d : Dialect) (earlier : List Segment) (unit : Segment) → Given d earlier unit → (b : Name)

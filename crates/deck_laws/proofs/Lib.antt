@@ -5,6 +5,7 @@ pub mod DataNames
 pub mod Given
 pub mod Heads
 pub mod Keeping
+pub mod Lists
 pub mod Members
 pub mod Named
 pub mod NamesProved

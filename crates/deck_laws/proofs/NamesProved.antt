@@ -11,15 +11,17 @@ use Rattle.fort_syntax.specs.declared.dialect.Dialect.{Dialect}
 use Rattle.fort_syntax.specs.declared.dialect.Sort.{Sort}
 use Rattle.fort_syntax.specs.declared.name.Name.{Name}
 use Rattle.deck_laws.proofs.Tests.{case, both_true, not_false, left_true, right_true, both_false}
+use Rattle.deck_laws.proofs.Lists.{all_joined}
+use Rattle.deck_laws.proofs.RolesProved.{own_value_same, own_value_is}
 use Rattle.deck_laws.proofs.Members.{IsIn, here, there, either, in_either, all_are, all_of, map_in, flat_in, in_right, kept_in}
 use Rattle.deck_laws.proofs.Names.{in_among, not_among, joined_without_twin, kept_without_twin, once_without_twin, once_in}
-use Rattle.deck_laws.proofs.SpelledNames.{all_joined, all_named, uses_named, blocks_named, is_named}
+use Rattle.deck_laws.proofs.SpelledNames.{all_named, uses_named, blocks_named, is_named}
 use Rattle.deck_laws.proofs.Given.{Given}
 use Rattle.deck_laws.proofs.RuleFacts.{own_no_common, common_no_dummy, dummies_without_twin, commons_without_twin}
 use Rattle.deck_laws.proofs.DataNames.{gathered_in, references_are, data_named, dummy_is_data, held_is_data}
 use Rattle.deck_laws.proofs.Heads.{own_named, own_no_data, own_value_named, own_gathered_no_dummy}
 use Rattle.deck_laws.proofs.CommonNames.{no_common_twice, commons_are, common_in, common_is_data}
-use Rattle.deck_laws.proofs.UnitScopes.{data_names_are, functions_are}
+use Rattle.deck_laws.proofs.UnitScopes.{data_names_are, functions_are, is_function_made}
 
 module _ (d : Dialect) (earlier : List Segment) (unit : Segment) (g : Given d earlier unit) where
   -- ---- names are names
@@ -79,11 +81,6 @@ module _ (d : Dialect) (earlier : List Segment) (unit : Segment) (g : Given d ea
   is_data_name : (x : Name) → IsIn x (data_names unit) → is_among x (names_of_unit (unit_of unit)) ≡ true
   is_data_name x m = ap (is_among x) (data_names_are unit) ∙ in_among x (data_names unit) m
 
-  own_value_is : (f : Bool) (s : Sort) (x y : Name) → IsIn x (cond (is_some (cond f (Some s) None)) (y ∷ []) []) → (f ≡ true) × (y ≡ x)
-  own_value_is true s x y (here e) = (refl, e)
-  own_value_is true s x y (there m) = elim m [ ]
-  own_value_is false s x y m = elim m [ ]
-
   own_is_data : is_function unit ≡ true → IsIn (own_name unit) (data_names unit)
   own_is_data t =
       held_is_data unit (own_name unit) (own_value_named d earlier unit g t)
@@ -95,20 +92,16 @@ module _ (d : Dialect) (earlier : List Segment) (unit : Segment) (g : Given d ea
       either (in_either (dummies_of unit ++ commons_of_unit (unit_of unit)) (own_value_of_unit (unit_of unit)) m)
       (λ k. either (in_either (dummies_of unit) (commons_of_unit (unit_of unit)) k) (λ h. is_data_name x (dummy_is_data unit x h))
       (λ h. is_data_name x (common_is_data unit x (common_in unit x h))))
-      (λ k. let o = own_value_is (is_function unit) (sort_or_integer ((scope_of unit).sort (own_name unit))) x (own_name unit) k in
+      (λ k. let o = own_value_is unit (is_function unit) x (own_name unit) (subst (λ z. IsIn x z) (own_value_same unit) k) in
       is_data_name x (subst (λ z. IsIn z (data_names unit)) o.1 (own_is_data o.0)))
 
   function_or_no_data : (is_some (unit_of unit).sort || not (is_among (own_name unit) (names_of_unit (unit_of unit)))) ≡ true
   function_or_no_data = case (is_function unit) function subroutine
     where
-      some_sort : (f : Bool) (s : Sort) → f ≡ true → is_some (cond f (Some s) None) ≡ true
-      some_sort true s t = refl
-      some_sort false s t = search rules
-
       function : is_function unit ≡ true → (is_some (unit_of unit).sort || not (is_among (own_name unit) (names_of_unit (unit_of unit)))) ≡ true
       function t =
           left_true (is_some (unit_of unit).sort) (not (is_among (own_name unit) (names_of_unit (unit_of unit))))
-          (some_sort (is_function unit) (sort_or_integer ((scope_of unit).sort (own_name unit))) t)
+          (is_function_made unit ∙ t)
 
       subroutine : is_function unit ≡ false → (is_some (unit_of unit).sort || not (is_among (own_name unit) (names_of_unit (unit_of unit)))) ≡ true
       subroutine f =

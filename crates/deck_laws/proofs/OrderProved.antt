@@ -14,9 +14,10 @@ use Rattle.fort_syntax.specs.declared.stmt.Stmt.TheVariants.{Subroutine, Functio
 use Rattle.fort_syntax.specs.declared.unit.Line.{Line}
 use Rattle.deck_laws.specs.Ascent.{ascend_above}
 use Rattle.deck_laws.proofs.Tests.{case, first_true, second_true, both_true, not_false, of_not_false, other_false, left_true, right_true}
+use Rattle.deck_laws.proofs.Lists.{flat_joined}
+use Rattle.deck_laws.proofs.UnitScopes.{is_function_made}
 use Rattle.deck_laws.proofs.Members.{none_are, none_of, kept_in}
 use Rattle.deck_laws.proofs.Given.{Given, ascend_lower}
-use Rattle.deck_laws.proofs.RuleFacts.{flat_joined}
 
 -- ---- statements that are not executable
 
@@ -157,4 +158,4 @@ module _ (d : Dialect) (earlier : List Segment) (unit : Segment) (g : Given d ea
       none : is_function unit ≡ false → has_result (unit_of unit) ≡ true
       none f =
           left_true (not (is_some (unit_of unit).sort)) (assigns (own_name unit) (gathered uses_of (executables unit)))
-          (ap (λ b. not (is_some (cond b (Some (sort_or_integer ((scope_of unit).sort (own_name unit)))) None))) f)
+          (not_false (is_function_made unit ∙ f))

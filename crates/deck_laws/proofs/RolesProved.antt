@@ -20,7 +20,7 @@ use Rattle.deck_laws.proofs.RuleFacts.{kinds_at}
 use Rattle.deck_laws.proofs.DataNames.{references_are, data_held}
 use Rattle.deck_laws.proofs.Heads.{own_no_reference}
 use Rattle.deck_laws.proofs.CommonNames.{common_in, in_common}
-use Rattle.deck_laws.proofs.UnitScopes.{data_names_are, functions_are}
+use Rattle.deck_laws.proofs.UnitScopes.{data_names_are, functions_are, is_function_made}
 
 role_self : (r : Role) → same_role r r ≡ true
 role_self Dummy = refl
@@ -38,10 +38,6 @@ of_own_value false true c h = search rules
 of_own_value false false true h = refl
 of_own_value false false false h = search rules
 
-some_is : (f : Bool) (s : Sort) → is_some (cond f (Some s) None) ≡ f
-some_is true s = refl
-some_is false s = refl
-
 same_some : (f : Bool) (s t : Sort) → f ≡ true → s ≡ t → same_option (Some s) (cond f (Some t) None) ≡ true
 same_some true s t h e = ap (same_sort s) (sym e) ∙ sort_self s
 same_some false s t h e = search rules
@@ -52,14 +48,14 @@ module _ (unit : Segment) where
       same_test (λ t. in_among x (commons_of unit) (common_in unit x (among_in x (commons_of_unit (unit_of unit)) t)))
       (λ t. in_among x (commons_of_unit (unit_of unit)) (in_common unit x (among_in x (commons_of unit) t)))
 
-  own_value_same : own_value_of_unit (unit_of unit) ≡ own_value_of unit
-  own_value_same = ap (λ f. cond f (own_name unit ∷ []) []) (some_is (is_function unit) (sort_or_integer ((scope_of unit).sort (own_name unit))))
+  pub own_value_same : own_value_of_unit (unit_of unit) ≡ own_value_of unit
+  own_value_same = ap (λ f. cond f (own_name unit ∷ []) []) (is_function_made unit)
 
   role_same : (x : Name) → role_in_unit (unit_of unit) x ≡ role_of unit x
   role_same x =
       λ i. cond (is_among x (dummies_of unit)) Dummy (cond (common_same x i) InCommon (cond (is_among x (own_value_same i)) OwnValue Local))
 
-  own_value_is : (f : Bool) (x y : Name) → IsIn x (cond f (y ∷ []) []) → (f ≡ true) × (y ≡ x)
+  pub own_value_is : (f : Bool) (x y : Name) → IsIn x (cond f (y ∷ []) []) → (f ≡ true) × (y ≡ x)
   own_value_is true x y (here e) = (refl, e)
   own_value_is true x y (there m) = elim m [ ]
   own_value_is false x y m = elim m [ ]

@@ -12,34 +12,12 @@ use Rattle.fort_syntax.specs.declared.name.Name.{Name}
 use Rattle.fort_syntax.specs.declared.stmt.Item.{Item}
 use Rattle.fort_syntax.specs.declared.stmt.Stmt.{Stmt}
 use Rattle.fort_syntax.specs.declared.unit.Line.{Line}
-use Rattle.deck_laws.proofs.Tests.{first_false, second_false, both_true, first_true, second_true, not_false, clash, is_false}
+use Rattle.deck_laws.proofs.Tests.{first_false, second_false, both_true, first_true, second_true, not_false, clash, is_false, three_false, six_false}
+use Rattle.deck_laws.proofs.Lists.{flat_joined}
 use Rattle.deck_laws.proofs.Members.{IsIn, in_left, in_right, in_either, either, none_of, some_in, in_some}
 use Rattle.deck_laws.proofs.Names.{not_in, meet_not, same_names, joined_without_twin}
 use Rattle.deck_laws.proofs.Keeping.{KeepsRules, place, found}
 use Rattle.deck_laws.proofs.Given.{Given}
-
-pub six_false : (a b c d e f : Bool) → (a || b || c || d || e || f) ≡ false
-    → (a ≡ false) × (b ≡ false) × (c ≡ false) × (d ≡ false) × (e ≡ false) × (f ≡ false)
-six_false a b c d e f h =
-    let five = first_false (a || b || c || d || e) f h in
-    let four = first_false (a || b || c || d) e five in
-    let three = first_false (a || b || c) d four in
-    let two = first_false (a || b) c three in (
-      first_false a b two,
-      second_false a b two,
-      second_false (a || b) c three,
-      second_false (a || b || c) d four,
-      second_false (a || b || c || d) e five,
-      second_false (a || b || c || d || e) f h,
-    )
-
-pub three_false : (a b c : Bool) → (a || b || c) ≡ false → (a ≡ false) × (b ≡ false) × (c ≡ false)
-three_false a b c h =
-    let two = first_false (a || b) c h in (first_false a b two, second_false a b two, second_false (a || b) c h)
-
-pub flat_joined : {A B : Type 0} (f : A → List B) (xs ys : List A) → flat_map f (xs ++ ys) ≡ flat_map f xs ++ flat_map f ys
-flat_joined f [] ys = refl
-flat_joined f (x ∷ xs) ys = ap (λ zs. f x ++ zs) (flat_joined f xs ys) ∙ sym (append_assoc (f x) (flat_map f xs) (flat_map f ys))
 
 pub one_more : {A : Type 0} (give : Stmt → List A) (before : List Line) (line : Line)
     → gathered give (before ++ line ∷ []) ≡ gathered give before ++ give line.stmt

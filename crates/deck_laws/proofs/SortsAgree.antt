@@ -18,28 +18,10 @@ use Rattle.fort_syntax.specs.declared.stmt.Param.{Param}
 use Rattle.fort_syntax.specs.declared.stmt.Param.TheVariants as parameter
 use Rattle.fort_syntax.specs.declared.stmt.Stmt.{Stmt}
 use Rattle.fort_syntax.specs.declared.stmt.Stmt.TheVariants.{Assign, Computed, ArithIf, LogicalIf', Do, Call, BlockIf, ElseIf}
-use Rattle.deck_laws.proofs.Tests.{second_true}
+use Rattle.deck_laws.proofs.Tests.{second_true, and_same}
+use Rattle.deck_laws.proofs.Lists.{all_same, joined_same}
 use Rattle.deck_laws.proofs.Members.{IsIn, here, there, in_left, in_right}
 use Rattle.fort_syntax.specs.WellFormed.{is_left_side, may_be_carried, has_right_form}
-
-and_same : {a b c e : Bool} → a ≡ b → c ≡ e → (a && c) ≡ (b && e)
-and_same p q = λ i. p i && q i
-
-pub all_same : {A : Type 0} (p q : A → Bool) (xs : List A) → ((x : A) → p x ≡ q x) → list_all p xs ≡ list_all q xs
-all_same p q [] h = refl
-all_same p q (x ∷ xs) h = and_same (h x) (all_same p q xs h)
-
-and_assoc : (a b c : Bool) → (a && (b && c)) ≡ ((a && b) && c)
-and_assoc true b c = refl
-and_assoc false b c = refl
-
-all_joined : {A : Type 0} (p : A → Bool) (xs ys : List A) → list_all p (xs ++ ys) ≡ (list_all p xs && list_all p ys)
-all_joined p [] ys = refl
-all_joined p (x ∷ xs) ys = ap (λ b. p x && b) (all_joined p xs ys) ∙ and_assoc (p x) (list_all p xs) (list_all p ys)
-
-joined_same : {A : Type 0} (p q : A → Bool) (xs ys : List A) → list_all p xs ≡ list_all q xs → list_all p ys ≡ list_all q ys
-    → list_all p (xs ++ ys) ≡ list_all q (xs ++ ys)
-joined_same p q xs ys h k = all_joined p xs ys ∙ (and_same h k ∙ sym (all_joined q xs ys))
 
 module _ (a b : Name → Option Sort) (dims : Name → List Dim) where
   abbrev pub one : Scope

@@ -27,8 +27,9 @@ use Rattle.fort_syntax.specs.declared.stmt.Param.TheVariants as parameter
 use Rattle.fort_syntax.specs.declared.stmt.Stmt.{Stmt}
 use Rattle.fort_syntax.specs.declared.stmt.Stmt.TheVariants.{Declare, Dimension, Assign, GoTo, Computed, ArithIf, LogicalIf', Do, Continue, Call, Return, BlockIf, ElseIf, Else, EndIf}
 use Rattle.deck_laws.proofs.Tests.{both_true}
+use Rattle.deck_laws.proofs.Lists.{all_joined}
 use Rattle.deck_laws.proofs.Members.{IsIn, in_map, in_kept, all_of}
-use Rattle.deck_laws.proofs.SpelledNames.{all_joined, listed_pass}
+use Rattle.deck_laws.proofs.SpelledNames.{listed_pass}
 
 -- ---- constants
 
@@ -107,16 +108,13 @@ left_numbers (Not' m a) t h = absurd h
 left_numbers (And' m a n b) t h = absurd h
 left_numbers (Or' m a n b) t h = absurd h
 
-row_numbers : (es : List Expr) → list_all has_right_numbers (parts_of_row (row_of es)) ≡ true → list_all has_right_numbers (flat_map parts es) ≡ true
-row_numbers es h = ap (list_all has_right_numbers) (as_row es) ∙ h
-  where
-    as_row : (xs : List Expr) → flat_map parts xs ≡ parts_of_row (row_of xs)
-    as_row [] = refl
-    as_row (x ∷ xs) = ap (λ ys. parts x ++ ys) (as_row xs)
+in_row : (es : List Expr) → flat_map parts es ≡ parts_of_row (row_of es)
+in_row [] = refl
+in_row (e ∷ es) = ap (λ others. parts e ++ others) (in_row es)
 
 actuals_numbers : (es : List Expr) (t : List ℕ) → grammar.actuals es t → list_all has_right_numbers (flat_map parts es) ≡ true
 actuals_numbers [] t h = refl
-actuals_numbers (e ∷ es) t h = row_numbers (e ∷ es) (arguments_numbers (row_of (e ∷ es)) h.4.0 h.4.3)
+actuals_numbers (e ∷ es) t h = ap (list_all has_right_numbers) (in_row (e ∷ es)) ∙ arguments_numbers (row_of (e ∷ es)) h.4.0 h.4.3
 
 condition_numbers : (e : Expr) (t : List ℕ) → grammar.condition e t → list_all has_right_numbers (parts e) ≡ true
 condition_numbers e t h = expression_numbers e h.4.0 h.4.3

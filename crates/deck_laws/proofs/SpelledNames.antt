@@ -28,19 +28,10 @@ use Rattle.fort_syntax.specs.declared.stmt.Param.{Param}
 use Rattle.fort_syntax.specs.declared.stmt.Param.TheVariants as parameter
 use Rattle.fort_syntax.specs.declared.stmt.Stmt.{Stmt}
 use Rattle.fort_syntax.specs.declared.stmt.Stmt.TheVariants.{Subroutine, Function, Declare, Dimension, Common, Assign, Computed, ArithIf, LogicalIf', Do, Call, BlockIf, ElseIf}
+use Rattle.deck_laws.proofs.Lists.{all_joined, all_flat}
 use Rattle.deck_laws.proofs.Tests.{first_true, second_true, both_true}
 
 -- ---- lists of texts
-
-pub all_joined : {A : Type 0} (test : A → Bool) (xs ys : List A) → list_all test xs ≡ true → list_all test ys ≡ true → list_all test (xs ++ ys) ≡ true
-all_joined test [] ys h k = k
-all_joined test (x ∷ xs) ys h k = both_true (first_true (test x) (list_all test xs) h) (all_joined test xs ys (second_true (test x) (list_all test xs) h) k)
-
-pub all_flat : {A B : Type 0} (test : B → Bool) (f : A → List B) (xs : List A) → list_all (λ x. list_all test (f x)) xs ≡ true → list_all test (flat_map f xs) ≡ true
-all_flat test f [] h = refl
-all_flat test f (x ∷ xs) h =
-    all_joined test (f x) (flat_map f xs) (first_true (list_all test (f x)) (list_all (λ y. list_all test (f y)) xs) h)
-    (all_flat test f xs (second_true (list_all test (f x)) (list_all (λ y. list_all test (f y)) xs) h))
 
 more_pass : {T : Type 0} (P : T → Texts) (test : T → Bool) → ((x : T) (t : List ℕ) → P x t → test x ≡ true)
     → (xs : List T) (t : List ℕ) → grammar.more_listed P xs t → list_all test xs ≡ true
@@ -81,9 +72,6 @@ name_named x t h = is_a_name x h.1
 
 abbrev pub is_named : Occurrence → Bool
 is_named o = is_name o.name
-
-named_first : (o : Occurrence) (more : List Occurrence) → is_name o.name ≡ true → list_all is_named more ≡ true → list_all is_named (o ∷ more) ≡ true
-named_first o more h k = both_true h k
 
 mutual
   pub expression_named : (how : Use) (e : Expr) (t : List ℕ) → expression e t → list_all is_named (uses_in how e) ≡ true
@@ -140,24 +128,13 @@ step_named : (p : Option Param) (t : List ℕ) → grammar.step p t → list_all
 step_named None t h = refl
 step_named (Some p) t h = param_named p h.1 h.4
 
-row_named : (es : List Expr) → list_all is_named (uses_in_row actual (row_of es)) ≡ true → list_all is_named (flat_map (uses_in actual) es) ≡ true
-row_named [] h = refl
-row_named (e ∷ es) h = all_joined is_named (uses_in actual e) (flat_map (uses_in actual) es)
-    (first_of_joined (uses_in actual e) (uses_in_row actual (row_of es)) h)
-    (row_named es (second_of_joined (uses_in actual e) (uses_in_row actual (row_of es)) h))
-  where
-    first_of_joined : (xs ys : List Occurrence) → list_all is_named (xs ++ ys) ≡ true → list_all is_named xs ≡ true
-    first_of_joined [] ys k = refl
-    first_of_joined (x ∷ xs) ys k =
-        both_true (first_true (is_named x) (list_all is_named (xs ++ ys)) k) (first_of_joined xs ys (second_true (is_named x) (list_all is_named (xs ++ ys)) k))
-
-    second_of_joined : (xs ys : List Occurrence) → list_all is_named (xs ++ ys) ≡ true → list_all is_named ys ≡ true
-    second_of_joined [] ys k = k
-    second_of_joined (x ∷ xs) ys k = second_of_joined xs ys (second_true (is_named x) (list_all is_named (xs ++ ys)) k)
+in_row : (es : List Expr) → flat_map (uses_in actual) es ≡ uses_in_row actual (row_of es)
+in_row [] = refl
+in_row (e ∷ es) = ap (λ uses. uses_in actual e ++ uses) (in_row es)
 
 actuals_named : (es : List Expr) (t : List ℕ) → grammar.actuals es t → list_all is_named (flat_map (uses_in actual) es) ≡ true
 actuals_named [] t h = refl
-actuals_named (e ∷ es) t h = row_named (e ∷ es) (arguments_named actual (row_of (e ∷ es)) h.4.0 h.4.3)
+actuals_named (e ∷ es) t h = ap (list_all is_named) (in_row (e ∷ es)) ∙ arguments_named actual (row_of (e ∷ es)) h.4.0 h.4.3
 
 condition_named : (e : Expr) (t : List ℕ) → grammar.condition e t → list_all is_named (uses_in read e) ≡ true
 condition_named e t h = expression_named read e h.4.0 h.4.3

@@ -72,3 +72,29 @@ pub same_test : {a b : Bool} → (a ≡ true → b ≡ true) → (b ≡ true →
 same_test {a = true} h k = sym (h refl)
 same_test {a = false} {b = true} h k = k refl
 same_test {a = false} {b = false} h k = refl
+
+pub and_same : {a b c e : Bool} → a ≡ b → c ≡ e → (a && c) ≡ (b && e)
+and_same p q = λ i. p i && q i
+
+pub and_assoc : (a b c : Bool) → (a && (b && c)) ≡ ((a && b) && c)
+and_assoc true b c = refl
+and_assoc false b c = refl
+
+pub six_false : (a b c d e f : Bool) → (a || b || c || d || e || f) ≡ false
+    → (a ≡ false) × (b ≡ false) × (c ≡ false) × (d ≡ false) × (e ≡ false) × (f ≡ false)
+six_false a b c d e f h =
+    let five = first_false (a || b || c || d || e) f h in
+    let four = first_false (a || b || c || d) e five in
+    let three = first_false (a || b || c) d four in
+    let two = first_false (a || b) c three in (
+      first_false a b two,
+      second_false a b two,
+      second_false (a || b) c three,
+      second_false (a || b || c) d four,
+      second_false (a || b || c || d) e five,
+      second_false (a || b || c || d || e) f h,
+    )
+
+pub three_false : (a b c : Bool) → (a || b || c) ≡ false → (a ≡ false) × (b ≡ false) × (c ≡ false)
+three_false a b c h =
+    let two = first_false (a || b) c h in (first_false a b two, second_false a b two, second_false (a || b) c h)

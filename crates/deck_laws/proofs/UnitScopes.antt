@@ -1,8 +1,8 @@
 -- What a unit made of statements says of names, and what its declarations say.
 use Rattle.std.proofs.Common.{◌≡◌, Bool, true, false, cond, List, [], ◌∷◌, map, Option, Some, None, refl, sym, ap, ◌∙◌, rules}
-use Rattle.std.specs.Prelude.{is_none}
+use Rattle.std.specs.Prelude.{is_none, is_some}
 use Rattle.fort_syntax.specs.Scopes.{same_name, is_among, is_array, is_given_dims}
-use Rattle.fort_syntax.specs.Units.{Segment, gathered, names_in, data_names, functions_of, data_name_of, function_name_of, scope_of, sort_or_integer, unit_of}
+use Rattle.fort_syntax.specs.Units.{own_name, is_function, Segment, gathered, names_in, data_names, functions_of, data_name_of, function_name_of, scope_of, sort_or_integer, unit_of}
 use Rattle.fort_syntax.specs.WellFormed.{sort_of_function, sort_among, dims_among, scope_of_unit, names_of_unit, functions_of_unit}
 use Rattle.fort_syntax.specs.declared.dialect.Dialect.{Dialect}
 use Rattle.fort_syntax.specs.declared.dialect.Sort.{Sort}
@@ -113,3 +113,11 @@ module _ (unit : Segment) where
   -- the scope of the unit, with the dimensions of its declarations
   pub scope_is : scope_of_unit (unit_of unit) ≡ record { sort = (scope_of_unit (unit_of unit)).sort; dims = (scope_of unit).dims }
   scope_is = λ i. record { sort = (scope_of_unit (unit_of unit)).sort; dims = λ x. dims_agree x i }
+
+  some_is : (f : Bool) (s : Sort) → is_some (cond f (Some s) None) ≡ f
+  some_is true s = refl
+  some_is false s = refl
+
+  -- the unit is a FUNCTION where its head is that of one
+  pub is_function_made : is_some (unit_of unit).sort ≡ is_function unit
+  is_function_made = some_is (is_function unit) (sort_or_integer ((scope_of unit).sort (own_name unit)))
