@@ -24,7 +24,8 @@ first : (kind : CardKind) (number : ℕ) (c : Card) (rest : List Card) (more : L
     → Above number (begun_by kind number c rest ++ more)
 first InitialCard number c rest more h card below =
     ap (λ b. b && entries_ascend_above number more) (above card number below) ∙ h number (omega arith)
-first NoteCard number c rest more h card below = noted_first (is_plus c) card number (note_text c ++ noted rest) more (h card (omega arith))
+first NoteCard number c rest more h card below =
+    noted_first (is_plus c) card number (note_text c ++ noted rest) more (h card (omega arith))
 first CommentCard number c rest more h card below = h card (omega arith)
 first ContinuationCard number c rest more h card below = h card (omega arith)
 

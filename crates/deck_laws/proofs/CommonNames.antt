@@ -30,7 +30,8 @@ times_joined x [] ys = let same : 0 + times x ys ≡ times x ys = omega arith in
 times_joined x (y ∷ xs) ys =
     let h = times_joined x xs ys in
     ap (λ n. one_if (same_name x y) + n) h
-    ∙ (let same : one_if (same_name x y) + (times x xs + times x ys) ≡ one_if (same_name x y) + times x xs + times x ys = omega arith in same)
+    ∙ (let same : one_if (same_name x y) + (times x xs + times x ys) ≡ one_if
+    (same_name x y) + times x xs + times x ys = omega arith in same)
 
 never : (x : Name) (xs : List Name) → ¬ IsIn x xs → times x xs ≡ 0
 never x [] h = refl
@@ -51,7 +52,9 @@ once_at_most x (y ∷ ys) h =
     let rest = once_at_most x ys (second_false (is_among y ys) (has_twin ys) h) in
     case (same_name x y)
     (λ t. let e = ap one_if t in
-    let none = never x ys (subst (λ z. ¬ IsIn z ys) (sym (same_names x y t)) (not_in y ys (first_false (is_among y ys) (has_twin ys) h))) in omega arith)
+    let none = never x ys
+    (subst (λ z. ¬ IsIn z ys) (sym (same_names x y t))
+    (not_in y ys (first_false (is_among y ys) (has_twin ys) h))) in omega arith)
     (λ f. let e = ap one_if f in omega arith)
 
 no_twin : (xs : List Name) → ((x : Name) → times x xs ≤ 1) → has_twin xs ≡ false
@@ -82,7 +85,8 @@ names_if : (s : Bool) (items : List Item) → names_of_items (cond s items []) �
 names_if true items = refl
 names_if false items = refl
 
-one_group : (g : Group) (groups : List Group) (b : Name) → in_block (g ∷ groups) b ≡ if_named (name_of_block g.block) (of_group g) b ++ in_block groups b
+one_group : (g : Group) (groups : List Group) (b : Name)
+    → in_block (g ∷ groups) b ≡ if_named (name_of_block g.block) (of_group g) b ++ in_block groups b
 one_group g groups b =
     map_joined (λ i. i.name) (cond (same_name (name_of_block g.block) b) g.items []) (items_of_block_in groups b)
     ∙ ap (λ zs. zs ++ in_block groups b) (names_if (same_name (name_of_block g.block) b) g.items)
@@ -94,8 +98,10 @@ times_groups x g groups [] = refl
 times_groups x g groups (b ∷ bs) =
     let h = times_groups x g groups bs in
     let first = times_joined x (in_block (g ∷ groups) b) (flat_map (in_block (g ∷ groups)) bs) in
-    let split = ap (times x) (one_group g groups b) ∙ times_joined x (if_named (name_of_block g.block) (of_group g) b) (in_block groups b) in
-    let left = times_joined x (if_named (name_of_block g.block) (of_group g) b) (flat_map (if_named (name_of_block g.block) (of_group g)) bs) in
+    let split = ap (times x) (one_group g groups b) ∙ times_joined x (if_named (name_of_block g.block) (of_group g) b)
+    (in_block groups b) in
+    let left = times_joined x (if_named (name_of_block g.block) (of_group g) b)
+    (flat_map (if_named (name_of_block g.block) (of_group g)) bs) in
     let right = times_joined x (in_block groups b) (flat_map (in_block groups) bs) in
     omega arith
 
@@ -108,13 +114,16 @@ of_none x c names (b ∷ bs) h =
     omega arith
 
 -- each group counts for one block at most
-of_one : (x c : Name) (names bs : List Name) → has_twin bs ≡ false → times x (flat_map (if_named c names) bs) ≤ times x names
+of_one : (x c : Name) (names bs : List Name) → has_twin bs ≡ false
+    → times x (flat_map (if_named c names) bs) ≤ times x names
 of_one x c names [] h = omega arith
 of_one x c names (b ∷ bs) h =
     let joined = times_joined x (if_named c names b) (flat_map (if_named c names) bs) in
     case (same_name c b)
     (λ t. let one = ap (λ s. times x (cond s names [])) t in
-    let none = of_none x c names bs (subst (λ z. ¬ IsIn z bs) (sym (same_names c b t)) (not_in b bs (first_false (is_among b bs) (has_twin bs) h))) in omega arith)
+    let none = of_none x c names bs
+    (subst (λ z. ¬ IsIn z bs) (sym (same_names c b t))
+    (not_in b bs (first_false (is_among b bs) (has_twin bs) h))) in omega arith)
     (λ f. let none = ap (λ s. times x (cond s names [])) f in
     let rest = of_one x c names bs (second_false (is_among b bs) (has_twin bs) h) in omega arith)
 
@@ -149,11 +158,13 @@ module _ (unit : Segment) where
   commons_by_blocks : commons_of_unit (unit_of unit) ≡ flat_map (in_block all_groups) (once (gathered blocks_by unit))
   commons_by_blocks =
       flat_map_of (λ g. names_of_items g.items) (group_of unit) (once (gathered blocks_by unit))
-      ∙ flat_same (λ b. names_of_items (group_of unit b).items) (in_block all_groups) (once (gathered blocks_by unit)) block_names
+      ∙ flat_same (λ b. names_of_items (group_of unit b).items) (in_block all_groups)
+      (once (gathered blocks_by unit)) block_names
 
   commons_by_groups : gathered commons_by unit ≡ flat_map of_group all_groups
   commons_by_groups =
-      flat_same (λ l. commons_by l.stmt) (λ l. flat_map of_group (groups_by l.stmt)) unit (λ l. map_flat (λ i. i.name) (λ g. g.items) (groups_by l.stmt))
+      flat_same (λ l. commons_by l.stmt) (λ l. flat_map of_group (groups_by l.stmt)) unit
+      (λ l. map_flat (λ i. i.name) (λ g. g.items) (groups_by l.stmt))
       ∙ sym (flat_flat of_group (λ l. groups_by l.stmt) unit)
 
   pub commons_are : gathered commons_by unit ≡ commons_of unit
@@ -163,7 +174,8 @@ module _ (unit : Segment) where
   no_common_twice h =
       no_twin (commons_of_unit (unit_of unit))
       (λ x. let most = once_at_most x (gathered commons_by unit) h in
-      let few = blocks_at_most x all_groups (once (gathered blocks_by unit)) (once_without_twin (gathered blocks_by unit)) in
+      let few = blocks_at_most x all_groups (once (gathered blocks_by unit))
+      (once_without_twin (gathered blocks_by unit)) in
       let p = ap (times x) commons_by_blocks in
       let q = ap (times x) commons_by_groups in omega arith)
 
@@ -188,7 +200,8 @@ module _ (unit : Segment) where
       let i = map_in (λ j. j.name) (items_of_block_in all_groups b) m in
       let h = flat_in (λ k. cond (same_name (name_of_block k.block) b) k.items []) all_groups i.1 in
       in_flat of_group all_groups h.1
-      (subst (λ z. IsIn z (of_group h.0)) i.2 (in_map (λ j. j.name) h.0.items (if_of (same_name (name_of_block h.0.block) b) h.0.items h.2)))
+      (subst (λ z. IsIn z (of_group h.0)) i.2
+      (in_map (λ j. j.name) h.0.items (if_of (same_name (name_of_block h.0.block) b) h.0.items h.2)))
 
   as_common : (x : Name) → IsIn x (flat_map of_group all_groups) → IsIn x (commons_of unit)
   as_common x m = subst (λ z. IsIn x z) (sym commons_by_groups ∙ commons_are) m
@@ -197,7 +210,8 @@ module _ (unit : Segment) where
   pub block_in_common : (x b : Name) → IsIn x (names_of_items (items_of_block unit b)) → IsIn x (commons_of unit)
   block_in_common x b m = as_common x (common_of_block x b m)
 
-  blocks_of_common : (x : Name) → IsIn x (flat_map of_group all_groups) → IsIn x (flat_map (in_block all_groups) (once (gathered blocks_by unit)))
+  blocks_of_common : (x : Name) → IsIn x (flat_map of_group all_groups)
+      → IsIn x (flat_map (in_block all_groups) (once (gathered blocks_by unit)))
   blocks_of_common x m =
       let h = flat_in of_group all_groups m in
       let i = map_in (λ j. j.name) h.0.items h.2 in
@@ -210,12 +224,14 @@ module _ (unit : Segment) where
 
   pub common_in : (x : Name) → IsIn x (commons_of_unit (unit_of unit)) → IsIn x (commons_of unit)
   common_in x m =
-      let b = flat_in (in_block all_groups) (once (gathered blocks_by unit)) (subst (λ z. IsIn x z) commons_by_blocks m) in
+      let b = flat_in (in_block all_groups) (once (gathered blocks_by unit))
+      (subst (λ z. IsIn x z) commons_by_blocks m) in
       block_in_common x b.0 b.2
 
   pub in_common : (x : Name) → IsIn x (commons_of unit) → IsIn x (commons_of_unit (unit_of unit))
   in_common x m =
-      subst (λ z. IsIn x z) (sym commons_by_blocks) (blocks_of_common x (subst (λ z. IsIn x z) (sym commons_are ∙ commons_by_groups) m))
+      subst (λ z. IsIn x z) (sym commons_by_blocks)
+      (blocks_of_common x (subst (λ z. IsIn x z) (sym commons_are ∙ commons_by_groups) m))
 
   -- each COMMON entity is an item of a statement
   common_is_item : (s : Stmt) (i : Item) → IsIn i (common_items_by s) → IsIn i (items_by s)
@@ -227,8 +243,11 @@ module _ (unit : Segment) where
   common_is_named x m =
       let i = map_in (λ j. j.name) (gathered common_items_by unit) m in
       let w = gathered_in common_items_by unit i.1 in
-      subst (λ z. IsIn z (gathered names_in unit)) i.2 (item_is_named unit w.0 w.1 i.0 (common_is_item w.0.stmt i.0 w.2))
+      subst (λ z. IsIn z (gathered names_in unit)) i.2
+      (item_is_named unit w.0 w.1 i.0 (common_is_item w.0.stmt i.0 w.2))
 
   pub common_is_data : (x : Name) → IsIn x (commons_of unit) → IsIn x (data_names unit)
   common_is_data x m =
-      held_is_data unit x (common_is_named x m) (in_left (dummies_of unit ++ commons_of unit) (own_value_of unit) (in_right (dummies_of unit) (commons_of unit) m))
+      held_is_data unit x (common_is_named x m)
+      (in_left (dummies_of unit ++ commons_of unit) (own_value_of unit)
+      (in_right (dummies_of unit) (commons_of unit) m))

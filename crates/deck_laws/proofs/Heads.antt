@@ -59,11 +59,13 @@ module _ (d : Dialect) (earlier : List Segment) (unit : Segment) (g : Given d ea
       → (is_function unit ≡ true) × (own_name unit ≡ headed_by line.stmt)
   function_first line m h = let f = found line unit m in by f.before f.behind f.whole
     where
-      by : (before behind : List Line) → before ++ (line ∷ behind) ≡ unit → (is_function unit ≡ true) × (own_name unit ≡ headed_by line.stmt)
+      by : (before behind : List Line) → before ++ (line ∷ behind) ≡ unit → (is_function unit ≡ true)
+          × (own_name unit ≡ headed_by line.stmt)
       by [] behind e = (ap is_function (sym e) ∙ h, ap own_name (sym e))
       by (b ∷ bs) behind e =
           absurd (clash (function_heads line.stmt h)
-          (no_first (first_false (is_heading (class_of line.stmt) && true) (is_declaring (class_of line.stmt) && has_executable (b ∷ bs)) (g.keeps (b ∷ bs) line behind e).order)))
+          (no_first (first_false (is_heading (class_of line.stmt) && true)
+          (is_declaring (class_of line.stmt) && has_executable (b ∷ bs)) (g.keeps (b ∷ bs) line behind e).order)))
 
   -- the value of a FUNCTION is assigned, so its name is used bare
   own_value_no_reference : is_function unit ≡ true → ¬ IsIn (own_name unit) (references_of unit)
@@ -71,17 +73,22 @@ module _ (d : Dialect) (earlier : List Segment) (unit : Segment) (g : Given d ea
       let given : not (assigns (own_name unit) (gathered uses_of unit)) ≡ false =
       other_false (is_function unit) (not (assigns (own_name unit) (gathered uses_of unit)))
       (g.keeps [] g.part.head g.part.rest (sym g.part.whole)).result f in
-      let o = some_in (λ p. same_name p.name (own_name unit) && is_assigned p.«use») (gathered uses_of unit) (of_not_false given) in
+      let o = some_in (λ p. same_name p.name (own_name unit) && is_assigned p.«use») (gathered uses_of unit)
+      (of_not_false given) in
       let w = gathered_in uses_of unit o.1 in
       bare_no_reference d earlier unit g w.0 w.1 o.0 w.2
       (assigned_is_bare o.0.«use» (second_true (same_name o.0.name (own_name unit)) (is_assigned o.0.«use») o.2))
-      (subst (λ z. IsIn z (references_of unit)) (sym (same_names o.0.name (own_name unit) (first_true (same_name o.0.name (own_name unit)) (is_assigned o.0.«use») o.2))) r)
+      (subst (λ z. IsIn z (references_of unit))
+      (sym (same_names o.0.name (own_name unit)
+      (first_true (same_name o.0.name (own_name unit)) (is_assigned o.0.«use») o.2))) r)
 
   -- the own name of a SUBROUTINE is used by CALLs alone
-  own_used : is_function unit ≡ false → (line : Line) → IsIn line unit → (o : Occurrence) → IsIn o (uses_of line.stmt) → is_called o.«use» ≡ false
+  own_used : is_function unit ≡ false → (line : Line) → IsIn line unit → (o : Occurrence) → IsIn o (uses_of line.stmt)
+      → is_called o.«use» ≡ false
       → o.name ≡ own_name unit → ⊥
   own_used f line m o k c e =
-      clash (both_true (both_true (not_false c) (not_false f)) (are_same o.name (own_name unit) e)) (kinds_at d earlier unit g line m o k).2
+      clash (both_true (both_true (not_false c) (not_false f)) (are_same o.name (own_name unit) e))
+      (kinds_at d earlier unit g line m o k).2
 
   -- no unit references itself
   pub own_no_reference : ¬ IsIn (own_name unit) (references_of unit)
@@ -96,11 +103,15 @@ module _ (d : Dialect) (earlier : List Segment) (unit : Segment) (g : Given d ea
   own_gathered_no_dummy m = let w = gathered_in dummies_by unit m in own_no_dummy d earlier unit g w.0 w.1 w.2
 
   -- a name that is a dimension, and that of its array, are dummies, and the first is an integer scalar
-  pub dim_is_dummy : (line : Line) → IsIn line unit → (i : Item) → IsIn i (items_by line.stmt) → (x : Name) → IsIn x (names_in_dims i.dims)
-      → (is_among i.name (dummies_of unit) ≡ true) × (is_among x (dummies_of unit) ≡ true) × (is_integer_scalar (scope_of unit) x ≡ true)
+  pub dim_is_dummy : (line : Line) → IsIn line unit → (i : Item) → IsIn i (items_by line.stmt) → (x : Name)
+      → IsIn x (names_in_dims i.dims)
+      → (is_among i.name (dummies_of unit) ≡ true) × (is_among x (dummies_of unit) ≡ true)
+      × (is_integer_scalar (scope_of unit) x ≡ true)
   dim_is_dummy line m i k x n =
-      let none = none_of (λ y. not (is_among i.name (dummies_of unit)) || not (may_be_dim unit y)) (names_in_dims i.dims) (adjusted_at d earlier unit g line m i k) n in
-      let may = of_not_false (second_false (not (is_among i.name (dummies_of unit))) (not (may_be_dim unit x)) none) in (
+      let none = none_of (λ y. not (is_among i.name (dummies_of unit)) || not (may_be_dim unit y))
+      (names_in_dims i.dims) (adjusted_at d earlier unit g line m i k) n in
+      let may = of_not_false
+      (second_false (not (is_among i.name (dummies_of unit))) (not (may_be_dim unit x)) none) in (
         of_not_false (first_false (not (is_among i.name (dummies_of unit))) (not (may_be_dim unit x)) none),
         first_true (is_among x (dummies_of unit)) (is_integer_scalar (scope_of unit) x) may,
         second_true (is_among x (dummies_of unit)) (is_integer_scalar (scope_of unit) x) may,
@@ -119,10 +130,12 @@ module _ (d : Dialect) (earlier : List Segment) (unit : Segment) (g : Given d ea
           let s = g.part.spelled line l in
           either (item_declared d line.stmt s.0 s.1.0 i k)
           (λ t. own_untyped d earlier unit g line l (subst (λ z. IsIn z (typed_by line.stmt)) e t))
-          (λ r. either r (λ t. own_undimensioned d earlier unit g line l (subst (λ z. IsIn z (dimensioned_by line.stmt)) e t))
+          (λ r. either r (λ t. own_undimensioned d earlier unit g line l
+          (subst (λ z. IsIn z (dimensioned_by line.stmt)) e t))
           (λ t. own_no_common d earlier unit g line l (subst (λ z. IsIn z (commons_by line.stmt)) e t)))
       no_name line l (dim i k n) =
-          own_gathered_no_dummy (among_in (own_name unit) (dummies_of unit) (dim_is_dummy line l i k (own_name unit) n).1)
+          own_gathered_no_dummy
+          (among_in (own_name unit) (dummies_of unit) (dim_is_dummy line l i k (own_name unit) n).1)
       no_name line l (used o k c e) = own_used f line l o k c e
 
   -- the value of a FUNCTION stands in a statement

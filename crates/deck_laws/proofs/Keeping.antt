@@ -32,20 +32,25 @@ pub record KeepsRules (p : Place) : Type 0 where
   pub adjustable : breaks_25 p ≡ false
   pub nesting : breaks_50 p ≡ false
 
-unbroken_or : (b : Bool) (rule : Rule) (more : Option Rule) → cond b (Some rule) more ≡ None → (b ≡ false) × (more ≡ None)
+unbroken_or : (b : Bool) (rule : Rule) (more : Option Rule) → cond b (Some rule) more ≡ None → (b ≡ false)
+    × (more ≡ None)
 unbroken_or true rule more h = search rules
 unbroken_or false rule more h = (refl, h)
 
-none_broken : (rules : List Rule) (p : Place) → first_broken rules p ≡ None → (rule : Rule) → IsIn rule rules → breaks rule p ≡ false
+none_broken : (rules : List Rule) (p : Place) → first_broken rules p ≡ None → (rule : Rule) → IsIn rule rules
+    → breaks rule p ≡ false
 none_broken [] p h rule m = elim m [ ]
-none_broken (r ∷ rs) p h rule (here e) = ap (λ z. breaks z p) (sym e) ∙ (unbroken_or (breaks r p) r (first_broken rs p) h).0
+none_broken (r ∷ rs) p h rule (here e) =
+    ap (λ z. breaks z p) (sym e) ∙ (unbroken_or (breaks r p) r (first_broken rs p) h).0
 none_broken (r ∷ rs) p h rule (there m) = none_broken rs p (unbroken_or (breaks r p) r (first_broken rs p) h).1 rule m
 
-no_fault_or : (o : Option Rule) (card : ℕ) (later : Option Fault) → fault_or o card later ≡ None → (o ≡ None) × (later ≡ None)
+no_fault_or : (o : Option Rule) (card : ℕ) (later : Option Fault) → fault_or o card later ≡ None → (o ≡ None)
+    × (later ≡ None)
 no_fault_or (Some rule) card later h = search rules
 no_fault_or None card later h = (refl, h)
 
-stage_kept : (rules : List Rule) (all : List Place) → fault_in_stage rules all ≡ None → (p : Place) → IsIn p all → first_broken rules p ≡ None
+stage_kept : (rules : List Rule) (all : List Place) → fault_in_stage rules all ≡ None → (p : Place) → IsIn p all
+    → first_broken rules p ≡ None
 stage_kept rules [] h p m = elim m [ ]
 stage_kept rules (q ∷ qs) h p (here e) =
     ap (first_broken rules) (sym e) ∙ (no_fault_or (first_broken rules q) q.line.card (fault_in_stage rules qs) h).0
@@ -102,17 +107,21 @@ place d earlier unit before line behind =
 -- each place of a unit breaks no rule
 abbrev pub KeepsAll : Dialect → List Segment → Segment → Type 0
 KeepsAll d earlier unit =
-    (before : List Line) (line : Line) (behind : List Line) → before ++ (line ∷ behind) ≡ unit → KeepsRules (place d earlier unit before line behind)
+    (before : List Line) (line : Line) (behind : List Line) → before ++ (line ∷ behind) ≡ unit
+    → KeepsRules (place d earlier unit before line behind)
 
 -- where a statement of a unit stands
-pub place_in : (d : Dialect) (earlier : List Segment) (unit : Segment) (first lines before : List Line) (line : Line) (behind : List Line)
-    → before ++ (line ∷ behind) ≡ lines → IsIn (place d earlier unit (first ++ before) line behind) (places_in d earlier unit first lines)
+pub place_in : (d : Dialect) (earlier : List Segment) (unit : Segment) (first lines before : List Line) (line : Line)
+    (behind : List Line)
+    → before ++ (line ∷ behind) ≡ lines
+    → IsIn (place d earlier unit (first ++ before) line behind) (places_in d earlier unit first lines)
 place_in d earlier unit first lines [] line behind e =
     subst (λ z. IsIn (place d earlier unit (first ++ []) line behind) (places_in d earlier unit first z)) e
     (here (ap (λ z. place d earlier unit z line behind) (sym (append-nil first))))
 place_in d earlier unit first lines (b ∷ bs) line behind e =
     subst (λ z. IsIn (place d earlier unit (first ++ (b ∷ bs)) line behind) (places_in d earlier unit first z)) e
-    (there (subst (λ z. IsIn (place d earlier unit z line behind) (places_in d earlier unit (first ++ b ∷ []) (bs ++ (line ∷ behind))))
+    (there (subst (λ z. IsIn (place d earlier unit z line behind)
+    (places_in d earlier unit (first ++ b ∷ []) (bs ++ (line ∷ behind))))
     (append_assoc first (b ∷ []) bs)
     (place_in d earlier unit (first ++ b ∷ []) (bs ++ (line ∷ behind)) bs line behind refl)))
 
@@ -121,13 +130,15 @@ abbrev pub AllKeep : Dialect → List Segment → List Segment → Type 0
 AllKeep d earlier [] = ⊤
 AllKeep d earlier (unit ∷ units) = KeepsAll d earlier unit × AllKeep d (earlier ++ unit ∷ []) units
 
-pub all_keep : (d : Dialect) (earlier units : List Segment) → ((p : Place) → IsIn p (places_from d earlier units) → KeepsRules p)
+pub all_keep : (d : Dialect) (earlier units : List Segment)
+    → ((p : Place) → IsIn p (places_from d earlier units) → KeepsRules p)
     → AllKeep d earlier units
 all_keep d earlier [] h = tt
 all_keep d earlier (unit ∷ units) h = (
   λ before line behind e.
       h (place d earlier unit before line behind)
-      (in_left (places_in d earlier unit [] unit) (places_from d (earlier ++ unit ∷ []) units) (place_in d earlier unit [] unit before line behind e)),
+      (in_left (places_in d earlier unit [] unit) (places_from d (earlier ++ unit ∷ []) units)
+      (place_in d earlier unit [] unit before line behind e)),
   all_keep d (earlier ++ unit ∷ []) units
       (λ p m. h p (in_right (places_in d earlier unit [] unit) (places_from d (earlier ++ unit ∷ []) units) m)),
 )
@@ -143,4 +154,10 @@ pub record Found (line : Line) (lines : List Line) : Type 0 where
 pub found : (line : Line) (lines : List Line) → IsIn line lines → Found line lines
 found line [] m = elim m [ ]
 found line (x ∷ xs) (here e) = record { before = []; behind = xs; whole = ap (λ z. z ∷ xs) (sym e) }
-found line (x ∷ xs) (there m) = let f = found line xs m in record { before = x ∷ f.before; behind = f.behind; whole = ap (λ zs. x ∷ zs) f.whole }
+found line (x ∷ xs)
+    (there m) = let f = found line xs m in record {
+      before = x ∷ f.before;
+      behind = f.behind;
+      whole = ap
+          (λ zs. x ∷ zs) f.whole;
+    }

@@ -43,15 +43,18 @@ map_in f [] h = elim h [ ]
 map_in f (y ∷ xs) (here e) = (y, here refl, e)
 map_in f (y ∷ xs) (there h) = let m = map_in f xs h in (m.0, there m.1, m.2)
 
-pub in_flat : {A B : Type 0} (f : A → List B) {b : B} {x : A} (xs : List A) → IsIn x xs → IsIn b (f x) → IsIn b (flat_map f xs)
+pub in_flat : {A B : Type 0} (f : A → List B) {b : B} {x : A} (xs : List A) → IsIn x xs → IsIn b (f x)
+    → IsIn b (flat_map f xs)
 in_flat f [] h k = elim h [ ]
 in_flat f {b = b} (y ∷ xs) (here e) k = in_left (f y) (flat_map f xs) (subst (λ z. IsIn b (f z)) (sym e) k)
 in_flat f (y ∷ xs) (there h) k = in_right (f y) (flat_map f xs) (in_flat f xs h k)
 
-pub flat_in : {A B : Type 0} (f : A → List B) {b : B} (xs : List A) → IsIn b (flat_map f xs) → (x : A) × IsIn x xs × IsIn b (f x)
+pub flat_in : {A B : Type 0} (f : A → List B) {b : B} (xs : List A) → IsIn b (flat_map f xs) → (x : A) × IsIn x xs
+    × IsIn b (f x)
 flat_in f [] h = elim h [ ]
 flat_in f (y ∷ xs) h =
-    either (in_either (f y) (flat_map f xs) h) (λ k. (y, here refl, k)) (λ k. let m = flat_in f xs k in (m.0, there m.1, m.2))
+    either (in_either (f y) (flat_map f xs) h) (λ k. (y, here refl, k))
+    (λ k. let m = flat_in f xs k in (m.0, there m.1, m.2))
 
 if_kept : {A : Type 0} (t : Bool) (x : A) → t ≡ true → IsIn x (cond t (x ∷ []) [])
 if_kept true x h = here refl
@@ -78,20 +81,24 @@ all_of test [] h m = elim m [ ]
 all_of test (y ∷ xs) h (here e) = ap test (sym e) ∙ first_true (test y) (list_all test xs) h
 all_of test (y ∷ xs) h (there m) = all_of test xs (second_true (test y) (list_all test xs) h) m
 
-pub all_are : {A : Type 0} (test : A → Bool) (xs : List A) → ((x : A) → IsIn x xs → test x ≡ true) → list_all test xs ≡ true
+pub all_are : {A : Type 0} (test : A → Bool) (xs : List A) → ((x : A) → IsIn x xs → test x ≡ true)
+    → list_all test xs ≡ true
 all_are test [] h = refl
 all_are test (y ∷ xs) h = both_true (h y (here refl)) (all_are test xs (λ x m. h x (there m)))
 
-pub none_of : {A : Type 0} (test : A → Bool) {x : A} (xs : List A) → list_any test xs ≡ false → IsIn x xs → test x ≡ false
+pub none_of : {A : Type 0} (test : A → Bool) {x : A} (xs : List A) → list_any test xs ≡ false → IsIn x xs
+    → test x ≡ false
 none_of test [] h m = elim m [ ]
 none_of test (y ∷ xs) h (here e) = ap test (sym e) ∙ first_false (test y) (list_any test xs) h
 none_of test (y ∷ xs) h (there m) = none_of test xs (second_false (test y) (list_any test xs) h) m
 
-pub none_are : {A : Type 0} (test : A → Bool) (xs : List A) → ((x : A) → IsIn x xs → test x ≡ false) → list_any test xs ≡ false
+pub none_are : {A : Type 0} (test : A → Bool) (xs : List A) → ((x : A) → IsIn x xs → test x ≡ false)
+    → list_any test xs ≡ false
 none_are test [] h = refl
 none_are test (y ∷ xs) h = both_false (h y (here refl)) (none_are test xs (λ x m. h x (there m)))
 
-pub some_in : {A : Type 0} (test : A → Bool) (xs : List A) → list_any test xs ≡ true → (x : A) × IsIn x xs × (test x ≡ true)
+pub some_in : {A : Type 0} (test : A → Bool) (xs : List A) → list_any test xs ≡ true → (x : A) × IsIn x xs
+    × (test x ≡ true)
 some_in test [] h = search rules
 some_in test (y ∷ xs) h =
     case (test y) (λ t. (y, here refl, t))

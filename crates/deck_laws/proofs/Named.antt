@@ -8,7 +8,8 @@ use Rattle.fort_syntax.specs.declared.stmt.Stmt.{Stmt}
 use Rattle.fort_syntax.specs.declared.stmt.Stmt.TheVariants.{Subroutine, Function, Declare, Dimension, Common}
 use Rattle.deck_laws.proofs.Members.{IsIn, here, there, in_flat, flat_in}
 
--- a name is a dummy, or the one that a FUNCTION is headed by, or that of an item, or one in its dimensions, or is used otherwise than by a CALL
+-- a name is a dummy, or the one that a FUNCTION is headed by, or that of an item, or one in its dimensions, or
+-- is used otherwise than by a CALL
 pub data NamedAs (s : Stmt) (x : Name) : Type 0 where
   dummy : IsIn x (dummies_by s) → NamedAs s x
   function : is_function_head s ≡ true → headed_by s ≡ x → NamedAs s x
@@ -63,7 +64,8 @@ use_named (Function sort f dummies) o m e = elim m [ ]
 use_named (Declare sort items) o m e = elim m [ ]
 use_named (Dimension items) o m e = elim m [ ]
 use_named (Common groups) o m e = elim m [ ]
-use_named s o m e = in_flat (λ p. cond (is_called p.«use») [] (p.name ∷ [])) (uses_of s) m (of_use (is_called o.«use») o e)
+use_named s o m e =
+    in_flat (λ p. cond (is_called p.«use») [] (p.name ∷ [])) (uses_of s) m (of_use (is_called o.«use») o e)
 
 pub function_named : (s : Stmt) → is_function_head s ≡ true → IsIn (headed_by s) (names_in s)
 function_named (Function sort f dummies) h = here refl

@@ -8,7 +8,8 @@ use Rattle.deck_laws.proofs.Members.{IsIn, here, there, in_either, either, in_ke
 
 more_letters : (b : Bool) (c d : ℕ) (cs ds : Name) → nat_eq c d ≡ b → (same_name cs ds ≡ true → cs ≡ ds)
     → (b && same_name cs ds) ≡ true → c ∷ cs ≡ d ∷ ds
-more_letters true c d cs ds e rest h = let heads : c ≡ d = grind (arith, e) in let tails = rest h in λ i. heads i ∷ tails i
+more_letters true c d cs ds e rest h =
+    let heads : c ≡ d = grind (arith, e) in let tails = rest h in λ i. heads i ∷ tails i
 more_letters false c d cs ds e rest h = search rules
 
 -- two names with the same letters are one name
@@ -62,7 +63,8 @@ pub in_once : (x : Name) (xs : List Name) → IsIn x xs → IsIn x (once xs)
 in_once x [] h = elim h [ ]
 in_once x (y ∷ xs) (here e) = here e
 in_once x (y ∷ xs) (there h) =
-    case (same_name y x) (λ t. here (same_names y x t)) (λ f. there (in_kept (λ z. not (same_name y z)) (once xs) (in_once x xs h) (not_false f)))
+    case (same_name y x) (λ t. here (same_names y x t))
+    (λ f. there (in_kept (λ z. not (same_name y z)) (once xs) (in_once x xs h) (not_false f)))
 
 -- a list without twins, with some left out
 pub kept_without_twin : (test : Name → Bool) (xs : List Name) → has_twin xs ≡ false → has_twin (kept test xs) ≡ false
@@ -85,9 +87,12 @@ once_without_twin (x ∷ xs) =
     (kept_without_twin (λ z. not (same_name x z)) (once xs) (once_without_twin xs))
 
 -- two lists without twins that do not meet
-pub joined_without_twin : (xs ys : List Name) → has_twin xs ≡ false → has_twin ys ≡ false → ((x : Name) → IsIn x xs → ¬ IsIn x ys)
+pub joined_without_twin : (xs ys : List Name) → has_twin xs ≡ false → has_twin ys ≡ false
+    → ((x : Name) → IsIn x xs → ¬ IsIn x ys)
     → has_twin (xs ++ ys) ≡ false
 joined_without_twin [] ys h k apart = k
 joined_without_twin (x ∷ xs) ys h k apart =
-    both_false (not_among x (xs ++ ys) (λ m. either (in_either xs ys m) (not_in x xs (first_false (is_among x xs) (has_twin xs) h)) (apart x (here refl))))
+    both_false (not_among x (xs ++ ys)
+    (λ m. either (in_either xs ys m) (not_in x xs (first_false (is_among x xs) (has_twin xs) h))
+    (apart x (here refl))))
     (joined_without_twin xs ys (second_false (is_among x xs) (has_twin xs) h) k (λ y m. apart y (there m)))

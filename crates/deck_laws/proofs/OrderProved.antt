@@ -1,10 +1,10 @@
 -- The order of the statements of a made unit, and the value of a FUNCTION.
-use Rattle.std.proofs.Common.{◌≡◌, ℕ, zero, suc, Bool, true, false, cond, List, [], ◌∷◌, ◌++◌, Some, None, refl, sym, ap, ◌∙◌, rules, arith, append_assoc, append-nil}
+use Rattle.std.proofs.Common.{◌≡◌, ℕ, zero, suc, Bool, true, false, cond, List, [], ◌∷◌, ◌++◌, refl, sym, ap, ◌∙◌, rules, arith, append_assoc, append-nil}
 use Rattle.std.specs.Prelude.{◌&&◌, not, nat_lt, ◌==◌, is_some}
 use Rattle.std.specs.List.{list_any}
 use Rattle.std.proofs.lemmas.Bool.Decides.{nat_tests}
 use Rattle.fort_syntax.specs.Uses.{uses_of}
-use Rattle.fort_syntax.specs.Units.{Segment, gathered, executables, own_name, is_function, class_of, is_performing, scope_of, sort_or_integer, unit_of}
+use Rattle.fort_syntax.specs.Units.{Segment, gathered, executables, own_name, is_function, class_of, is_performing, unit_of}
 use Rattle.fort_syntax.specs.OrderRules.{blocks_behind, blocks_open, has_no_branch, is_outside, still_open, is_ended, stays_open, is_bad_block}
 use Rattle.fort_syntax.specs.UseRules.{has_label, assigns}
 use Rattle.fort_syntax.specs.WellFormed.{are_in_order, has_result}
@@ -21,7 +21,8 @@ use Rattle.deck_laws.proofs.Given.{Given, ascend_lower}
 
 -- ---- statements that are not executable
 
-same_blocks : (s : Stmt) → is_performing (class_of s) ≡ false → (open_blocks : List Bool) → blocks_behind s open_blocks ≡ open_blocks
+same_blocks : (s : Stmt) → is_performing (class_of s) ≡ false → (open_blocks : List Bool)
+    → blocks_behind s open_blocks ≡ open_blocks
 same_blocks (Subroutine f dummies) h open_blocks = refl
 same_blocks (Function sort f dummies) h open_blocks = refl
 same_blocks (Declare sort items) h open_blocks = refl
@@ -49,28 +50,35 @@ no_uses End h = refl
 no_uses _ h = search rules
 
 -- an executable statement is among the executables, and another one is not
-with_one : (line : Line) (lines : List Line) → is_performing (class_of line.stmt) ≡ true → executables (line ∷ lines) ≡ line ∷ executables lines
+with_one : (line : Line) (lines : List Line) → is_performing (class_of line.stmt) ≡ true
+    → executables (line ∷ lines) ≡ line ∷ executables lines
 with_one line lines t = ap (λ b. cond b (line ∷ []) [] ++ executables lines) t
 
-without_one : (line : Line) (lines : List Line) → is_performing (class_of line.stmt) ≡ false → executables (line ∷ lines) ≡ executables lines
+without_one : (line : Line) (lines : List Line) → is_performing (class_of line.stmt) ≡ false
+    → executables (line ∷ lines) ≡ executables lines
 without_one line lines f = ap (λ b. cond b (line ∷ []) [] ++ executables lines) f
 
-behind_one : (before : List Line) (line : Line) → is_performing (class_of line.stmt) ≡ true → executables (before ++ line ∷ []) ≡ executables before ++ line ∷ []
+behind_one : (before : List Line) (line : Line) → is_performing (class_of line.stmt) ≡ true
+    → executables (before ++ line ∷ []) ≡ executables before ++ line ∷ []
 behind_one before line t =
-    flat_joined (λ l. cond (is_performing (class_of l.stmt)) (l ∷ []) []) before (line ∷ []) ∙ ap (λ zs. executables before ++ zs) (with_one line [] t)
+    flat_joined (λ l. cond (is_performing (class_of l.stmt)) (l ∷ []) []) before (line ∷ []) ∙ ap
+    (λ zs. executables before ++ zs) (with_one line [] t)
 
-behind_none : (before : List Line) (line : Line) → is_performing (class_of line.stmt) ≡ false → executables (before ++ line ∷ []) ≡ executables before
+behind_none : (before : List Line) (line : Line) → is_performing (class_of line.stmt) ≡ false
+    → executables (before ++ line ∷ []) ≡ executables before
 behind_none before line f =
     flat_joined (λ l. cond (is_performing (class_of l.stmt)) (l ∷ []) []) before (line ∷ [])
     ∙ (ap (λ zs. executables before ++ zs) (without_one line [] f) ∙ append-nil (executables before))
 
 -- ---- block IFs
 
-same_behind : (lines : List Line) (open_blocks : List Bool) → blocks_open open_blocks (executables lines) ≡ blocks_open open_blocks lines
+same_behind : (lines : List Line) (open_blocks : List Bool)
+    → blocks_open open_blocks (executables lines) ≡ blocks_open open_blocks lines
 same_behind [] open_blocks = refl
 same_behind (line ∷ lines) open_blocks =
     case (is_performing (class_of line.stmt))
-    (λ t. ap (blocks_open open_blocks) (with_one line lines t) ∙ same_behind lines (blocks_behind line.stmt open_blocks))
+    (λ t. ap (blocks_open open_blocks) (with_one line lines t) ∙ same_behind lines
+    (blocks_behind line.stmt open_blocks))
     (λ f. ap (blocks_open open_blocks) (without_one line lines f)
     ∙ (same_behind lines open_blocks ∙ ap (λ o. blocks_open o lines) (sym (same_blocks line.stmt f open_blocks))))
 
@@ -83,11 +91,14 @@ same_stays : (lines : List Line) (n : ℕ) → stays_open n (executables lines) 
 same_stays [] n = refl
 same_stays (line ∷ lines) n =
     case (is_performing (class_of line.stmt))
-    (λ t. ap (stays_open n) (with_one line lines t) ∙ ap (λ b. not (is_ended n) && b) (same_stays lines (still_open line.stmt n)))
+    (λ t. ap (stays_open n) (with_one line lines t) ∙ ap (λ b. not (is_ended n) && b)
+    (same_stays lines (still_open line.stmt n)))
     (λ f. ap (stays_open n) (without_one line lines f)
-    ∙ (same_stays lines n ∙ (sym (stays n lines) ∙ ap (λ k. not (is_ended n) && stays_open k lines) (sym (same_open line.stmt f n)))))
+    ∙ (same_stays lines n ∙
+    (sym (stays n lines) ∙ ap (λ k. not (is_ended n) && stays_open k lines) (sym (same_open line.stmt f n)))))
 
-same_bad : (s : Stmt) (before behind : List Line) → is_bad_block (executables before) s (executables behind) ≡ is_bad_block before s behind
+same_bad : (s : Stmt) (before behind : List Line)
+    → is_bad_block (executables before) s (executables behind) ≡ is_bad_block before s behind
 same_bad (BlockIf e) before behind = same_stays behind 1
 same_bad (ElseIf e) before behind = ap has_no_branch (same_behind before [])
 same_bad Else before behind = ap has_no_branch (same_behind before [])
@@ -99,7 +110,8 @@ same_bad _ before behind = refl
 no_label : (label : ℕ) (lines : List Line) → has_label label lines ≡ false → has_label label (executables lines) ≡ false
 no_label label lines h = by (not (label == 0)) h
   where
-    by : (b : Bool) → (b && list_any (λ line. line.label == label) lines) ≡ false → (b && list_any (λ line. line.label == label) (executables lines)) ≡ false
+    by : (b : Bool) → (b && list_any (λ line. line.label == label) lines) ≡ false
+        → (b && list_any (λ line. line.label == label) (executables lines)) ≡ false
     by true k =
         none_are (λ line. line.label == label) (executables lines)
         (λ line m. none_of (λ l. l.label == label) lines k (kept_in (λ l. is_performing (class_of l.stmt)) lines m).0)
@@ -115,18 +127,23 @@ module _ (d : Dialect) (earlier : List Segment) (unit : Segment) (g : Given d ea
       let next = append_assoc before (line ∷ []) behind ∙ e in
       case (is_performing (class_of line.stmt))
       (performed less (order_from behind (before ++ line ∷ []) line.card next later))
-      (passed (order_from behind (before ++ line ∷ []) card next (ascend_lower card line.card behind (grind (arith, nat_tests)) later)))
+      (passed (order_from behind (before ++ line ∷ []) card next
+      (ascend_lower card line.card behind (grind (arith, nat_tests)) later)))
     where
-      performed : nat_lt card line.card ≡ true → are_in_order (executables (before ++ line ∷ [])) line.card (executables behind) ≡ true
-          → is_performing (class_of line.stmt) ≡ true → are_in_order (executables before) card (executables (line ∷ behind)) ≡ true
+      performed : nat_lt card line.card ≡ true
+          → are_in_order (executables (before ++ line ∷ [])) line.card (executables behind) ≡ true
+          → is_performing (class_of line.stmt) ≡ true
+          → are_in_order (executables before) card (executables (line ∷ behind)) ≡ true
       performed less rest t =
           let k = g.keeps before line behind e in
           ap (are_in_order (executables before) card) (with_one line behind t)
           ∙ both_true
-          (both_true (both_true (not_false (same_bad line.stmt before behind ∙ k.nesting)) (not_false (no_label line.label before k.labels))) less)
+          (both_true (both_true (not_false (same_bad line.stmt before behind ∙ k.nesting))
+          (not_false (no_label line.label before k.labels))) less)
           (ap (λ b. are_in_order b line.card (executables behind)) (sym (behind_one before line t)) ∙ rest)
 
-      passed : are_in_order (executables (before ++ line ∷ [])) card (executables behind) ≡ true → is_performing (class_of line.stmt) ≡ false
+      passed : are_in_order (executables (before ++ line ∷ [])) card (executables behind) ≡ true
+          → is_performing (class_of line.stmt) ≡ false
           → are_in_order (executables before) card (executables (line ∷ behind)) ≡ true
       passed rest f =
           ap (are_in_order (executables before) card) (without_one line behind f)

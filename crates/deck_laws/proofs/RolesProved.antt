@@ -1,6 +1,6 @@
 -- The roles of the data names of a made unit, and its functions.
 use Rattle.std.proofs.Common.{◌≡◌, ◌⊎◌, inl, inr, Bool, true, false, cond, List, [], ◌∷◌, ◌++◌, map, Some, None, refl, sym, ap, ap₂, ◌∙◌, subst, rules}
-use Rattle.std.specs.Prelude.{◌||◌, not, is_some}
+use Rattle.std.specs.Prelude.{◌||◌, not}
 use Rattle.std.specs.List.{list_any, list_all}
 use Rattle.fort_syntax.specs.Scopes.{same_sort, same_option, is_among, do_meet, has_twin, is_intrinsic_name}
 use Rattle.fort_syntax.specs.Uses.{uses_of}
@@ -32,7 +32,8 @@ sort_self : (s : Sort) → same_sort s s ≡ true
 sort_self Integer = refl
 sort_self Logical = refl
 
-of_own_value : (a b c : Bool) → same_role (cond a Dummy (cond b InCommon (cond c OwnValue Local))) OwnValue ≡ true → c ≡ true
+of_own_value : (a b c : Bool) → same_role (cond a Dummy (cond b InCommon (cond c OwnValue Local))) OwnValue ≡ true
+    → c ≡ true
 of_own_value true b c h = search rules
 of_own_value false true c h = search rules
 of_own_value false false true h = refl
@@ -53,7 +54,8 @@ module _ (unit : Segment) where
 
   role_same : (x : Name) → role_in_unit (unit_of unit) x ≡ role_of unit x
   role_same x =
-      λ i. cond (is_among x (dummies_of unit)) Dummy (cond (common_same x i) InCommon (cond (is_among x (own_value_same i)) OwnValue Local))
+      λ i. cond (is_among x (dummies_of unit)) Dummy
+      (cond (common_same x i) InCommon (cond (is_among x (own_value_same i)) OwnValue Local))
 
   pub own_value_is : (f : Bool) (x y : Name) → IsIn x (cond f (y ∷ []) []) → (f ≡ true) × (y ≡ x)
   own_value_is true x y (here e) = (refl, e)
@@ -63,28 +65,38 @@ module _ (unit : Segment) where
   sort_right : (x : Name) → same_role (role_of unit x) OwnValue ≡ true
       → same_option (Some (sort_or_integer ((scope_of unit).sort x))) (unit_of unit).sort ≡ true
   sort_right x h =
-      let own = among_in x (own_value_of unit) (of_own_value (is_among x (dummies_of unit)) (is_among x (commons_of unit)) (is_among x (own_value_of unit)) h) in
+      let own = among_in x (own_value_of unit)
+      (of_own_value (is_among x (dummies_of unit)) (is_among x (commons_of unit))
+      (is_among x (own_value_of unit)) h) in
       let o = own_value_is (is_function unit) x (own_name unit) own in
-      same_some (is_function unit) (sort_or_integer ((scope_of unit).sort x)) (sort_or_integer ((scope_of unit).sort (own_name unit))) o.0
+      same_some (is_function unit) (sort_or_integer ((scope_of unit).sort x))
+      (sort_or_integer ((scope_of unit).sort (own_name unit))) o.0
       (ap (λ y. sort_or_integer ((scope_of unit).sort y)) (sym o.1))
 
   role_right : (x : Name) → has_right_role (unit_of unit) (data_name_of unit x) ≡ true
-  role_right x = both_true (ap (same_role (role_of unit x)) (role_same x) ∙ role_self (role_of unit x)) (case (same_role (role_of unit x) OwnValue) own other)
+  role_right x =
+      both_true (ap (same_role (role_of unit x)) (role_same x) ∙ role_self (role_of unit x))
+      (case (same_role (role_of unit x) OwnValue) own other)
     where
       own : same_role (role_of unit x) OwnValue ≡ true
-          → (not (same_role (role_of unit x) OwnValue) || same_option (Some (sort_or_integer ((scope_of unit).sort x))) (unit_of unit).sort) ≡ true
+          → (not (same_role (role_of unit x) OwnValue) || same_option
+          (Some (sort_or_integer ((scope_of unit).sort x))) (unit_of unit).sort) ≡ true
       own h =
-          right_true (not (same_role (role_of unit x) OwnValue)) (same_option (Some (sort_or_integer ((scope_of unit).sort x))) (unit_of unit).sort) (sort_right x h)
+          right_true (not (same_role (role_of unit x) OwnValue))
+          (same_option (Some (sort_or_integer ((scope_of unit).sort x))) (unit_of unit).sort) (sort_right x h)
 
       other : same_role (role_of unit x) OwnValue ≡ false
-          → (not (same_role (role_of unit x) OwnValue) || same_option (Some (sort_or_integer ((scope_of unit).sort x))) (unit_of unit).sort) ≡ true
+          → (not (same_role (role_of unit x) OwnValue) || same_option
+          (Some (sort_or_integer ((scope_of unit).sort x))) (unit_of unit).sort) ≡ true
       other h =
-          left_true (not (same_role (role_of unit x) OwnValue)) (same_option (Some (sort_or_integer ((scope_of unit).sort x))) (unit_of unit).sort) (not_false h)
+          left_true (not (same_role (role_of unit x) OwnValue))
+          (same_option (Some (sort_or_integer ((scope_of unit).sort x))) (unit_of unit).sort) (not_false h)
 
   pub roles_proved : list_all (has_right_role (unit_of unit)) (unit_of unit).names ≡ true
   roles_proved =
       all_are (has_right_role (unit_of unit)) (map (data_name_of unit) (data_names unit))
-      (λ n m. let x = map_in (data_name_of unit) (data_names unit) m in ap (has_right_role (unit_of unit)) (sym x.2) ∙ role_right x.0)
+      (λ n m. let x = map_in (data_name_of unit) (data_names unit) m in ap (has_right_role (unit_of unit)) (sym x.2)
+      ∙ role_right x.0)
 
   -- ---- functions
 
@@ -94,18 +106,23 @@ module _ (unit : Segment) where
   module _ (d : Dialect) (earlier : List Segment) (g : Given d earlier unit) where
     no_data : (x : Name) → IsIn x (functions_of unit) → ¬ IsIn x (data_names unit)
     no_data x f m =
-        either (in_either (dummies_of unit ++ commons_of unit) (own_value_of unit) (data_held unit x m (reference_in x f))) held own
+        either (in_either (dummies_of unit ++ commons_of unit) (own_value_of unit)
+        (data_held unit x m (reference_in x f))) held own
       where
-        of_either : IsIn x (dummies_of unit) ⊎ IsIn x (commons_of unit) → (is_among x (dummies_of unit) || is_among x (commons_of unit)) ≡ true
-        of_either (inl k) = left_true (is_among x (dummies_of unit)) (is_among x (commons_of unit)) (in_among x (dummies_of unit) k)
-        of_either (inr k) = right_true (is_among x (dummies_of unit)) (is_among x (commons_of unit)) (in_among x (commons_of unit) k)
+        of_either : IsIn x (dummies_of unit) ⊎ IsIn x (commons_of unit)
+            → (is_among x (dummies_of unit) || is_among x (commons_of unit)) ≡ true
+        of_either (inl k) =
+            left_true (is_among x (dummies_of unit)) (is_among x (commons_of unit)) (in_among x (dummies_of unit) k)
+        of_either (inr k) =
+            right_true (is_among x (dummies_of unit)) (is_among x (commons_of unit)) (in_among x (commons_of unit) k)
 
         held : IsIn x (dummies_of unit ++ commons_of unit) → ⊥
         held k =
             let w = references_are unit x (reference_in x f) in
             clash (of_either (in_either (dummies_of unit) (commons_of unit) k))
             (ap (λ y. is_among y (dummies_of unit) || is_among y (commons_of unit)) (sym w.5)
-            ∙ other_false (is_reference (scope_of unit) w.2) (is_among w.2.name (dummies_of unit) || is_among w.2.name (commons_of unit))
+            ∙ other_false (is_reference (scope_of unit) w.2)
+            (is_among w.2.name (dummies_of unit) || is_among w.2.name (commons_of unit))
             (kinds_at d earlier unit g w.0 w.1 w.2 w.3).0 w.4)
 
         own : IsIn x (own_value_of unit) → ⊥
@@ -120,9 +137,13 @@ module _ (unit : Segment) where
         (both_true
         (both_true
         (not_false (ap has_twin functions
-        ∙ kept_without_twin (λ f. not (is_intrinsic_name f)) (references_of unit) (once_without_twin (references_in (scope_of unit) (gathered uses_of unit)))))
-        (not_false (ap₂ do_meet functions (data_names_are unit) ∙ do_not_meet (functions_of unit) (data_names unit) no_data)))
+        ∙ kept_without_twin (λ f. not (is_intrinsic_name f)) (references_of unit)
+        (once_without_twin (references_in (scope_of unit) (gathered uses_of unit)))))
+        (not_false (ap₂ do_meet functions (data_names_are unit) ∙ do_not_meet (functions_of unit)
+        (data_names unit) no_data)))
         (not_false (ap (list_any is_intrinsic_name) functions
-        ∙ none_are is_intrinsic_name (functions_of unit) (λ f m. of_not_true (kept_in (λ h. not (is_intrinsic_name h)) (references_of unit) m).1))))
+        ∙ none_are is_intrinsic_name (functions_of unit)
+        (λ f m. of_not_true (kept_in (λ h. not (is_intrinsic_name h)) (references_of unit) m).1))))
         (not_false (ap (is_among (own_name unit)) functions
-        ∙ not_among (own_name unit) (functions_of unit) (λ m. own_no_reference d earlier unit g (reference_in (own_name unit) m))))
+        ∙ not_among (own_name unit) (functions_of unit)
+        (λ m. own_no_reference d earlier unit g (reference_in (own_name unit) m))))

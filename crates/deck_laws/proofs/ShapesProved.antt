@@ -53,7 +53,8 @@ module _ (d : Dialect) (earlier : List Segment) (unit : Segment) (g : Given d ea
 
   -- ---- dimensions
 
-  integer_scalar : (y : Name) → IsIn y (data_names unit) → is_integer_scalar made y ≡ is_integer_scalar (scope_of unit) y
+  integer_scalar : (y : Name) → IsIn y (data_names unit)
+      → is_integer_scalar made y ≡ is_integer_scalar (scope_of unit) y
   integer_scalar y m =
       λ i. same_option (data_sort unit d earlier g y m i) (Some Integer) && not (is_given_dims (dims_agree unit y i))
 
@@ -64,7 +65,10 @@ module _ (d : Dialect) (earlier : List Segment) (unit : Segment) (g : Given d ea
   AreRight x dims = (not (is_bad_shape d dims) && list_all (fits x) (names_in_dims dims)) ≡ true
 
   dummy_role : (x : Name) → is_among x (dummies_of unit) ≡ true → same_role (role_of unit x) Dummy ≡ true
-  dummy_role x t = ap (λ b. same_role (cond b Dummy (cond (is_among x (commons_of unit)) InCommon (cond (is_among x (own_value_of unit)) OwnValue Local))) Dummy) t
+  dummy_role x t =
+      ap (λ b. same_role
+      (cond b Dummy (cond (is_among x (commons_of unit)) InCommon
+      (cond (is_among x (own_value_of unit)) OwnValue Local))) Dummy) t
 
   item_right : (x : Name) (i : Item) → IsIn i (gathered items_by unit) → i.name ≡ x → AreRight x i.dims
   item_right x i m e =
@@ -78,13 +82,16 @@ module _ (d : Dialect) (earlier : List Segment) (unit : Segment) (g : Given d ea
   dims_right : (x : Name) → AreRight x ((scope_of unit).dims x)
   dims_right x =
       case (is_array (scope_of unit) x)
-      (λ a. let i = item_of_dims (gathered items_by unit) x a in subst (λ z. AreRight x z) (sym i.3) (item_right x i.0 i.1 i.2))
-      (λ a. subst (λ z. AreRight x z) (sym (no_dims ((scope_of unit).dims x) a)) (both_true (not_false (no_bad_shape d)) refl))
+      (λ a. let i = item_of_dims (gathered items_by unit) x a in subst (λ z. AreRight x z) (sym i.3)
+      (item_right x i.0 i.1 i.2))
+      (λ a. subst (λ z. AreRight x z) (sym (no_dims ((scope_of unit).dims x) a))
+      (both_true (not_false (no_bad_shape d)) refl))
 
   pub dimensions_proved : list_all (has_right_dims d (unit_of unit)) (unit_of unit).names ≡ true
   dimensions_proved =
       all_are (has_right_dims d (unit_of unit)) (map (data_name_of unit) (data_names unit))
-      (λ n m. let x = map_in (data_name_of unit) (data_names unit) m in ap (has_right_dims d (unit_of unit)) (sym x.2) ∙ dims_right x.0)
+      (λ n m. let x = map_in (data_name_of unit) (data_names unit) m in ap (has_right_dims d (unit_of unit)) (sym x.2)
+      ∙ dims_right x.0)
 
   -- ---- blocks
 
@@ -101,12 +108,18 @@ module _ (d : Dialect) (earlier : List Segment) (unit : Segment) (g : Given d ea
       ap (is_right_item (unit_of unit)) (sym x.2)
       ∙ (ap (same_dims ((scope_of unit).dims x.0)) (dims_agree unit x.0) ∙ dims_self ((scope_of unit).dims x.0))
 
-  block_is_right : (b : Name) → (not (is_bare (group_of unit b).block) && list_all (is_right_item (unit_of unit)) (group_of unit b).items) ≡ true
-  block_is_right b = both_true (not_false (not_bare b)) (all_are (is_right_item (unit_of unit)) (group_of unit b).items (λ i m. item_is_right i b m))
+  block_is_right : (b : Name)
+      → (not (is_bare (group_of unit b).block) && list_all (is_right_item (unit_of unit)) (group_of unit b).items)
+      ≡ true
+  block_is_right b =
+      both_true (not_false (not_bare b))
+      (all_are (is_right_item (unit_of unit)) (group_of unit b).items (λ i m. item_is_right i b m))
 
   pub blocks_proved : are_blocks (unit_of unit) ≡ true
   blocks_proved =
       both_true (not_false (ap has_twin (blocks_again all_blocks) ∙ once_without_twin (gathered blocks_by unit)))
-      (all_are (λ group. not (is_bare group.block) && list_all (is_right_item (unit_of unit)) group.items) (map (group_of unit) all_blocks)
+      (all_are (λ group. not (is_bare group.block) && list_all (is_right_item (unit_of unit)) group.items)
+      (map (group_of unit) all_blocks)
       (λ group m. let b = map_in (group_of unit) all_blocks m in
-      ap (λ (h : Group). not (is_bare h.block) && list_all (is_right_item (unit_of unit)) h.items) (sym b.2) ∙ block_is_right b.0))
+      ap (λ (h : Group). not (is_bare h.block) && list_all (is_right_item (unit_of unit)) h.items) (sym b.2)
+      ∙ block_is_right b.0))

@@ -79,19 +79,27 @@ mutual
   expression_numbers (Pos' m (only a)) t h = expression_numbers a h.1 h.4.1
   expression_numbers (Neg' m (only a)) t h = expression_numbers a h.1 h.4.1
   expression_numbers (Power' m (only a) n) t h = both_true (between n h.4.1 h.4.4) (expression_numbers a h.0 h.3.1)
-  expression_numbers (Bin' o m (only a) n (only b)) t h = two (parts a) (parts b) (expression_numbers a h.0 h.3.1) (expression_numbers b h.4.1 h.4.4.1)
-  expression_numbers (Rel' o m (only a) n (only b)) t h = two (parts a) (parts b) (expression_numbers a h.0 h.3.1) (expression_numbers b h.4.1 h.4.4.1)
+  expression_numbers (Bin' o m (only a) n (only b)) t h =
+      two (parts a) (parts b) (expression_numbers a h.0 h.3.1) (expression_numbers b h.4.1 h.4.4.1)
+  expression_numbers (Rel' o m (only a) n (only b)) t h =
+      two (parts a) (parts b) (expression_numbers a h.0 h.3.1) (expression_numbers b h.4.1 h.4.4.1)
   expression_numbers (Not' m (only a)) t h = expression_numbers a h.1 h.4.1
-  expression_numbers (And' m (only a) n (only b)) t h = two (parts a) (parts b) (expression_numbers a h.0 h.3.1) (expression_numbers b h.4.1 h.4.4.1)
-  expression_numbers (Or' m (only a) n (only b)) t h = two (parts a) (parts b) (expression_numbers a h.0 h.3) (expression_numbers b h.4.1 h.4.4.1)
+  expression_numbers (And' m (only a) n (only b)) t h =
+      two (parts a) (parts b) (expression_numbers a h.0 h.3.1) (expression_numbers b h.4.1 h.4.4.1)
+  expression_numbers (Or' m (only a) n (only b)) t h =
+      two (parts a) (parts b) (expression_numbers a h.0 h.3) (expression_numbers b h.4.1 h.4.4.1)
 
-  pub arguments_numbers : {m : Count} (es : Row_of-Expr m) (t : List ℕ) → arguments es t → list_all has_right_numbers (parts_of_row es) ≡ true
+  pub arguments_numbers : {m : Count} (es : Row_of-Expr m) (t : List ℕ) → arguments es t
+      → list_all has_right_numbers (parts_of_row es) ≡ true
   arguments_numbers end_of-Expr t h = refl
-  arguments_numbers (more_of-Expr e es) t h = two (parts e) (parts_of_row es) (expression_numbers e h.0 h.3) (more_numbers es h.1 h.4)
+  arguments_numbers (more_of-Expr e es) t h =
+      two (parts e) (parts_of_row es) (expression_numbers e h.0 h.3) (more_numbers es h.1 h.4)
 
-  more_numbers : {m : Count} (es : Row_of-Expr m) (t : List ℕ) → more_arguments es t → list_all has_right_numbers (parts_of_row es) ≡ true
+  more_numbers : {m : Count} (es : Row_of-Expr m) (t : List ℕ) → more_arguments es t
+      → list_all has_right_numbers (parts_of_row es) ≡ true
   more_numbers end_of-Expr t h = refl
-  more_numbers (more_of-Expr e es) t h = two (parts e) (parts_of_row es) (expression_numbers e h.4.0 h.4.3) (more_numbers es h.4.1 h.4.4)
+  more_numbers (more_of-Expr e es) t h =
+      two (parts e) (parts_of_row es) (expression_numbers e h.4.0 h.4.3) (more_numbers es h.4.1 h.4.4)
 
 left_numbers : (e : Expr) (t : List ℕ) → grammar.left_side e t → list_all has_right_numbers (parts e) ≡ true
 left_numbers (Var x) t h = refl
@@ -112,9 +120,11 @@ in_row : (es : List Expr) → flat_map parts es ≡ parts_of_row (row_of es)
 in_row [] = refl
 in_row (e ∷ es) = ap (λ others. parts e ++ others) (in_row es)
 
-actuals_numbers : (es : List Expr) (t : List ℕ) → grammar.actuals es t → list_all has_right_numbers (flat_map parts es) ≡ true
+actuals_numbers : (es : List Expr) (t : List ℕ) → grammar.actuals es t
+    → list_all has_right_numbers (flat_map parts es) ≡ true
 actuals_numbers [] t h = refl
-actuals_numbers (e ∷ es) t h = ap (list_all has_right_numbers) (in_row (e ∷ es)) ∙ arguments_numbers (row_of (e ∷ es)) h.4.0 h.4.3
+actuals_numbers (e ∷ es) t h =
+    ap (list_all has_right_numbers) (in_row (e ∷ es)) ∙ arguments_numbers (row_of (e ∷ es)) h.4.0 h.4.3
 
 condition_numbers : (e : Expr) (t : List ℕ) → grammar.condition e t → list_all has_right_numbers (parts e) ≡ true
 condition_numbers e t h = expression_numbers e h.4.0 h.4.3
@@ -126,9 +136,11 @@ block_numbers CommonForms e head tail t h = absurd h
 block_numbers SeventySeven e head tail t h = two (parts e) [] (condition_numbers e h.4.0 h.4.3) refl
 
 -- each number in an executable statement
-pub statement_numbers : (d : Dialect) (s : Stmt) (t : List ℕ) → form d s t → list_all has_right_numbers (all_parts s) ≡ true
+pub statement_numbers : (d : Dialect) (s : Stmt) (t : List ℕ) → form d s t
+    → list_all has_right_numbers (all_parts s) ≡ true
 statement_numbers d (Assign left right) t h =
-    two (parts left) (parts right ++ []) (left_numbers left h.0 h.3) (two (parts right) [] (expression_numbers right h.4.1 h.4.4) refl)
+    two (parts left) (parts right ++ []) (left_numbers left h.0 h.3)
+    (two (parts right) [] (expression_numbers right h.4.1 h.4.4) refl)
 statement_numbers d (ArithIf e l m n) t h = two (parts e) [] (condition_numbers e h.4.0 h.4.3) refl
 statement_numbers d (LogicalIf' e m (carried s)) t h =
     two (parts e) (all_parts s) (condition_numbers e h.4.0 h.4.3) (statement_numbers d s h.4.1 h.4.4.1)
@@ -179,15 +191,18 @@ step_form (Some p) t h = param_form p h.1 h.4
 pub statement_form : (d : Dialect) (s : Stmt) (t : List ℕ) → form d s t → has_right_form s ≡ true
 statement_form d (Assign left right) t h = left_form left h.0 h.3
 statement_form d (Computed labels x) t h = labels_given labels h.4.3.4.0 h.4.3.4.3
-statement_form d (LogicalIf' e m (carried s)) t h = both_true (carried_form s h.4.4.0) (statement_form d s h.4.1 h.4.4.1)
+statement_form d (LogicalIf' e m (carried s)) t h =
+    both_true (carried_form s h.4.4.0) (statement_form d s h.4.1 h.4.4.1)
 statement_form d (Do label x first last step) t h =
     let the_first = h.4.4.4.4 in
     let the_last = the_first.4.4 in
-    both_true (both_true (param_form first the_first.0 the_first.3) (param_form last the_last.0 the_last.3)) (step_form step the_last.1 the_last.4)
+    both_true (both_true (param_form first the_first.0 the_first.3) (param_form last the_last.0 the_last.3))
+    (step_form step the_last.1 the_last.4)
 statement_form d s t h = refl
 
 -- block IFs are spelled under 77 alone
-pub no_blocks : (d : Dialect) (s : Stmt) (t : List ℕ) → form d s t → wants_plain_subscripts d ≡ true → is_block_statement s ≡ false
+pub no_blocks : (d : Dialect) (s : Stmt) (t : List ℕ) → form d s t → wants_plain_subscripts d ≡ true
+    → is_block_statement s ≡ false
 no_blocks CommonForms (BlockIf e) t h k = absurd h
 no_blocks CommonForms (ElseIf e) t h k = absurd h
 no_blocks CommonForms Else t h k = absurd h
@@ -203,7 +218,9 @@ pub item_declared : (d : Dialect) (s : Stmt) (t : List ℕ) → form d s t → (
 item_declared d (Declare sort items) t h i m = inl (in_map (λ j. j.name) items m)
 item_declared d (Dimension items) t h i m =
     inr (inl (in_map (λ j. j.name) (kept (λ j. is_given_dims j.dims) items)
-    (in_kept (λ j. is_given_dims j.dims) items m (all_of (λ j. is_given_dims j.dims) items (listed_pass grammar.array (λ j. is_given_dims j.dims) given items h.1 h.4) m))))
+    (in_kept (λ j. is_given_dims j.dims) items m
+    (all_of (λ j. is_given_dims j.dims) items
+    (listed_pass grammar.array (λ j. is_given_dims j.dims) given items h.1 h.4) m))))
   where
     given_dims : (dims : List Dim) (u : List ℕ) → grammar.listed grammar.dim dims u → is_given_dims dims ≡ true
     given_dims [] u k = absurd k

@@ -78,30 +78,39 @@ mutual
   expression_named how (Const n) t h = refl
   expression_named how (Truth b) t h = refl
   expression_named how (Var x) t h = both_true (name_named x t h) refl
-  expression_named how (Apply' f m args) t h = both_true (name_named f h.0 h.3) (arguments_named (argument_of f) args h.4.4.0 h.4.4.3)
+  expression_named how (Apply' f m args) t h =
+      both_true (name_named f h.0 h.3) (arguments_named (argument_of f) args h.4.4.0 h.4.4.3)
   expression_named how (Paren' m (only a)) t h = expression_named read a h.4.0 h.4.3
   expression_named how (Pos' m (only a)) t h = expression_named read a h.1 h.4.1
   expression_named how (Neg' m (only a)) t h = expression_named read a h.1 h.4.1
   expression_named how (Power' m (only a) n) t h = expression_named read a h.0 h.3.1
   expression_named how (Bin' o m (only a) n (only b)) t h =
-      all_joined is_named (uses_in read a) (uses_in read b) (expression_named read a h.0 h.3.1) (expression_named read b h.4.1 h.4.4.1)
+      all_joined is_named (uses_in read a) (uses_in read b) (expression_named read a h.0 h.3.1)
+      (expression_named read b h.4.1 h.4.4.1)
   expression_named how (Rel' o m (only a) n (only b)) t h =
-      all_joined is_named (uses_in read a) (uses_in read b) (expression_named read a h.0 h.3.1) (expression_named read b h.4.1 h.4.4.1)
+      all_joined is_named (uses_in read a) (uses_in read b) (expression_named read a h.0 h.3.1)
+      (expression_named read b h.4.1 h.4.4.1)
   expression_named how (Not' m (only a)) t h = expression_named read a h.1 h.4.1
   expression_named how (And' m (only a) n (only b)) t h =
-      all_joined is_named (uses_in read a) (uses_in read b) (expression_named read a h.0 h.3.1) (expression_named read b h.4.1 h.4.4.1)
+      all_joined is_named (uses_in read a) (uses_in read b) (expression_named read a h.0 h.3.1)
+      (expression_named read b h.4.1 h.4.4.1)
   expression_named how (Or' m (only a) n (only b)) t h =
-      all_joined is_named (uses_in read a) (uses_in read b) (expression_named read a h.0 h.3) (expression_named read b h.4.1 h.4.4.1)
+      all_joined is_named (uses_in read a) (uses_in read b) (expression_named read a h.0 h.3)
+      (expression_named read b h.4.1 h.4.4.1)
 
-  pub arguments_named : (how : Use) {m : Count} (es : Row_of-Expr m) (t : List ℕ) → arguments es t → list_all is_named (uses_in_row how es) ≡ true
+  pub arguments_named : (how : Use) {m : Count} (es : Row_of-Expr m) (t : List ℕ) → arguments es t
+      → list_all is_named (uses_in_row how es) ≡ true
   arguments_named how end_of-Expr t h = refl
   arguments_named how (more_of-Expr e es) t h =
-      all_joined is_named (uses_in how e) (uses_in_row how es) (expression_named how e h.0 h.3) (more_named how es h.1 h.4)
+      all_joined is_named (uses_in how e) (uses_in_row how es) (expression_named how e h.0 h.3)
+      (more_named how es h.1 h.4)
 
-  more_named : (how : Use) {m : Count} (es : Row_of-Expr m) (t : List ℕ) → more_arguments es t → list_all is_named (uses_in_row how es) ≡ true
+  more_named : (how : Use) {m : Count} (es : Row_of-Expr m) (t : List ℕ) → more_arguments es t
+      → list_all is_named (uses_in_row how es) ≡ true
   more_named how end_of-Expr t h = refl
   more_named how (more_of-Expr e es) t h =
-      all_joined is_named (uses_in how e) (uses_in_row how es) (expression_named how e h.4.0 h.4.3) (more_named how es h.4.1 h.4.4)
+      all_joined is_named (uses_in how e) (uses_in_row how es) (expression_named how e h.4.0 h.4.3)
+      (more_named how es h.4.1 h.4.4)
 
 -- ---- executable statements
 
@@ -132,22 +141,27 @@ in_row : (es : List Expr) → flat_map (uses_in actual) es ≡ uses_in_row actua
 in_row [] = refl
 in_row (e ∷ es) = ap (λ uses. uses_in actual e ++ uses) (in_row es)
 
-actuals_named : (es : List Expr) (t : List ℕ) → grammar.actuals es t → list_all is_named (flat_map (uses_in actual) es) ≡ true
+actuals_named : (es : List Expr) (t : List ℕ) → grammar.actuals es t
+    → list_all is_named (flat_map (uses_in actual) es) ≡ true
 actuals_named [] t h = refl
-actuals_named (e ∷ es) t h = ap (list_all is_named) (in_row (e ∷ es)) ∙ arguments_named actual (row_of (e ∷ es)) h.4.0 h.4.3
+actuals_named (e ∷ es) t h =
+    ap (list_all is_named) (in_row (e ∷ es)) ∙ arguments_named actual (row_of (e ∷ es)) h.4.0 h.4.3
 
 condition_named : (e : Expr) (t : List ℕ) → grammar.condition e t → list_all is_named (uses_in read e) ≡ true
 condition_named e t h = expression_named read e h.4.0 h.4.3
 
 block_named : (d : Dialect) (e : Expr) (head : List ℕ) (tail : List ℕ) (t : List ℕ)
-    → grammar.with_77 d (spelling.◌⨾◌ (spelling.just head) (spelling.◌⨾◌ (grammar.condition e) (spelling.just tail))) t → list_all is_named (uses_in read e) ≡ true
+    → grammar.with_77 d
+    (spelling.◌⨾◌ (spelling.just head) (spelling.◌⨾◌ (grammar.condition e) (spelling.just tail))) t
+    → list_all is_named (uses_in read e) ≡ true
 block_named CommonForms e head tail t h = absurd h
 block_named SeventySeven e head tail t h = condition_named e h.4.0 h.4.3
 
 -- each name in an executable statement, the called one too
 pub uses_named : (d : Dialect) (s : Stmt) (t : List ℕ) → form d s t → list_all is_named (uses_of s) ≡ true
 uses_named d (Assign left right) t h =
-    all_joined is_named (uses_on_left left) (uses_in read right) (left_named left h.0 h.3) (expression_named read right h.4.1 h.4.4)
+    all_joined is_named (uses_on_left left) (uses_in read right) (left_named left h.0 h.3)
+    (expression_named read right h.4.1 h.4.4)
 uses_named d (Computed labels x) t h = both_true (name_named x h.4.4.1 h.4.4.4) refl
 uses_named d (ArithIf e l m n) t h = condition_named e h.4.0 h.4.3
 uses_named d (LogicalIf' e m (carried s)) t h =
@@ -158,7 +172,8 @@ uses_named d (Do label x first last step) t h =
     let the_last = the_first.4.4 in
     both_true (name_named x the_name.0 the_name.3)
     (all_joined is_named (uses_of_param first ++ uses_of_param last) (uses_of_step step)
-    (all_joined is_named (uses_of_param first) (uses_of_param last) (param_named first the_first.0 the_first.3) (param_named last the_last.0 the_last.3))
+    (all_joined is_named (uses_of_param first) (uses_of_param last) (param_named first the_first.0 the_first.3)
+    (param_named last the_last.0 the_last.3))
     (step_named step the_last.1 the_last.4))
 uses_named d (Call f args) t h = both_true (name_named f h.4.0 h.4.3) (actuals_named args h.4.1 h.4.4)
 uses_named d (BlockIf e) t h = block_named d e _ _ t h
@@ -185,11 +200,14 @@ abbrev is_named_item : Item → Bool
 is_named_item i = list_all is_name (names_in_item i)
 
 item_named : (i : Item) (t : List ℕ) → grammar.item i t → is_named_item i ≡ true
-item_named i t h = both_true (name_named i.name h.0 h.3) (dims_named i.dims (in_brackets_pass grammar.dim is_named_dim dim_named i.dims h.1 h.4))
+item_named i t h =
+    both_true (name_named i.name h.0 h.3)
+    (dims_named i.dims (in_brackets_pass grammar.dim is_named_dim dim_named i.dims h.1 h.4))
 
 array_named : (i : Item) (t : List ℕ) → grammar.array i t → is_named_item i ≡ true
 array_named i t h =
-    both_true (name_named i.name h.0 h.3) (dims_named i.dims (listed_pass grammar.dim is_named_dim dim_named i.dims h.4.4.0 h.4.4.3))
+    both_true (name_named i.name h.0 h.3)
+    (dims_named i.dims (listed_pass grammar.dim is_named_dim dim_named i.dims h.4.4.0 h.4.4.3))
 
 abbrev is_named_block : BlockName → Bool
 is_named_block b = list_all is_name (name_as_block b)
@@ -210,20 +228,24 @@ is_named_group g = is_named_block g.block && list_all is_named_item g.items
 more_groups_named : (gs : List Group) (t : List ℕ) → grammar.more_groups gs t → list_all is_named_group gs ≡ true
 more_groups_named [] t h = refl
 more_groups_named (g ∷ gs) t h =
-    both_true (both_true (slashed_named g.block h.0 h.3) (listed_pass grammar.item is_named_item item_named g.items h.4.0 h.4.3))
+    both_true (both_true (slashed_named g.block h.0 h.3)
+    (listed_pass grammar.item is_named_item item_named g.items h.4.0 h.4.3))
     (more_groups_named gs h.4.1 h.4.4)
 
 groups_named : (gs : List Group) (t : List ℕ) → grammar.groups gs t → list_all is_named_group gs ≡ true
 groups_named [] t h = refl
 groups_named (g ∷ gs) t h =
-    both_true (both_true (first_named g.block h.0 h.3) (listed_pass grammar.item is_named_item item_named g.items h.4.0 h.4.3))
+    both_true (both_true (first_named g.block h.0 h.3)
+    (listed_pass grammar.item is_named_item item_named g.items h.4.0 h.4.3))
     (more_groups_named gs h.4.1 h.4.4)
 
-items_of_groups : (gs : List Group) → list_all is_named_group gs ≡ true → list_all is_named_item (flat_map (λ g. g.items) gs) ≡ true
+items_of_groups : (gs : List Group) → list_all is_named_group gs ≡ true
+    → list_all is_named_item (flat_map (λ g. g.items) gs) ≡ true
 items_of_groups [] h = refl
 items_of_groups (g ∷ gs) h =
     all_joined is_named_item g.items (flat_map (λ g. g.items) gs)
-    (second_true (is_named_block g.block) (list_all is_named_item g.items) (first_true (is_named_group g) (list_all is_named_group gs) h))
+    (second_true (is_named_block g.block) (list_all is_named_item g.items)
+    (first_true (is_named_group g) (list_all is_named_group gs) h))
     (items_of_groups gs (second_true (is_named_group g) (list_all is_named_group gs) h))
 
 -- ---- heads and declarations
@@ -231,7 +253,8 @@ items_of_groups (g ∷ gs) h =
 used_named : (uses : List Occurrence) → list_all is_named uses ≡ true → list_all is_name (names_used uses) ≡ true
 used_named [] h = refl
 used_named (o ∷ uses) h =
-    if_called (is_called o.«use») (first_true (is_named o) (list_all is_named uses) h) (used_named uses (second_true (is_named o) (list_all is_named uses) h))
+    if_called (is_called o.«use») (first_true (is_named o) (list_all is_named uses) h)
+    (used_named uses (second_true (is_named o) (list_all is_named uses) h))
   where
     if_called : (c : Bool) → is_name o.name ≡ true → list_all is_name (names_used uses) ≡ true
         → list_all is_name (cond c [] (o.name ∷ []) ++ names_used uses) ≡ true
@@ -243,33 +266,42 @@ pub all_named : (d : Dialect) (s : Stmt) (t : List ℕ) → form d s t → list_
 all_named d (Subroutine f dummies) t h = in_brackets_pass spelling.name is_name name_named dummies h.4.1 h.4.4
 all_named d (Function sort f dummies) t h =
     both_true (name_named f h.4.0 h.4.3) (listed_pass spelling.name is_name name_named dummies h.4.4.4.0 h.4.4.4.3)
-all_named d (Declare sort items) t h = all_flat is_name names_in_item items (listed_pass grammar.item is_named_item item_named items h.1 h.4)
-all_named d (Dimension items) t h = all_flat is_name names_in_item items (listed_pass grammar.array is_named_item array_named items h.1 h.4)
+all_named d (Declare sort items) t h =
+    all_flat is_name names_in_item items (listed_pass grammar.item is_named_item item_named items h.1 h.4)
+all_named d (Dimension items) t h =
+    all_flat is_name names_in_item items (listed_pass grammar.array is_named_item array_named items h.1 h.4)
 all_named d (Common groups) t h =
-    all_flat is_name names_in_item (flat_map (λ g. g.items) groups) (items_of_groups groups (groups_named groups h.1 h.4))
+    all_flat is_name names_in_item (flat_map (λ g. g.items) groups)
+    (items_of_groups groups (groups_named groups h.1 h.4))
 all_named d s t h = used_named (uses_of s) (uses_named d s t h)
 
 -- the name of a unit in its head
-pub head_named : (d : Dialect) (s : Stmt) (t : List ℕ) → form d s t → is_heading (class_of s) ≡ true → is_name (headed_by s) ≡ true
+pub head_named : (d : Dialect) (s : Stmt) (t : List ℕ) → form d s t → is_heading (class_of s) ≡ true
+    → is_name (headed_by s) ≡ true
 head_named d (Subroutine f dummies) t h k = name_named f h.4.0 h.4.3
 head_named d (Function sort f dummies) t h k = name_named f h.4.0 h.4.3
 head_named d _ t h k = search rules
 
-of_block : (b : BlockName) → is_named_block b ≡ true → list_all is_name (name_as_block (block_of_name (name_of_block b))) ≡ true
+of_block : (b : BlockName) → is_named_block b ≡ true
+    → list_all is_name (name_as_block (block_of_name (name_of_block b))) ≡ true
 of_block block.Bare h = refl
 of_block block.Slashes h = refl
 of_block (block.Named []) h = refl
 of_block (block.Named (c ∷ cs)) h = h
 
 of_groups : (gs : List Group) → list_all is_named_group gs ≡ true
-    → list_all (λ b. list_all is_name (name_as_block (block_of_name b))) (map (λ group. name_of_block group.block) gs) ≡ true
+    → list_all (λ b. list_all is_name (name_as_block (block_of_name b))) (map (λ group. name_of_block group.block) gs)
+    ≡ true
 of_groups [] h = refl
 of_groups (g ∷ gs) h =
     both_true
-    (of_block g.block (first_true (is_named_block g.block) (list_all is_named_item g.items) (first_true (is_named_group g) (list_all is_named_group gs) h)))
+    (of_block g.block
+    (first_true (is_named_block g.block) (list_all is_named_item g.items)
+    (first_true (is_named_group g) (list_all is_named_group gs) h)))
     (of_groups gs (second_true (is_named_group g) (list_all is_named_group gs) h))
 
 -- the blocks that a statement declares have names, or none
-pub blocks_named : (d : Dialect) (s : Stmt) (t : List ℕ) → form d s t → list_all (λ b. list_all is_name (name_as_block (block_of_name b))) (blocks_by s) ≡ true
+pub blocks_named : (d : Dialect) (s : Stmt) (t : List ℕ) → form d s t
+    → list_all (λ b. list_all is_name (name_as_block (block_of_name b))) (blocks_by s) ≡ true
 blocks_named d (Common groups) t h = of_groups groups (groups_named groups h.1 h.4)
 blocks_named d _ t h = refl

@@ -17,7 +17,8 @@ use Rattle.deck_laws.proofs.RightStatements.{statements_right}
 use Rattle.deck_laws.proofs.OrderProved.{order_proved, result_proved}
 use Rattle.deck_laws.proofs.BlocksAgree.{blocks_agree}
 
-unit_proved : (d : Dialect) (earlier : List Segment) (unit : Segment) → Given d earlier unit → IsWellFormedUnit d (unit_of unit)
+unit_proved : (d : Dialect) (earlier : List Segment) (unit : Segment) → Given d earlier unit
+    → IsWellFormedUnit d (unit_of unit)
 unit_proved d earlier unit g =
     record {
       names = names_proved d earlier unit g;
@@ -32,11 +33,14 @@ unit_proved d earlier unit g =
       result = result_proved d earlier unit g;
     }
 
-units_proved : (d : Dialect) (earlier units : List Segment) → AreGiven d earlier units → AreWellFormedUnits d (map unit_of units)
+units_proved : (d : Dialect) (earlier units : List Segment) → AreGiven d earlier units
+    → AreWellFormedUnits d (map unit_of units)
 units_proved d earlier [] g = tt
-units_proved d earlier (unit ∷ units) g = (unit_proved d earlier unit g.0, units_proved d (earlier ++ unit ∷ []) units g.1)
+units_proved d earlier (unit ∷ units) g =
+    (unit_proved d earlier unit g.0, units_proved d (earlier ++ unit ∷ []) units g.1)
 
-places_keep : (d : Dialect) (lines : List Line) → fault_of d lines ≡ None → (p : Place) → IsIn p (places d (segments lines)) → KeepsRules p
+places_keep : (d : Dialect) (lines : List Line) → fault_of d lines ≡ None → (p : Place)
+    → IsIn p (places d (segments lines)) → KeepsRules p
 places_keep d [] h p m = search rules
 places_keep d (line ∷ lines) h p m = rules_kept (places d (segments (line ∷ lines))) h p m
 
@@ -44,5 +48,6 @@ pub decks_without_fault_are_well_formed : DecksWithoutFaultAreWellFormed
 decks_without_fault_are_well_formed d pieces spelled ascend none =
     let lines = statements pieces in
     let units = segments lines in
-    let given = are_given d [] units (all_keep d [] units (places_keep d lines none)) (parts d 0 lines spelled ascend) in
+    let given = are_given d [] units (all_keep d [] units (places_keep d lines none))
+    (parts d 0 lines spelled ascend) in
     (units_proved d [] units given, blocks_agree d units given)

@@ -16,5 +16,6 @@ do_ascend lines = ascend_above 0 lines
 -- the cards of the statements among some entries ascend from above one
 abbrev pub entries_ascend_above : ℕ → List Entry → Bool
 entries_ascend_above card [] = true
-entries_ascend_above card (Statement number label text ∷ entries) = nat_lt card number && entries_ascend_above number entries
+entries_ascend_above card (Statement number label text ∷ entries) =
+    nat_lt card number && entries_ascend_above number entries
 entries_ascend_above card (Note number text ∷ entries) = entries_ascend_above card entries
