@@ -25,7 +25,7 @@ found_continues k None o = joint_continues k o
 abbrev pub continues : ℕ → List ℕ → Bool
 continues k t = found_continues k (power_at t) (joint_at t)
 
-first_false : (x y : Bool) → x ≡ false → (x && y) ≡ false
+pub first_false : (x y : Bool) → x ≡ false → (x && y) ≡ false
 first_false false y h = refl
 first_false true y h = absurd cc
 

@@ -18,10 +18,10 @@ pub record Reached (f k : ℕ) (e : Expr) (t r : List ℕ) : Type 0 where
   pub enough : f ≤ left + length t
   pub same : parse (suc f) k (t ++ r) ≡ climb (parse f) left k e r
 
-at_least : (m n : ℕ) → m ≤ n → nat_le m n ≡ true
+pub at_least : (m n : ℕ) → m ≤ n → nat_le m n ≡ true
 at_least m n h = grind (arith, nat_tests)
 
-and_true : (x y : Bool) → x ≡ true → y ≡ true → (x && y) ≡ true
+pub and_true : (x y : Bool) → x ≡ true → y ≡ true → (x && y) ≡ true
 and_true true y h k = k
 and_true false y h k = absurd cc
 

@@ -3,7 +3,7 @@ use Rattle.std.proofs.Common.{◌≡◌, ℕ, Bool, true, false, Some, List, [],
 use Rattle.std.specs.Prelude.{◌==◌, ◌&&◌}
 use Rattle.std.proofs.lemmas.Bool.Decides.{nat_tests}
 use Rattle.formula.specs.Atoms.{is_letter, is_digit, is_name_byte, starts}
-use Rattle.fort_syntax.specs.declared.expr.Expr.TheVariants.{Const, Var}
+use Rattle.fort_syntax.specs.declared.expr.Expr.TheVariants.{Const}
 use Rattle.fort_syntax.specs.Spelled.{is_name, constant}
 use Rattle.fort_syntax.specs.Misspelled.{begins}
 use Rattle.stmt_parse.specs.Tokens.{◌>>=◌}
@@ -28,10 +28,10 @@ both : (x y : Bool) → (x && y) ≡ true → (x ≡ true) × (y ≡ true)
 both true y h = (refl, h)
 both false y h = absurd cc
 
--- a name that no bracket follows
-var_front : (inner : Inner) (n k : ℕ) (x r : List ℕ) → is_name x ≡ true → starts is_name_byte r ≡ false → begins (codes "(") r ≡ false → front inner n k (x ++ r) ≡ Some (Var x, r)
-var_front inner n k [] r h apart closed = absurd cc
-var_front inner n k (b ∷ x) r h apart closed =
+-- a name, and what follows it
+pub name_front : (inner : Inner) (n k : ℕ) (x r : List ℕ) → is_name x ≡ true → starts is_name_byte r ≡ false → front inner n k (x ++ r) ≡ named inner n x r
+name_front inner n k [] r h apart = absurd cc
+name_front inner n k (b ∷ x) r h apart =
     let q = letter_apart b (both _ _ (both _ _ h).0).0 in
     when_false (begins (codes ".NOT.") (b ∷ x ++ r)) _ _ (differs 46 (codes "NOT.") b (x ++ r) q.0)
     ∙ when_false (begins (codes "+") (b ∷ x ++ r)) _ _ (differs 43 [] b (x ++ r) q.1)
@@ -41,10 +41,9 @@ var_front inner n k (b ∷ x) r h apart closed =
     ∙ when_false (begins (codes "(") (b ∷ x ++ r)) _ _ (differs 40 [] b (x ++ r) q.3)
     ∙ when_false (is_digit b) _ _ q.4
     ∙ ap (λ y. y >>= λ z. named inner n z.0 z.1) (name_read (b ∷ x) r h apart)
-    ∙ when_false (begins (codes "(") r) _ _ closed
 
 -- a constant
-constant_front : (inner : Inner) (n k c : ℕ) (x r : List ℕ) → constant c x → starts is_digit r ≡ false → front inner n k (x ++ r) ≡ Some (Const c, r)
+pub constant_front : (inner : Inner) (n k c : ℕ) (x r : List ℕ) → constant c x → starts is_digit r ≡ false → front inner n k (x ++ r) ≡ Some (Const c, r)
 constant_front inner n k c [] r h apart = absurd (let bad : false ≡ true = h.0 in cc)
 constant_front inner n k c (b ∷ x) r h apart =
     let d : is_digit b ≡ true = (both _ _ h.0).0 in
