@@ -8,10 +8,12 @@ use Rattle.fort_syntax.specs.declared.expr.Expr.TheVariants.{Const, Truth, Var, 
 use Rattle.stmt_parse.specs.Tokens.{◌>>=◌, name_at}
 use Rattle.stmt_parse.specs.Parsing.{bracketed_arguments, named, parse}
 use Rattle.stmt_parse.proofs.ExpressionsAnswers.{Begun, begun_so}
-use Rattle.stmt_parse.proofs.ExpressionsParsed.{Spelled, Behind, named_read, bracketed_read, parsed_sound}
+use Rattle.stmt_parse.proofs.ExpressionsForms.{Behind}
+use Rattle.stmt_parse.proofs.ExpressionsParsed.{Spelled, named_read, bracketed_read, parsed_sound}
 pub use Rattle.stmt_parse.proofs.ExpressionsEnds.{is_apart, ends}
 use Rattle.stmt_parse.proofs.ExpressionsEnds.{ends_parts, no_name_byte, no_bracket}
-use Rattle.stmt_parse.proofs.ExpressionsSpelled.{read_whole, reads, are_read, bracketed_are_read, apply_named}
+use Rattle.stmt_parse.proofs.ExpressionsOperators.{read_whole}
+use Rattle.stmt_parse.proofs.ExpressionsSpelled.{reads, are_read, bracketed_are_read, apply_named}
 use Rattle.stmt_parse.proofs.ExpressionsViews.{apply_row, items_of_row}
 use Rattle.stmt_parse.proofs.TokensRead.{when_false, name_read}
 

@@ -30,12 +30,12 @@ digit_no_star : (b : ℕ) → is_digit b ≡ true → is_no_star b ≡ true
 digit_no_star b h = grind (arith, nat_tests)
 
 -- so begins a text that begins so
-pub longer : (p : ℕ → Bool) (x y : List ℕ) → starts p x ≡ true → starts p (x ++ y) ≡ true
-longer p [] y h = absurd (let bad : false ≡ true = h in cc)
-longer p (b ∷ x) y h = h
+pub starts_longer : (p : ℕ → Bool) (x y : List ℕ) → starts p x ≡ true → starts p (x ++ y) ≡ true
+starts_longer p [] y h = absurd (let bad : false ≡ true = h in cc)
+starts_longer p (b ∷ x) y h = h
 
 begun_so_far : (t x y : List ℕ) → t ≡ x ++ y → starts is_no_star x ≡ true → starts is_no_star t ≡ true
-begun_so_far t x y same h = ap (starts is_no_star) same ∙ longer is_no_star x y h
+begun_so_far t x y same h = ap (starts is_no_star) same ∙ starts_longer is_no_star x y h
 
 spelled_by : (t s : List ℕ) → t ≡ s → starts is_no_star s ≡ true → starts is_no_star t ≡ true
 spelled_by t s same h = ap (starts is_no_star) same ∙ h

@@ -4,19 +4,17 @@ use Rattle.std.specs.Prelude.{if◌then◌else◌, nat_le}
 use Rattle.std.proofs.lemmas.Bool.Decides.{nat_tests}
 use Rattle.std.proofs.lemmas.Option.{none-some}
 use Rattle.formula.specs.Atoms.{is_digit, starts}
-use Rattle.fort_syntax.specs.Grammar.{left_side}
 use Rattle.fort_syntax.specs.Misspelled.{begins}
-use Rattle.fort_syntax.specs.Spelled.{Texts, is_name, just, ◌⨾◌, bracketed, constant, exponent, binding, bound, expression, arguments, more_arguments, row_of}
-use Rattle.fort_syntax.specs.declared.dialect.BinOp.TheVariants.{Add, Sub, Mul, Div}
+use Rattle.fort_syntax.specs.Spelled.{Texts, is_name, just, ◌⨾◌, constant, exponent, binding, bound, expression, arguments, more_arguments, row_of}
 use Rattle.fort_syntax.specs.declared.name.Name.{Name}
 use Rattle.fort_syntax.specs.declared.expr.Expr.{Expr, Const, Truth, Var, Apply, Paren, Pos, Neg, Power, Not}
 use Rattle.stmt_parse.specs.declared.joint.Joint.{Joint}
-use Rattle.stmt_parse.specs.declared.joint.Joint.TheVariants as joint
 use Rattle.stmt_parse.specs.Tokens.{Reading, ◌>>=◌, after, name_at, constant_at, power_at, joint_at, strength, left_strength, right_strength}
 use Rattle.stmt_parse.specs.Parsing.{Inner, joined, arguments as arguments_at, more_arguments as more_at, bracketed_arguments, named, bracket, primary, signed, front, takes, takes_power, at_joint, at_power, climb, parse}
 use Rattle.stmt_parse.proofs.ExpressionsAnswers.{Begun, first_step, by_test, when_passed, same_answer, both_true, begun, followed, word_first, word_last, begun_so, begun_answer}
 use Rattle.stmt_parse.proofs.ExpressionsTokens.{name_spelled, constant_spelled, power_spelled, sign_text, joint_spelled}
-use Rattle.stmt_parse.proofs.ExpressionsViews.{paren_tree, pos_tree, neg_tree, not_tree, power_tree, bin_tree, rel_tree, and_tree, or_tree, apply_text}
+use Rattle.stmt_parse.proofs.ExpressionsForms.{joined_spelled, joined_binding, right_most, Operand, Behind, apply_behind, var_behind, paren_operand, not_form, pos_form, neg_form}
+use Rattle.stmt_parse.proofs.ExpressionsViews.{power_tree}
 
 -- the text spells an expression, which is bound tightly enough where that can be
 abbrev pub Spelled : ℕ → Expr → Texts
@@ -29,44 +27,7 @@ Sound inner = (k : ℕ) (t : List ℕ) (e : Expr) (r : List ℕ) → inner k t �
 at_most : (k n : ℕ) → nat_le k n ≡ true → k ≤ n
 at_most k n h = grind (arith, nat_tests)
 
--- ---- operators
-
-joined_spelled : (o : Joint) (a b : Expr) → (x : List ℕ)
-    → (bound (left_strength o) a (expression a) ⨾ just (sign_text o) ⨾ bound (right_strength o) b (expression b)) x → expression (joined o a b) x
-joined_spelled joint.Or a b x h = subst (λ e. expression e x) (sym (or_tree a b)) (h.0, h.1, h.2, h.3.1, h.4)
-joined_spelled joint.And a b x h = subst (λ e. expression e x) (sym (and_tree a b)) h
-joined_spelled (joint.Rel o) a b x h = subst (λ e. expression e x) (sym (rel_tree o a b)) h
-joined_spelled (joint.Bin o) a b x h = subst (λ e. expression e x) (sym (bin_tree o a b)) h
-
-joined_binding : (o : Joint) (a b : Expr) → binding (joined o a b) ≡ strength o
-joined_binding joint.Or a b = ap binding (or_tree a b)
-joined_binding joint.And a b = ap binding (and_tree a b)
-joined_binding (joint.Rel o) a b = ap binding (rel_tree o a b)
-joined_binding (joint.Bin o) a b = ap binding (bin_tree o a b)
-
--- ---- what needs no operator
-
--- the text spells an expression that needs no operator
-abbrev pub Operand : Expr → Texts
-Operand e x = (7 ≤ binding e) × expression e x
-
--- behind a name: both the left side of an assignment and an expression
-abbrev pub Behind : Name → Expr → Texts
-Behind x e y = left_side e (x ++ y) × Operand e (x ++ y)
-
-apply_behind : (x : Name) (es : List Expr) → is_name x ≡ true → (y : List ℕ) → bracketed (arguments (row_of es)) y → Behind x (Apply x es) y
-apply_behind x es good y h =
-    let form : expression (Apply x es) (x ++ y) = apply_text x es (x ++ y) (x, y, refl, (refl, good), h) in
-    (form, (omega arith, form))
-
-var_behind : (x : Name) → is_name x ≡ true → Behind x (Var x) []
-var_behind x good =
-    let form : expression (Var x) (x ++ []) = (append-nil x, good) in
-    (form, (omega arith, form))
-
-paren_operand : (e : Expr) (x : List ℕ) → bracketed (expression e) x → Operand (Paren e) x
-paren_operand e x h = subst (λ z. Operand z x) (sym (paren_tree e)) (omega arith, h)
-
+-- a number as an expression
 abbrev number : ℕ × List ℕ → Reading Expr
 number c = Some (Const c.0, c.1)
 
@@ -75,17 +36,6 @@ number_read t e r h =
     let s = first_step (constant_at t) _ _ h in
     begun_answer Operand t (Const s.0.0) e s.0.1 r s.2
     (begun_so (constant s.0.0) (Operand (Const s.0.0)) t s.0.1 (λ x q. (omega arith, q)) (constant_spelled t s.0.0 s.0.1 s.1))
-
--- ---- signs and .NOT.
-
-not_form : (e : Expr) (x : List ℕ) → (just (codes ".NOT.") ⨾ bound 3 e (expression e)) x → (2 ≤ binding (Not e)) × expression (Not e) x
-not_form e x h = subst (λ z. (2 ≤ binding z) × expression z x) (sym (not_tree e)) (omega arith, h)
-
-pos_form : (e : Expr) (x : List ℕ) → (just (codes "+") ⨾ bound 5 e (expression e)) x → (4 ≤ binding (Pos e)) × expression (Pos e) x
-pos_form e x h = subst (λ z. (4 ≤ binding z) × expression z x) (sym (pos_tree e)) (omega arith, h)
-
-neg_form : (e : Expr) (x : List ℕ) → (just (codes "-") ⨾ bound 5 e (expression e)) x → (4 ≤ binding (Neg e)) × expression (Neg e) x
-neg_form e x h = subst (λ z. (4 ≤ binding z) × expression z x) (sym (neg_tree e)) (omega arith, h)
 
 -- ---- operators behind an expression
 
@@ -103,20 +53,12 @@ stays k x a t ok = ([], refl, subst (Spelled k a) (sym (append-nil x)) ok)
 onward : (P : Texts) (x y t s r : List ℕ) → t ≡ y ++ s → Begun (λ z. P ((x ++ y) ++ z)) s r → Begun (λ z. P (x ++ z)) t r
 onward P x y t s r first h = (y ++ h.0, first ∙ ap (λ z. y ++ z) h.1 ∙ sym (append_assoc y h.0 r), subst P (append_assoc x y h.0) h.2)
 
-right_most : (o : Joint) → right_strength o ≤ 7
-right_most joint.Or = omega arith
-right_most joint.And = omega arith
-right_most (joint.Rel o) = omega arith
-right_most (joint.Bin Add) = omega arith
-right_most (joint.Bin Sub) = omega arith
-right_most (joint.Bin Mul) = omega arith
-right_most (joint.Bin Div) = omega arith
-
 -- ---- inside
 
 module _ (inner : Inner) (sound : Sound inner) where
-  one : (t : List ℕ) (e : Expr) (r : List ℕ) → inner 0 t ≡ Some (e, r) → Begun (expression e) t r
-  one t e r h = begun_so (Spelled 0 e) (expression e) t r (λ x s. s.1) (sound 0 t e r h)
+  -- what is read inside, as loosely as can be
+  inner_read : (t : List ℕ) (e : Expr) (r : List ℕ) → inner 0 t ≡ Some (e, r) → Begun (expression e) t r
+  inner_read t e r h = begun_so (Spelled 0 e) (expression e) t r (λ x s. s.1) (sound 0 t e r h)
 
   more_spelled : (n : ℕ) (es : List Expr) (t : List ℕ) (fs : List Expr) (r : List ℕ) → more_at inner n es t ≡ Some (fs, r)
       → (gs : List Expr) × (fs ≡ es ++ gs) × Begun (more_arguments (row_of gs)) t r
@@ -128,7 +70,7 @@ module _ (inner : Inner) (sound : Sound inner) where
             let m = more_spelled n (es ++ s.0.0 ∷ []) s.0.1 fs r s.2 in (
               s.0.0 ∷ m.0,
               m.1 ∙ append_assoc es (s.0.0 ∷ []) m.0,
-              word_first (codes ",") t _ r b.0 (followed (expression s.0.0) (more_arguments (row_of m.0)) (drop 1 t) s.0.1 r (one (drop 1 t) s.0.0 s.0.1 s.1) m.2),
+              word_first (codes ",") t _ r b.0 (followed (expression s.0.0) (more_arguments (row_of m.0)) (drop 1 t) s.0.1 r (inner_read (drop 1 t) s.0.0 s.0.1 s.1) m.2),
             )
         | inr b ↦ let s = same_answer es fs t r b.1 in ([], sym s.0 ∙ sym (append-nil es), ([], s.1, refl))
       ]
@@ -138,7 +80,7 @@ module _ (inner : Inner) (sound : Sound inner) where
       let s = first_step (inner 0 t) _ _ h in
       let m = more_spelled n (s.0.0 ∷ []) s.0.1 es r s.2 in
       subst (λ fs. Begun (arguments (row_of fs)) t r) (sym m.1)
-      (followed (expression s.0.0) (more_arguments (row_of m.0)) t s.0.1 r (one t s.0.0 s.0.1 s.1) m.2)
+      (followed (expression s.0.0) (more_arguments (row_of m.0)) t s.0.1 r (inner_read t s.0.0 s.0.1 s.1) m.2)
 
   pub bracketed_read : (n : ℕ) (t : List ℕ) (es : List Expr) (r : List ℕ) → bracketed_arguments inner n t ≡ Some (es, r)
       → Begun (arguments (row_of es) ⨾ just (codes ")")) t r
@@ -169,7 +111,7 @@ module _ (inner : Inner) (sound : Sound inner) where
       let texts = expression s.0.0 ⨾ just (codes ")") in
       begun_answer Operand t (Paren s.0.0) e l.0 r l.2
       (begun_so (just (codes "(") ⨾ texts) (Operand (Paren s.0.0)) t l.0 (paren_operand s.0.0)
-      (word_first (codes "(") t texts l.0 opened (word_last (expression s.0.0) (codes ")") (drop 1 t) s.0.1 l.0 (one (drop 1 t) s.0.0 s.0.1 s.1) l.1)))
+      (word_first (codes "(") t texts l.0 opened (word_last (expression s.0.0) (codes ")") (drop 1 t) s.0.1 l.0 (inner_read (drop 1 t) s.0.0 s.0.1 s.1) l.1)))
 
   name_read : (n : ℕ) (t : List ℕ) (e : Expr) (r : List ℕ) → (name_at t >>= λ x. named inner n x.0 x.1) ≡ Some (e, r) → Begun (Operand e) t r
   name_read n t e r h =
