@@ -21,6 +21,7 @@ is_apart r = not (starts goes_on r)
 abbrev pub ends : ℕ → List ℕ → Bool
 ends k r = is_apart r && not (continues k r)
 
+-- both parts of an end
 pub ends_parts : (k : ℕ) (r : List ℕ) → ends k r ≡ true → (is_apart r ≡ true) × (continues k r ≡ false)
 ends_parts k r h = let p = both_true (is_apart r) _ h in (p.0, untrue _ p.1)
 
@@ -28,6 +29,7 @@ neither : (x y : Bool) → (x || y) ≡ false → (x ≡ false) × (y ≡ false)
 neither false y h = (refl, h)
 neither true y h = absurd (let bad : true ≡ false = h in cc)
 
+-- what it does not begin with
 pub no_name_byte : (r : List ℕ) → is_apart r ≡ true → starts is_name_byte r ≡ false
 no_name_byte [] h = refl
 no_name_byte (b ∷ r) h = (neither (is_name_byte b) _ (untrue _ h)).0
@@ -51,7 +53,8 @@ joint_later : (k m : ℕ) (o : Reading Joint) → k ≤ m → joint_continues k 
 joint_later k m None le h = refl
 joint_later k m (Some o) le h = weaker k m (strength o.0) le h
 
-found_later : (k m : ℕ) (p : Reading ℕ) (o : Reading Joint) → k ≤ m → found_continues k p o ≡ false → found_continues m p o ≡ false
+found_later : (k m : ℕ) (p : Reading ℕ) (o : Reading Joint) → k ≤ m → found_continues k p o ≡ false
+    → found_continues m p o ≡ false
 found_later k m None o le h = joint_later k m o le h
 found_later k m (Some p) o le h = weaker k m 6 le h
 

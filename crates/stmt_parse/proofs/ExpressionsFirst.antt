@@ -48,12 +48,14 @@ of_digit : (x : List ℕ) → starts is_digit x ≡ true → starts is_no_star x
 of_digit [] h = absurd (let bad : false ≡ true = h in cc)
 of_digit (b ∷ x) h = digit_no_star b h
 
+-- no expression begins with `*`
 pub first_byte : (e : Expr) (x : List ℕ) → expression e x → starts is_no_star x ≡ true
 first_byte (Const n) x h = of_digit x (both_true _ _ h.0).0
 first_byte (Truth true) x h = spelled_by x (codes ".TRUE.") h refl
 first_byte (Truth false) x h = spelled_by x (codes ".FALSE.") h refl
 first_byte (Var name) x h = spelled_by x name h.0 (of_letter name (both_true _ _ (both_true _ _ h.1).0).0)
-first_byte (Apply' name m args) x h = begun_so_far x h.0 h.1 h.2 (spelled_by h.0 name h.3.0 (of_letter name (both_true _ _ (both_true _ _ h.3.1).0).0))
+first_byte (Apply' name m args) x h =
+    begun_so_far x h.0 h.1 h.2 (spelled_by h.0 name h.3.0 (of_letter name (both_true _ _ (both_true _ _ h.3.1).0).0))
 first_byte (Paren' m (only a)) x h = begun_so_far x h.0 h.1 h.2 (spelled_by h.0 (codes "(") h.3 refl)
 first_byte (Pos' m (only a)) x h = begun_so_far x h.0 h.1 h.2 (spelled_by h.0 (codes "+") h.3 refl)
 first_byte (Neg' m (only a)) x h = begun_so_far x h.0 h.1 h.2 (spelled_by h.0 (codes "-") h.3 refl)
@@ -81,16 +83,18 @@ no_power (joint.Bin Sub) t h = refl
 no_power (joint.Bin Div) t h = refl
 no_power (joint.Bin Mul) [] h = absurd (let bad : false ≡ true = h in cc)
 no_power (joint.Bin Mul) (b ∷ t) h =
-    when_false (begins (codes "**") (42 ∷ b ∷ t) && nat_le 49 (get_or (42 ∷ b ∷ t) 2 0) && nat_le (get_or (42 ∷ b ∷ t) 2 0) 57) _ _
+    when_false
+    (begins (codes "**") (42 ∷ b ∷ t) && nat_le 49 (get_or (42 ∷ b ∷ t) 2 0) && nat_le (get_or (42 ∷ b ∷ t) 2 0) 57) _ _
     (first_false _ _ (first_false _ _ (first_false (42 == b) _ (untrue _ h))))
 
+-- each operator is found where its sign stands
 pub joint_found : (o : Joint) (t : List ℕ) → joint_at (sign_text o ++ t) ≡ Some (o, t)
 joint_found joint.Or t = or_found t
 joint_found joint.And t = and_found t
 joint_found (joint.Rel o) t = relation_found o t
 joint_found (joint.Bin o) t = operator_found o t
 
--- `**` and an exponent
+-- `**` and an exponent are found as a power
 digit_fits : (n : ℕ) → 1 ≤ n → n ≤ 9 → (nat_le 49 (48 + n) ≡ true) × (nat_le (48 + n) 57 ≡ true) × (48 + n - 48 ≡ n)
 digit_fits n low high = (grind (arith, nat_tests), grind (arith, nat_tests), omega arith)
 

@@ -16,12 +16,14 @@ use Rattle.stmt_parse.proofs.ExpressionsViews.{paren_tree, pos_tree, neg_tree, n
 
 -- parts with an operator between them
 pub joined_spelled : (o : Joint) (a b : Expr) → (x : List ℕ)
-    → (bound (left_strength o) a (expression a) ⨾ just (sign_text o) ⨾ bound (right_strength o) b (expression b)) x → expression (joined o a b) x
+    → (bound (left_strength o) a (expression a) ⨾ just (sign_text o) ⨾ bound (right_strength o) b (expression b)) x
+    → expression (joined o a b) x
 joined_spelled joint.Or a b x h = subst (λ e. expression e x) (sym (or_tree a b)) (h.0, h.1, h.2, h.3.1, h.4)
 joined_spelled joint.And a b x h = subst (λ e. expression e x) (sym (and_tree a b)) h
 joined_spelled (joint.Rel o) a b x h = subst (λ e. expression e x) (sym (rel_tree o a b)) h
 joined_spelled (joint.Bin o) a b x h = subst (λ e. expression e x) (sym (bin_tree o a b)) h
 
+-- it is bound as tightly as the operator binds
 pub joined_binding : (o : Joint) (a b : Expr) → binding (joined o a b) ≡ strength o
 joined_binding joint.Or a b = ap binding (or_tree a b)
 joined_binding joint.And a b = ap binding (and_tree a b)
@@ -38,7 +40,9 @@ Operand e x = (7 ≤ binding e) × expression e x
 abbrev pub Behind : Name → Expr → Texts
 Behind x e y = left_side e (x ++ y) × Operand e (x ++ y)
 
-pub apply_behind : (x : Name) (es : List Expr) → is_name x ≡ true → (y : List ℕ) → bracketed (arguments (row_of es)) y → Behind x (Apply x es) y
+-- arguments in brackets, or nothing, behind a name
+pub apply_behind : (x : Name) (es : List Expr) → is_name x ≡ true → (y : List ℕ) → bracketed (arguments (row_of es)) y
+    → Behind x (Apply x es) y
 apply_behind x es good y h =
     let form : expression (Apply x es) (x ++ y) = apply_text x es (x ++ y) (x, y, refl, (refl, good), h) in
     (form, (omega arith, form))
@@ -48,20 +52,25 @@ var_behind x good =
     let form : expression (Var x) (x ++ []) = (append-nil x, good) in
     (form, (omega arith, form))
 
+-- brackets
 pub paren_operand : (e : Expr) (x : List ℕ) → bracketed (expression e) x → Operand (Paren e) x
 paren_operand e x h = subst (λ z. Operand z x) (sym (paren_tree e)) (omega arith, h)
 
 -- ---- signs and .NOT.
 
-pub not_form : (e : Expr) (x : List ℕ) → (just (codes ".NOT.") ⨾ bound 3 e (expression e)) x → (2 ≤ binding (Not e)) × expression (Not e) x
+pub not_form : (e : Expr) (x : List ℕ) → (just (codes ".NOT.") ⨾ bound 3 e (expression e)) x
+    → (2 ≤ binding (Not e)) × expression (Not e) x
 not_form e x h = subst (λ z. (2 ≤ binding z) × expression z x) (sym (not_tree e)) (omega arith, h)
 
-pub pos_form : (e : Expr) (x : List ℕ) → (just (codes "+") ⨾ bound 5 e (expression e)) x → (4 ≤ binding (Pos e)) × expression (Pos e) x
+pub pos_form : (e : Expr) (x : List ℕ) → (just (codes "+") ⨾ bound 5 e (expression e)) x
+    → (4 ≤ binding (Pos e)) × expression (Pos e) x
 pos_form e x h = subst (λ z. (4 ≤ binding z) × expression z x) (sym (pos_tree e)) (omega arith, h)
 
-pub neg_form : (e : Expr) (x : List ℕ) → (just (codes "-") ⨾ bound 5 e (expression e)) x → (4 ≤ binding (Neg e)) × expression (Neg e) x
+pub neg_form : (e : Expr) (x : List ℕ) → (just (codes "-") ⨾ bound 5 e (expression e)) x
+    → (4 ≤ binding (Neg e)) × expression (Neg e) x
 neg_form e x h = subst (λ z. (4 ≤ binding z) × expression z x) (sym (neg_tree e)) (omega arith, h)
 
+-- right parts can be bound as tightly as they must be
 pub right_most : (o : Joint) → right_strength o ≤ 7
 right_most joint.Or = omega arith
 right_most joint.And = omega arith

@@ -31,7 +31,8 @@ abbrev pub IsRead : Expr → Type 0
 IsRead e = (x r : List ℕ) (f k : ℕ) → expression e x → k ≤ binding e → ReadUpTo e f k x r
 
 -- so it is read whole where it ends
-pub read_whole : (e : Expr) → IsRead e → (x r : List ℕ) (f k : ℕ) → expression e x → k ≤ binding e → length x + 2 ≤ f → is_apart r ≡ true → continues k r ≡ false
+pub read_whole : (e : Expr) → IsRead e → (x r : List ℕ) (f k : ℕ) → expression e x → k ≤ binding e → length x + 2 ≤ f
+    → is_apart r ≡ true → continues k r ≡ false
     → parse f k (x ++ r) ≡ Some (e, r)
 read_whole e read x r zero k h tight room apart stop = absurd (omega arith)
 read_whole e read x r (suc f) k h tight room apart stop =
@@ -53,7 +54,8 @@ var_read v x r f k h apart =
 
 -- ---- operators
 
-stronger : (o : Joint) → (strength o ≤ left_strength o) × (right_strength o ≡ strength o + 1) × (1 ≤ length (sign_text o))
+stronger : (o : Joint)
+    → (strength o ≤ left_strength o) × (right_strength o ≡ strength o + 1) × (1 ≤ length (sign_text o))
 stronger joint.Or = (omega arith, refl, omega arith)
 stronger joint.And = (omega arith, refl, omega arith)
 stronger (joint.Rel Lt) = (omega arith, refl, omega arith)
@@ -84,7 +86,8 @@ sign_apart (joint.Bin Div) t = refl
 not_within : (k n : ℕ) → n < k → nat_le k n ≡ false
 not_within k n h = grind (arith, nat_tests)
 
-sign_stops : (k : ℕ) (o : Joint) (t : List ℕ) → strength o < k → starts is_no_star t ≡ true → continues k (sign_text o ++ t) ≡ false
+sign_stops : (k : ℕ) (o : Joint) (t : List ℕ) → strength o < k → starts is_no_star t ≡ true
+    → continues k (sign_text o ++ t) ≡ false
 sign_stops k o t h star =
     (λ i. found_continues k (no_power o t star i) (joint_found o t i)) ∙ not_within k (strength o) h
 
@@ -92,7 +95,8 @@ sign_stops k o t h star =
 abbrev pub Joined : Joint → Expr → Expr → Texts
 Joined o a b = bound (left_strength o) a (expression a) ⨾ just (sign_text o) ⨾ bound (right_strength o) b (expression b)
 
-pub joined_read : (o : Joint) (a b : Expr) → IsRead a → IsRead b → (x r : List ℕ) (f k : ℕ) → Joined o a b x → k ≤ strength o
+pub joined_read : (o : Joint) (a b : Expr) → IsRead a → IsRead b → (x r : List ℕ) (f k : ℕ) → Joined o a b x
+    → k ≤ strength o
     → length x + 1 ≤ f → is_apart r ≡ true → continues (strength o + 1) r ≡ false → Reached f k (joined o a b) x r
 joined_read o a b read_a read_b x r f k h tight room apart stop =
     let tb : List ℕ = h.4.1 in
@@ -108,13 +112,16 @@ joined_read o a b read_a read_b x r f k h tight room apart stop =
     let stop_right : continues (right_strength o) r ≡ false = subst (λ m. continues m r ≡ false) (sym s.1) stop in
     subst (λ y. Reached f k (joined o a b) y r) (sym same)
     (joined_parts f k a b o (sign_text o) h.0 tb r (joint_found o (tb ++ r)) (no_power o (tb ++ r) star) some tight apart_left fits
-    (read_a h.0 (sign_text o ++ (tb ++ r)) f k h.3.1 (omega arith) fits (sign_apart o (tb ++ r)) (sign_stops (binding a + 1) o (tb ++ r) (omega arith) star))
+    (read_a h.0 (sign_text o ++ (tb ++ r)) f k h.3.1 (omega arith) fits (sign_apart o (tb ++ r))
+    (sign_stops (binding a + 1) o (tb ++ r) (omega arith) star))
     (read_whole b read_b tb r f (right_strength o) h.4.4.1 h.4.4.0 (omega arith) apart stop_right))
 
 power_stops : (k n : ℕ) (r : List ℕ) → 1 ≤ n → n ≤ 9 → 6 < k → continues k (42 ∷ 42 ∷ (48 + n) ∷ r) ≡ false
-power_stops k n r low high h = ap (λ p. found_continues k p (joint_at (42 ∷ 42 ∷ (48 + n) ∷ r))) (power_found n r low high) ∙ not_within k 6 h
+power_stops k n r low high h =
+    ap (λ p. found_continues k p (joint_at (42 ∷ 42 ∷ (48 + n) ∷ r))) (power_found n r low high) ∙ not_within k 6 h
 
-pub power_read : (a : Expr) (n : ℕ) → IsRead a → (x r : List ℕ) (f k : ℕ) → (bound 7 a (expression a) ⨾ just (codes "**") ⨾ exponent n) x → k ≤ 6
+pub power_read : (a : Expr) (n : ℕ) → IsRead a → (x r : List ℕ) (f k : ℕ)
+    → (bound 7 a (expression a) ⨾ just (codes "**") ⨾ exponent n) x → k ≤ 6
     → length x + 1 ≤ f → Reached f k (Power a n) x r
 power_read a n read_a x r f k h tight room =
     let sign : List ℕ = 42 ∷ 42 ∷ (48 + n) ∷ [] in
@@ -130,8 +137,10 @@ power_read a n read_a x r f k h tight room =
 
 -- ---- signs and .NOT.
 
-pub prefixed_read : (word : List ℕ) (sign : Expr → Expr) (limit : ℕ) (a : Expr) → IsRead a → (x r : List ℕ) (f k : ℕ) → (just word ⨾ bound (limit + 1) a (expression a)) x
-    → ((t : List ℕ) → front (parse f) f k (word ++ t) ≡ (if nat_le k limit then signed sign (parse f (limit + 1) t) else None)) → 1 ≤ length word → k ≤ limit
+pub prefixed_read : (word : List ℕ) (sign : Expr → Expr) (limit : ℕ) (a : Expr) → IsRead a → (x r : List ℕ) (f k : ℕ)
+    → (just word ⨾ bound (limit + 1) a (expression a)) x
+    → ((t : List ℕ) → front (parse f) f k (word ++ t) ≡ (if nat_le k limit then signed sign (parse f (limit + 1) t) else None))
+    → 1 ≤ length word → k ≤ limit
     → length x + 1 ≤ f → is_apart r ≡ true → continues (limit + 1) r ≡ false → Reached f k (sign a) x r
 prefixed_read word sign limit a read_a x r f k h step some tight room apart stop =
     let y : List ℕ = h.1 in
@@ -147,7 +156,8 @@ prefixed_read word sign limit a read_a x r f k h step some tight room apart stop
 
 -- ---- brackets
 
-pub paren_read : (a : Expr) → IsRead a → (x r : List ℕ) (f k : ℕ) → bracketed (expression a) x → length x + 1 ≤ f → Reached f k (Paren a) x r
+pub paren_read : (a : Expr) → IsRead a → (x r : List ℕ) (f k : ℕ) → bracketed (expression a) x → length x + 1 ≤ f
+    → Reached f k (Paren a) x r
 paren_read a read_a x r f k h room =
     let y : List ℕ = h.4.0 in
     let same : x ≡ 40 ∷ (y ++ 41 ∷ []) = h.2 ∙ (λ i. h.3 i ++ (h.4.2 ∙ ap (λ w. y ++ w) h.4.4) i) in
@@ -156,4 +166,5 @@ paren_read a read_a x r f k h room =
     first_part f k (Paren a) x r
     (ap (λ t. front (parse f) f k (t ++ r)) same
     ∙ ap (λ t. bracket (parse f) t) (append_assoc y (41 ∷ []) r)
-    ∙ ap (λ z. z >>= λ e. after (codes ")") e.1 >>= λ rest. Some (Paren e.0, rest)) (read_whole a read_a y (41 ∷ r) f 0 h.4.3 (omega arith) fits refl refl))
+    ∙ ap (λ z. z >>= λ e. after (codes ")") e.1 >>= λ rest. Some (Paren e.0, rest))
+    (read_whole a read_a y (41 ∷ r) f 0 h.4.3 (omega arith) fits refl refl))

@@ -26,7 +26,8 @@ unfolding name_at
 name_spelled t x r h = name_taken _ t x r h
 
 -- a number
-constant_taken : (n : ℕ) (t : List ℕ) (c : ℕ) (r : List ℕ) → constant_of_length n t ≡ Some (c, r) → Begun (constant c) t r
+constant_taken : (n : ℕ) (t : List ℕ) (c : ℕ) (r : List ℕ) → constant_of_length n t ≡ Some (c, r)
+    → Begun (constant c) t r
 constant_taken n t c r h =
     let p = when_passed (is_digits (take n t)) _ _ h in
     let q = when_refused (is_long (take n t)) _ _ p.1 in
@@ -41,25 +42,30 @@ constant_spelled t c r h = constant_taken _ t c r h
 exponent_is : (b : ℕ) → nat_le 49 b ≡ true → nat_le b 57 ≡ true → (1 ≤ b - 48) × (b - 48 ≤ 9) × (b ≡ 48 + (b - 48))
 exponent_is b low high = (grind (arith, nat_tests), grind (arith, nat_tests), grind (arith, nat_tests))
 
-power_text : (t : List ℕ) (n : ℕ) (r : List ℕ) → (begins (codes "**") t && nat_le 49 (get_or t 2 0) && nat_le (get_or t 2 0) 57) ≡ true → Same (get_or t 2 0 - 48) n (drop 3 t) r
+power_text : (t : List ℕ) (n : ℕ) (r : List ℕ)
+    → (begins (codes "**") t && nat_le 49 (get_or t 2 0) && nat_le (get_or t 2 0) 57) ≡ true
+    → Same (get_or t 2 0 - 48) n (drop 3 t) r
     → Begun (just (codes "**") ⨾ exponent n) t r
 power_text [] n r h same = absurd (let bad : false ≡ true = h in cc)
 power_text (a ∷ []) n r h same =
     let begin : (42 == a && false) ≡ true = (both_true _ (nat_le 49 0) (both_true _ (nat_le 0 57) h).0).0 in
     absurd (let bad : false ≡ true = (both_true (42 == a) false begin).1 in cc)
 power_text (a ∷ b ∷ []) n r h same =
-    absurd (let bad : false ≡ true = (both_true (begins (codes "**") (a ∷ b ∷ [])) (nat_le 49 0) (both_true _ (nat_le 0 57) h).0).1 in cc)
+    let digit : false ≡ true = (both_true (begins (codes "**") (a ∷ b ∷ [])) (nat_le 49 0) (both_true _ (nat_le 0 57) h).0).1 in
+    absurd cc
 power_text (a ∷ b ∷ c ∷ t) n r h same =
     let p = both_true (begins (codes "**") (a ∷ b ∷ c ∷ t) && nat_le 49 c) (nat_le c 57) h in
     let q = both_true (begins (codes "**") (a ∷ b ∷ c ∷ t)) (nat_le 49 c) p.0 in
     let s = same_answer (c - 48) n t r same in
-    let e = exponent_is c q.1 p.1 in (
+    let e = exponent_is c q.1 p.1 in
+    let digit : exponent n (c ∷ []) = subst (λ m. (1 ≤ m) × (m ≤ 9) × (c ∷ [] ≡ (48 + m) ∷ [])) s.0 (e.0, e.1, ap (λ y. y ∷ []) e.2) in (
       a ∷ b ∷ c ∷ [],
       ap (λ y. a ∷ b ∷ c ∷ y) s.1,
-      (codes "**", c ∷ [], begun (codes "**") (a ∷ b ∷ c ∷ []) q.0, refl, subst (λ m. (1 ≤ m) × (m ≤ 9) × (c ∷ [] ≡ (48 + m) ∷ [])) s.0 (e.0, e.1, ap (λ y. y ∷ []) e.2)),
+      (codes "**", c ∷ [], begun (codes "**") (a ∷ b ∷ c ∷ []) q.0, refl, digit),
     )
 
-pub power_spelled : (t : List ℕ) (n : ℕ) (r : List ℕ) → power_at t ≡ Some (n, r) → Begun (just (codes "**") ⨾ exponent n) t r
+pub power_spelled : (t : List ℕ) (n : ℕ) (r : List ℕ) → power_at t ≡ Some (n, r)
+    → Begun (just (codes "**") ⨾ exponent n) t r
 power_spelled t n r h = let p = when_passed _ _ _ h in power_text t n r p.0 p.1
 
 -- ---- operators
@@ -72,10 +78,13 @@ sign_text (joint.Bin o) = operator o
 
 -- the first of some words that begins the text, each with its operator
 word_or : (word t : List ℕ) (o p : Joint) (other : Reading Joint) (r : List ℕ) → sign_text o ≡ word
-    → (if begins word t then Some (o, drop (length word) t) else other) ≡ Some (p, r) → (other ≡ Some (p, r) → t ≡ sign_text p ++ r) → t ≡ sign_text p ++ r
+    → (if begins word t then Some (o, drop (length word) t) else other) ≡ Some (p, r)
+    → (other ≡ Some (p, r) → t ≡ sign_text p ++ r) → t ≡ sign_text p ++ r
 word_or word t o p other r same h rest =
     elim (by_test (begins word t) _ _ _ h) [
-      | inl b ↦ let s = same_answer o p (drop (length word) t) r b.1 in begun word t b.0 ∙ (λ i. (sym same ∙ ap sign_text s.0) i ++ s.1 i)
+      | inl b ↦
+          let s = same_answer o p (drop (length word) t) r b.1 in
+          begun word t b.0 ∙ (λ i. (sym same ∙ ap sign_text s.0) i ++ s.1 i)
       | inr b ↦ rest b.1
     ]
 

@@ -12,6 +12,8 @@ use Rattle.fort_syntax.specs.declared.expr.Expr.TheBlock.{hidden-the_row-Expr-0}
 use Rattle.fort_syntax.specs.declared.expr.Expr.{Apply, Paren, Pos, Neg, Power, Bin, Rel, Not, And, Or}
 use Rattle.fort_syntax.specs.declared.expr.Expr.TheVariants.{Apply', Paren', Pos', Neg', Power', Bin', Rel', Not', And', Or'}
 
+-- ---- what stands in the places of operators
+
 pub paren_tree : (e : Expr) → Paren e ≡ Paren' _ (only e)
 unfolding Rattle.fort_syntax.specs.declared.expr.Expr.TheBlock.hidden-the_row-Expr-1 denote.Hole.Carrier.hidden
 paren_tree e = refl
@@ -50,14 +52,18 @@ or_tree a b = refl
 
 -- ---- arguments
 
+-- a row of listed expressions has them
 pub items_of_row : (es : List Expr) → items-the_row-Expr _ (row_of es) ≡ es
 items_of_row [] = refl
 items_of_row (e ∷ es) = ap (λ xs. e ∷ xs) (items_of_row es)
 
-pub apply_row : (x : Name) (m : (the_former (this {0})).Shape) (row : Row_of-Expr (arity (the_former (this {0})) m)) → Apply x (items-the_row-Expr _ row) ≡ Apply' x m row
+-- arguments, listed or in a row
+pub apply_row : (x : Name) (m : (the_former (this {0})).Shape) (row : Row_of-Expr (arity (the_former (this {0})) m))
+    → Apply x (items-the_row-Expr _ row) ≡ Apply' x m row
 unfolding roll-Expr out-Expr denote.Hole.Carrier.roll denote.Hole.Carrier.out
 apply_row x m row = ap (Apply x) (sym (items_shown-the_row-Expr-0 m row)) ∙ roll-out-Expr (Apply' x m row)
 
+-- a row and what it lists have the same texts
 more_texts : {m : Count} (row : Row_of-Expr m) → more_arguments row ≡ more_arguments (row_of (items-the_row-Expr _ row))
 more_texts end_of-Expr = refl
 more_texts (more_of-Expr e row) = ap (λ P. just (codes ",") ⨾ expression e ⨾ P) (more_texts row)
@@ -67,7 +73,8 @@ argument_texts end_of-Expr = refl
 argument_texts (more_of-Expr e row) = ap (λ P. expression e ⨾ P) (more_texts row)
 
 -- the texts of a name with arguments
-pub apply_text : (x : Name) (es : List Expr) (t : List ℕ) → (name x ⨾ bracketed (arguments (row_of es))) t → expression (Apply x es) t
+pub apply_text : (x : Name) (es : List Expr) (t : List ℕ) → (name x ⨾ bracketed (arguments (row_of es))) t
+    → expression (Apply x es) t
 apply_text x es t h =
     let same : arguments (row_of es) ≡ arguments (hidden-the_row-Expr-0 es) =
     ap (λ xs. arguments (row_of xs)) (sym (items_hidden-the_row-Expr-0 es)) ∙ sym (argument_texts (hidden-the_row-Expr-0 es)) in

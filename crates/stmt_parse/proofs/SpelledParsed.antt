@@ -16,14 +16,18 @@ use Rattle.stmt_parse.proofs.TokensRead.{when_true, when_false, name_read, const
 differs : (w : ℕ) (ws : List ℕ) (b : ℕ) (rest : List ℕ) → (w == b) ≡ false → begins (w ∷ ws) (b ∷ rest) ≡ false
 differs w ws b rest h = first_false (w == b) _ h
 
-letter_apart : (b : ℕ) → is_letter b ≡ true → ((46 == b) ≡ false) × ((43 == b) ≡ false) × ((45 == b) ≡ false) × ((40 == b) ≡ false) × (is_digit b ≡ false)
+letter_apart : (b : ℕ) → is_letter b ≡ true
+    → ((46 == b) ≡ false) × ((43 == b) ≡ false) × ((45 == b) ≡ false) × ((40 == b) ≡ false) × (is_digit b ≡ false)
 letter_apart b h = (grind (arith, nat_tests), grind (arith, nat_tests), grind (arith, nat_tests), grind (arith, nat_tests), grind (arith, nat_tests))
 
-digit_apart : (b : ℕ) → is_digit b ≡ true → ((46 == b) ≡ false) × ((43 == b) ≡ false) × ((45 == b) ≡ false) × ((40 == b) ≡ false)
-digit_apart b h = (grind (arith, nat_tests), grind (arith, nat_tests), grind (arith, nat_tests), grind (arith, nat_tests))
+digit_apart : (b : ℕ) → is_digit b ≡ true
+    → ((46 == b) ≡ false) × ((43 == b) ≡ false) × ((45 == b) ≡ false) × ((40 == b) ≡ false)
+digit_apart b h =
+    (grind (arith, nat_tests), grind (arith, nat_tests), grind (arith, nat_tests), grind (arith, nat_tests))
 
 -- a name, and what follows it
-pub name_front : (inner : Inner) (n k : ℕ) (x r : List ℕ) → is_name x ≡ true → starts is_name_byte r ≡ false → front inner n k (x ++ r) ≡ named inner n x r
+pub name_front : (inner : Inner) (n k : ℕ) (x r : List ℕ) → is_name x ≡ true → starts is_name_byte r ≡ false
+    → front inner n k (x ++ r) ≡ named inner n x r
 name_front inner n k [] r h apart = absurd cc
 name_front inner n k (b ∷ x) r h apart =
     let q = letter_apart b (both_true _ _ (both_true _ _ h).0).0 in
@@ -37,7 +41,8 @@ name_front inner n k (b ∷ x) r h apart =
     ∙ ap (λ y. y >>= λ z. named inner n z.0 z.1) (name_read (b ∷ x) r h apart)
 
 -- a constant
-pub constant_front : (inner : Inner) (n k c : ℕ) (x r : List ℕ) → constant c x → starts is_digit r ≡ false → front inner n k (x ++ r) ≡ Some (Const c, r)
+pub constant_front : (inner : Inner) (n k c : ℕ) (x r : List ℕ) → constant c x → starts is_digit r ≡ false
+    → front inner n k (x ++ r) ≡ Some (Const c, r)
 constant_front inner n k c [] r h apart = absurd (let bad : false ≡ true = h.0 in cc)
 constant_front inner n k c (b ∷ x) r h apart =
     let d : is_digit b ≡ true = (both_true _ _ h.0).0 in

@@ -31,7 +31,8 @@ name_read x r h k =
     ∙ (λ i. if is_name (take-append_seam x r i) then Some (take-append_seam x r i, drop-append_seam x r i) else None)
     ∙ when_true (is_name x) _ _ h
 
-pub constant_read : (n : ℕ) (x r : List ℕ) → constant n x → starts is_digit r ≡ false → constant_at (x ++ r) ≡ Some (n, r)
+pub constant_read : (n : ℕ) (x r : List ℕ) → constant n x → starts is_digit r ≡ false
+    → constant_at (x ++ r) ≡ Some (n, r)
 unfolding constant_at
 constant_read n x r h k =
     let all : list_all is_digit x ≡ true = (both_true _ _ h.0).1 in
