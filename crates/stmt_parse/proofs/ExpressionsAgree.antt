@@ -10,7 +10,7 @@ use Rattle.stmt_parse.specs.Parsing.{bracketed_arguments, named, parse}
 use Rattle.stmt_parse.proofs.ExpressionsAnswers.{Begun, begun_so}
 use Rattle.stmt_parse.proofs.ExpressionsForms.{Behind}
 use Rattle.stmt_parse.proofs.ExpressionsParsed.{Spelled, named_read, bracketed_read, parsed_sound}
-pub use Rattle.stmt_parse.proofs.ExpressionsEnds.{is_apart, ends}
+pub use Rattle.stmt_parse.proofs.ExpressionsEnds.{is_apart, ends, is_closed, closed_ends}
 use Rattle.stmt_parse.proofs.ExpressionsEnds.{ends_parts, no_name_byte, no_bracket}
 use Rattle.stmt_parse.proofs.ExpressionsOperators.{read_whole}
 use Rattle.stmt_parse.proofs.ExpressionsSpelled.{reads, are_read, bracketed_are_read, apply_named}

@@ -1,5 +1,5 @@
 -- What ends an expression: nothing that goes on with its last name or number, and no operator that binds tightly enough.
-use Rattle.std.proofs.Common.{◌≡◌, ℕ, ◌≤◌, Bool, true, false, Some, None, List, [], ◌∷◌, codes, refl, ap, arith}
+use Rattle.std.proofs.Common.{◌≡◌, ℕ, ◌≤◌, Bool, true, false, Some, None, List, [], ◌∷◌, codes, refl, ap, subst, arith, inl, inr, ◌⊎◌}
 use Rattle.std.specs.Prelude.{◌==◌, ◌&&◌, ◌||◌, not, nat_le}
 use Rattle.std.proofs.lemmas.Bool.Decides.{nat_tests}
 use Rattle.formula.specs.Atoms.{is_digit, is_letter, is_name_byte, starts}
@@ -44,6 +44,34 @@ other_byte b w h = grind (arith, nat_tests)
 pub no_bracket : (r : List ℕ) → is_apart r ≡ true → begins (codes "(") r ≡ false
 no_bracket [] h = refl
 no_bracket (b ∷ r) h = ap (λ z. z && true) (other_byte b 40 (neither (is_name_byte b) _ (untrue _ h)).1)
+
+-- ---- closing bytes
+
+-- nothing follows, or a byte that goes on with no expression: `)`, `,` or `=`
+abbrev pub is_closed : List ℕ → Bool
+is_closed [] = true
+is_closed (b ∷ rest) = (b == 41) || (b == 44) || (b == 61)
+
+either : (x y : Bool) → (x || y) ≡ true → (x ≡ true) ⊎ (y ≡ true)
+either true y h = inl refl
+either false y h = inr h
+
+same_byte : (b w : ℕ) → (b == w) ≡ true → w ≡ b
+same_byte b w h = grind (arith, nat_tests)
+
+-- they end each expression
+pub closed_ends : (r : List ℕ) → is_closed r ≡ true → ends 0 r ≡ true
+closed_ends [] h = refl
+closed_ends (b ∷ r) h =
+    elim (either ((b == 41) || (b == 44)) _ h) [
+      | inl p ↦ elim (either (b == 41) _ p) [
+        | inl q ↦ subst (λ c. ends 0 (c ∷ r) ≡ true) (same_byte b 41 q) refl
+        | inr q ↦ subst (λ c. ends 0 (c ∷ r) ≡ true) (same_byte b 44 q) refl
+      ]
+      | inr p ↦ subst (λ c. ends 0 (c ∷ r) ≡ true) (same_byte b 61 p) refl
+    ]
+
+-- ---- tighter places
 
 -- what does not go on at some strength does not at a greater one
 weaker : (k m n : ℕ) → k ≤ m → nat_le k n ≡ false → nat_le m n ≡ false
