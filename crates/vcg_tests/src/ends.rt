@@ -1,5 +1,5 @@
 // Each public function once, and ends that are slow or fail in mid-stream.
-use crate::{
+use edge_io::{
     Boxed, Failed, List, MemSink, MemSource, NoMemory, Sink, Source, Stack, StdSink, StdSource,
     write_all,
 };

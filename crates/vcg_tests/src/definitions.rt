@@ -3,10 +3,10 @@ ghost use Rattle.std.specs.Prelude.{IfOk, IfSome};
 ghost use Rattle.formula.specs.Adding.{IsBodyIn};
 ghost use Rattle.formula.specs.Pool.{Grows, IsIn};
 
-use crate::{
+use edge_io::{List, NoMemory};
+use formula::{
     Body, BuiltIn, DefFault, Definitions, Func, Heading, TermId, TermPool, Word, read_term,
 };
-use edge_io::{List, NoMemory};
 use std::alloc::Global;
 use std::test::Fail;
 

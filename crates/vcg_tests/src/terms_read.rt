@@ -1,5 +1,5 @@
 // The reader of terms, on texts.
-use crate::{Definitions, ReadFault, TermPool, read_term};
+use formula::{Definitions, ReadFault, TermPool, read_term};
 use std::alloc::Global;
 use std::test::Fail;
 

@@ -1,5 +1,5 @@
 // Decks whose entries or first faults are known.
-use crate::cards;
+use card_deck::cards;
 use edge_io::List;
 use fort_syntax::{Entry, Fault, Refusal, Rule};
 use std::alloc::Global;

@@ -1,6 +1,6 @@
 // One call of each kind, with ample memory.
-use crate::*;
 use edge_io::{List, NoMemory};
+use formula::*;
 use std::test::Fail;
 
 fn full(_: NoMemory) -> Fail {

@@ -3,15 +3,15 @@ ghost use Rattle.std.specs.Prelude.{IfOk};
 ghost use Rattle.formula.specs.Adding.{AreBodiesIn, IsBodyIn};
 ghost use Rattle.formula.specs.Pool.{Grows};
 
-use crate::{
+use edge_io::List;
+use formula::{
     Body, Cell, Definitions, Heading, Sheet, TermPool, Value, Word, Worth, read_term, worth,
 };
-use edge_io::List;
 use std::alloc::Global;
 use std::test::Fail;
 
 // The word of these bytes.
-fn word(bytes: &[u8]) -> Result<Word, Fail> {
+pub fn word(bytes: &[u8]) -> Result<Word, Fail> {
     match Word::new(bytes) {
         Some(word) => Ok(word),
         None => Err("no word".into()),
@@ -19,7 +19,7 @@ fn word(bytes: &[u8]) -> Result<Word, Fail> {
 }
 
 // What the term of a text is worth.
-fn worth_of(
+pub fn worth_of(
     alloc: Global,
     pool: &mut TermPool,
     definitions: &Definitions,

@@ -1,7 +1,7 @@
 // Each call once, on values that can be told apart.
-use super::*;
 use edge_io::{Boxed, List};
 use formula::Word;
+use fort_syntax::*;
 use std::alloc::Global;
 use std::test::Fail;
 

@@ -1,6 +1,6 @@
 // One text, and the pieces in which texts go out.
-use crate::{Marks, write_events};
 use edge_io::{List, MemSink};
+use event_text::{Marks, write_events};
 use formula::{BuiltIn, Definitions, TermPool, Word};
 use fort_syntax::{Condition, Kind, Name};
 use std::alloc::Global;
