@@ -13,6 +13,10 @@ pub mod FrameReads
 pub mod FrameRuns
 pub mod FrameSeats
 pub mod Kept
+pub mod LazyFollows
+pub mod LazyParts
+pub mod LazyRuns
+pub mod LazyStatements
 pub mod MatchedAssignments
 pub mod MatchedExpressions
 pub mod MatchedOperands
