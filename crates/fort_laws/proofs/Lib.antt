@@ -25,6 +25,10 @@ pub mod FrameRuns
 pub mod FrameSeats
 pub mod InRange
 pub mod Kept
+pub mod LazyFollows
+pub mod LazyParts
+pub mod LazyRuns
+pub mod LazyStatements
 pub mod MatchedAssignments
 pub mod MatchedExpressions
 pub mod MatchedOperands

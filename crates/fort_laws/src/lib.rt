@@ -6,6 +6,7 @@ mod clocks;
 mod exactness;
 mod expressions;
 mod frames;
+mod lazy;
 mod places;
 mod programs;
 mod segments;
@@ -26,6 +27,7 @@ pub use frames::{
     evaluation_changes_nothing, rules_make_sound, rules_pass_smashed_alone,
     runs_change_only_smashed, runs_without_smashing_change_nothing,
 };
+pub use lazy::lazy_runs_follow_strict_ones;
 pub use places::elements_lie_in_arrays;
 pub use programs::strict_programs_are_correct;
 pub use segments::{safe_runs_arrive, safe_runs_end, statements_keep};
