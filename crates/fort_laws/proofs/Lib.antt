@@ -10,6 +10,7 @@ pub mod CallNames
 pub mod CallPassed
 pub mod CallSorts
 pub mod CallStood
+pub mod CorrectPrograms
 pub mod Descents
 pub mod Entering
 pub mod Exact

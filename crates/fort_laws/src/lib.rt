@@ -29,7 +29,7 @@ pub use frames::{
 };
 pub use lazy::lazy_runs_follow_strict_ones;
 pub use places::elements_lie_in_arrays;
-pub use programs::strict_programs_are_correct;
+pub use programs::{programs_are_correct, strict_programs_are_correct};
 pub use segments::{safe_runs_arrive, safe_runs_end, statements_keep};
 pub use statements::statements_match;
 pub use steps::{

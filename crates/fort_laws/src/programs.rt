@@ -1,4 +1,5 @@
 // Programs.
+ghost use Rattle.fort_laws.specs.CorrectPrograms.{ProgramsAreCorrect};
 ghost use Rattle.fort_laws.specs.StrictPrograms.{StrictProgramsAreCorrect};
 
 /// Soundness on strict processors. Let a program keep the rules, its declarations be in order, its
@@ -8,4 +9,11 @@ ghost use Rattle.fort_laws.specs.StrictPrograms.{StrictProgramsAreCorrect};
 /// steps, and its OUTPUT is met. It does nothing.
 pub fn strict_programs_are_correct()
     ensures { StrictProgramsAreCorrect }
+{}
+
+/// Soundness. Let a program keep the rules, its declarations be in order, its units be ready, and an
+/// exact list of its conditions be valid. Then it is totally correct, on strict and on lazy
+/// processors. It does nothing.
+pub fn programs_are_correct()
+    ensures { ProgramsAreCorrect }
 {}
