@@ -24,6 +24,7 @@ pub mod FrameParts
 pub mod FrameReads
 pub mod FrameRuns
 pub mod FrameSeats
+pub mod GoodStatements
 pub mod InRange
 pub mod Kept
 pub mod LazyFollows

@@ -7,9 +7,11 @@ use Rattle.fort_model.specs.Processor.{Processor, MeetsBound}
 use Rattle.fort_model.specs.Program.{Program, notes_of}
 use Rattle.fort_model.specs.Rules.{KeepsRules}
 use Rattle.fort_model.specs.Smashes.{HoldsSmashed}
+use Rattle.fort_laws.specs.Called.{IsReferenceTo, IsCallTo}
 use Rattle.fort_laws.specs.CallLaw.{IsRight}
 use Rattle.fort_laws.specs.Declared.{AreDeclared}
 use Rattle.fort_laws.specs.StrictPrograms.{CallIsDeclared, IsReady, StrictProgramsAreCorrect}
+use Rattle.fort_laws.proofs.GoodStatements.{typed_are_good}
 use Rattle.fort_laws.proofs.Ranks.{Ranked, ranked, all_ranked}
 use Rattle.fort_laws.proofs.RightUnits.{safe_units_are_right}
 use Rattle.fort_laws.proofs.RulesGive.{is_cut_up, none_reaches_itself, clock_parts, clocks_agree}
@@ -30,7 +32,7 @@ module _ (program : Program) (keeps : KeepsRules program) (table : HoldsSmashed 
         names = λ j c. (ready j c.callee c.is_callee).names;
         right = λ j c. right_by j (before j c) c.callee c.is_callee;
       })
-      r.statements (is_cut_up program keeps i u is) (clock_parts program keeps (notes_of program i).asserts) (clocks_agree program keeps i u is)
+      (typed_are_good program.units i u ((rules_make_sound program keeps table declared).units_are i u is) is (IsReferenceTo program i u) (IsCallTo program i u) r.statements) (is_cut_up program keeps i u is) (clock_parts program keeps (notes_of program i).asserts) (clocks_agree program keeps i u is)
       (valid_conditions_make_paths_safe program list exact valid i u is)
 
   pub right_units : (i : ℕ) (u : Routine) → slice_get program.units i ≡ Some u → IsRight p program i u

@@ -17,9 +17,9 @@ use Rattle.fort_model.specs.Rules.{KeepsRules}
 use Rattle.fort_model.specs.Smashes.{HoldsSmashed}
 use Rattle.fort_model.specs.Storage.{Storage, Environment}
 use Rattle.fort_laws.specs.Called.{IsReferenceTo, IsCallTo}
-use Rattle.fort_laws.specs.CallLaw.{HasNames, LieApart}
+use Rattle.fort_laws.specs.CallLaw.{HasNames}
 use Rattle.fort_laws.specs.Declared.{AreDeclared}
-use Rattle.fort_laws.specs.GoodStatements.{IsGood}
+use Rattle.fort_laws.specs.TypedStatements.{IsTypedStatement}
 use Rattle.fort_laws.specs.WholeRuns.{BlocksAreCommon}
 use Rattle.fort_laws.specs.Ways.{EndsByReturn}
 
@@ -30,14 +30,14 @@ pub record CallIsDeclared {units : List Routine} {i j : ℕ} (c : Calls units i 
   pub apart : (d : DataName) → IsAmong d c.caller.names → d.name ≢ c.callee.name
 
 -- What is wanted of a unit beyond the rules: its names and blocks are in order; its notes fit it; it has a statement, and RETURNs alone
--- lead to its end; its statements are typed, and write only what may be written.
+-- lead to its end; and its statements are typed.
 pub record IsReady (program : Program) (i : ℕ) (u : Routine) : Type 0 where
   pub names : HasNames u
   pub blocks : BlocksAreCommon u
   pub notes : FitsUnit u (notes_of program i)
   pub returns : EndsByReturn program.dialect u
   pub some : slice_get u.lines 0 ≡ None → ⊥
-  pub statements : (env : Environment) → LieApart program.units i u env → (pc : ℕ) (line : Line) → slice_get u.lines pc ≡ Some line → IsGood u env (IsReferenceTo program i u) (IsCallTo program i u) pc line.stmt
+  pub statements : (pc : ℕ) (line : Line) → slice_get u.lines pc ≡ Some line → IsTypedStatement u (IsReferenceTo program i u) (IsCallTo program i u) pc line.stmt
 
 -- A program that keeps the rules, with its declarations in order and all units ready, and an exact list of conditions that are valid:
 -- each unit, on each strict processor of the dialect that meets the bound, from each storage that fits, where smashed names lie apart
