@@ -1,13 +1,14 @@
 -- What a program that keeps the rules gives for the runs of its units.
-use Rattle.std.proofs.Common.{◌≡◌, ℕ, Bool, true, false, not, ◌&&◌, ◌||◌, cond, List, [], ◌∷◌, length, Option, Some, slice_get, zero, suc, refl, sym, ap, ◌∙◌, subst, arith}
+use Rattle.std.proofs.Common.{◌≡◌, ℕ, Bool, true, false, not, ◌&&◌, ◌||◌, cond, List, [], ◌∷◌, length, Option, Some, None, slice_get, zero, suc, refl, sym, ap, ◌∙◌, subst, arith}
 use Rattle.std.specs.Prelude.{◌==◌, nat_lt}
-use Rattle.fort_syntax.specs.declared.rule.Rule.TheVariants.{UncutCycle, ClockLength, Recursion}
+use Rattle.fort_syntax.specs.declared.rule.Rule.TheVariants.{FallsOffEnd, UncutCycle, ClockLength, Recursion}
+use Rattle.fort_syntax.specs.declared.unit.Line.{Line}
 use Rattle.fort_syntax.specs.declared.unit.Unit.{Unit as Routine}
 use Rattle.fort_model.specs.Calls.{Calls, Reaches, directly, through}
 use Rattle.fort_model.specs.Lists.{IsAmong}
 use Rattle.fort_model.specs.Paths.{AtAssert, cut_at, Edge, Uncut, one, more}
 use Rattle.fort_model.specs.Program.{Program, Assertion, notes_of, assertion_at}
-use Rattle.fort_model.specs.Rules.{KeepsRules, is_bad_clock, bad_clocks, all_clocks}
+use Rattle.fort_model.specs.Rules.{KeepsRules, is_bad_clock, bad_clocks, all_clocks, off_end}
 use Rattle.fort_laws.specs.Ways.{IsCutUp}
 use Rattle.fort_laws.proofs.FewSymbols.{numbered, assert_is}
 use Rattle.fort_laws.proofs.FrameSeats.{clash}
@@ -32,6 +33,15 @@ module _ (p : Program) (keeps : KeepsRules p) where
 
   pub none_reaches_itself : (i : ℕ) → Reaches p.units i i → ⊥
   none_reaches_itself i r = let c = caller_of p.units r in keeps Recursion i (c.0).head (record { unit = c.0; is_unit = c.1; breaks = record { is_card = refl; way = r } })
+
+  -- a unit that the flow does not go off has a statement
+  pub has_statement : (i : ℕ) (u : Routine) → slice_get p.units i ≡ Some u → slice_get u.lines 0 ≡ None → ⊥
+  has_statement i u is = by_lines u.lines refl
+    where
+      by_lines : (lines : List Line) → u.lines ≡ lines → slice_get lines 0 ≡ None → ⊥
+      by_lines [] e none =
+          keeps FallsOffEnd i u.«end» (record { unit = u; is_unit = is; breaks = subst (λ (lines : List Line). IsAmong u.«end» (off_end p.dialect u lines)) (sym e) (0, refl) })
+      by_lines (line ∷ lines) e none = absurd (cc)
 
   -- ---- clocks
 

@@ -14,7 +14,7 @@ use Rattle.fort_laws.specs.StrictPrograms.{CallIsDeclared, IsReady, StrictProgra
 use Rattle.fort_laws.proofs.GoodStatements.{typed_are_good}
 use Rattle.fort_laws.proofs.Ranks.{Ranked, ranked, all_ranked}
 use Rattle.fort_laws.proofs.RightUnits.{safe_units_are_right}
-use Rattle.fort_laws.proofs.RulesGive.{is_cut_up, none_reaches_itself, clock_parts, clocks_agree}
+use Rattle.fort_laws.proofs.RulesGive.{has_statement, is_cut_up, none_reaches_itself, clock_parts, clocks_agree}
 use Rattle.fort_laws.proofs.RulesKept.{rules_make_sound, rules_pass_smashed_alone, sorts_agree}
 use Rattle.fort_laws.proofs.ValidPaths.{valid_conditions_make_paths_safe}
 
@@ -26,7 +26,7 @@ module _ (program : Program) (keeps : KeepsRules program) (table : HoldsSmashed 
   right_by i (ranked before) u is =
       let r = ready i u is in
       safe_units_are_right program p i u strict bounded dialects is (rules_make_sound program keeps table declared) table declared.blocks
-      (rules_pass_smashed_alone program keeps table declared.blocks).1 r.names r.blocks r.notes r.returns r.some
+      (rules_pass_smashed_alone program keeps table declared.blocks).1 r.names r.blocks r.notes r.returns (has_statement program keeps i u is)
       (record {
         agrees = λ j c. record { apart = (calls i j c).apart; dummies = sorts_agree program keeps table declared i j c; commons = (calls i j c).commons };
         names = λ j c. (ready j c.callee c.is_callee).names;

@@ -29,14 +29,13 @@ pub record CallIsDeclared {units : List Routine} {i j : ℕ} (c : Calls units i 
   pub commons : (d e : DataName) → IsAmong d c.callee.names → d.role ≡ InCommon → IsAmong e c.caller.names → e.name ≡ d.name → e.sort ≡ d.sort
   pub apart : (d : DataName) → IsAmong d c.caller.names → d.name ≢ c.callee.name
 
--- What is wanted of a unit beyond the rules: its names and blocks are in order; its notes fit it; it has a statement, and RETURNs alone
--- lead to its end; and its statements are typed.
+-- What is wanted of a unit beyond the rules: its names and blocks are in order; its notes fit it; RETURNs alone lead to its end; and
+-- its statements are typed.
 pub record IsReady (program : Program) (i : ℕ) (u : Routine) : Type 0 where
   pub names : HasNames u
   pub blocks : BlocksAreCommon u
   pub notes : FitsUnit u (notes_of program i)
   pub returns : EndsByReturn program.dialect u
-  pub some : slice_get u.lines 0 ≡ None → ⊥
   pub statements : (pc : ℕ) (line : Line) → slice_get u.lines pc ≡ Some line → IsTypedStatement u (IsReferenceTo program i u) (IsCallTo program i u) pc line.stmt
 
 -- A program that keeps the rules, with its declarations in order and all units ready, and an exact list of conditions that are valid:
