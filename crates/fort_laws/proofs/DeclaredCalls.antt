@@ -8,32 +8,32 @@ use Rattle.fort_syntax.specs.TreePatterns as syntax
 use Rattle.fort_syntax.specs.declared.dialect.Dialect.{Dialect}
 use Rattle.fort_syntax.specs.declared.dialect.Sort.{Sort}
 use Rattle.fort_syntax.specs.declared.dialect.Sort.TheVariants.{Integer, Logical}
-use Rattle.fort_syntax.specs.declared.expr.Expr.{Expr}
 use Rattle.fort_syntax.specs.declared.name.Name.{Name}
 use Rattle.fort_syntax.specs.declared.rule.Rule.TheVariants.{UnknownUnit, BadArguments, BlockMissing}
 use Rattle.fort_syntax.specs.declared.unit.DataName.{DataName}
 use Rattle.fort_syntax.specs.declared.unit.Line.{Line}
 use Rattle.fort_syntax.specs.declared.unit.Role.TheVariants.{InCommon, OwnValue}
 use Rattle.fort_syntax.specs.declared.unit.Unit.{Unit as Routine}
-use Rattle.fort_model.specs.Arguments.{same_sort_as, reference_sort, is_own_sort, reference_fits, actuals_fit, sort_of_expr, dims_of_actual, dims_agree, fits_dummy}
+use Rattle.fort_model.specs.Arguments.{reference_sort, is_own_sort, reference_fits, actuals_fit}
 use Rattle.fort_model.specs.CallRules.{is_nobody, mismatches}
 use Rattle.fort_model.specs.Calls.{CallSite, Calls, callee_of, sites_of}
 use Rattle.fort_model.specs.Lists.{IsAmong}
 use Rattle.fort_model.specs.Names.{same_name, first_unit, function, subroutine, is_function}
 use Rattle.fort_model.specs.Program.{Program}
 use Rattle.fort_model.specs.Rules.{KeepsRules, calls_nobody}
-use Rattle.fort_laws.specs.CallLaw.{HasNames, Agrees}
+use Rattle.fort_laws.specs.CallLaw.{HasNames}
 use Rattle.fort_laws.specs.Called.{IsReferenceTo, IsCallTo}
 use Rattle.fort_laws.specs.GoodDecks.{CallsAgree}
+use Rattle.fort_laws.specs.StrictPrograms.{CallIsDeclared}
 use Rattle.fort_laws.proofs.DeclaredDecks as decks
-use Rattle.fort_laws.proofs.DeclaredNames.{IsNamed, among_named, has_own_name, one_data_name, found_name, among_joined_left, among_joined_right}
+use Rattle.fort_laws.proofs.DeclaredNames.{IsNamed, among_named, has_own_name, one_data_name, among_joined_left, among_joined_right}
 use Rattle.fort_laws.proofs.DeclaredTypes as types
 use Rattle.fort_laws.proofs.DeclaredUnits as unit
 use Rattle.fort_laws.proofs.DeclaredTypes.{AreReferred}
 use Rattle.fort_laws.proofs.DeclaredUses.{Each, each_of, IsRightLine, right_line, own_is_scalar}
 use Rattle.fort_laws.proofs.FrameEnter.{SameOrNot, same, other, same_or_not}
 use Rattle.fort_laws.proofs.FrameSeats.{clash, same_self}
-use Rattle.fort_laws.proofs.RulesKept.{card_found, fits_at, is_false, neither, none_passes, not_not, split, unbroken}
+use Rattle.fort_laws.proofs.RulesKept.{card_found, is_false, neither, none_passes, not_not, split, unbroken}
 use Rattle.fort_laws.proofs.Tests.{not_so, one_holds, one_item}
 
 -- ---- units by their names
@@ -90,11 +90,11 @@ own_type (Some Logical) Integer h = absurd (cc)
 own_type (Some Logical) Logical h = refl
 
 module _ (p : Program) (keeps : KeepsRules p) where
-  matched : (i j : ℕ) (c : Calls p.units i j) → (actuals_fit c.caller c.callee c.site.actuals ≡ true) × (reference_fits c.caller c.callee c.site.reference ≡ true)
-  matched i j c =
-      let ok : mismatches c.caller c.site j c.callee ≡ false = unbroken p (mismatches c.caller) c (λ card m. keeps BadArguments i card (record { unit = c.caller; is_unit = c.is_caller; breaks = m })) in
-      let n = neither (not (actuals_fit c.caller c.callee c.site.actuals)) (not (reference_fits c.caller c.callee c.site.reference)) ok in
-      (not_not _ n.0, not_not _ n.1)
+  reference_matches : (i j : ℕ) (c : Calls p.units i j) → reference_fits c.caller c.callee c.site.reference ≡ true
+  reference_matches i j c =
+      let ok : mismatches c.caller c.site j c.callee ≡ false =
+      unbroken p (mismatches c.caller) c (λ card m. keeps BadArguments i card (record { unit = c.caller; is_unit = c.is_caller; breaks = m })) in
+      not_not _ (neither (not (actuals_fit c.caller c.callee c.site.actuals)) (not (reference_fits c.caller c.callee c.site.reference)) ok).1
 
   module _ (dialect : Dialect) (i : ℕ) (u : Routine) (is : slice_get p.units i ≡ Some u) (line : Line) (m : IsAmong line u.lines) (site : CallSite) (k : IsAmong site (sites_of u line.stmt)) where
     known_unit : (j : ℕ) × (callee_of p.units site ≡ Some j)
@@ -141,7 +141,7 @@ module _ (p : Program) (keeps : KeepsRules p) where
     }
       where
         own : is_own_sort found.unit.sort (reference_sort u.functions found.unit.name) ≡ true
-        own = one_holds (not site.reference) _ (matched i known_unit.0 the_call).1 (ap not e)
+        own = one_holds (not site.reference) _ (reference_matches i known_unit.0 the_call) (ap not e)
 
 -- ---- names
 
@@ -221,32 +221,19 @@ module _ (dialect : Dialect) (p : Program) (wells : AreWellFormedUnits dialect p
     callee_is : IsWellFormedUnit dialect c.callee
     callee_is = decks.well_at dialect p.units j c.callee wells c.is_callee
 
-    dummy_types : (d : DataName) (n : ℕ) (e : Expr) → IsAmong d c.callee.names → slice_get c.callee.dummies n ≡ Some d.name → slice_get c.site.actuals n ≡ Some e
-        → same_sort_as d.sort (sort_of_expr c.caller e) ≡ true
-    dummy_types d n e m a k =
-        let r = fits_at c.callee c.site.actuals c.caller c.callee.dummies c.site.actuals n d.name (matched p keeps i j c).0 a in
-        let fit : fits_dummy c.callee c.site.actuals c.caller (Some d) e ≡ true =
-        ap (fits_dummy c.callee c.site.actuals c.caller (Some d)) (one_item (sym k ∙ r.1))
-        ∙ (ap (λ o. fits_dummy c.callee c.site.actuals c.caller o r.0) (sym (found_name c.callee.names d (unit.no_twins dialect c.callee callee_is) m)) ∙ r.2) in
-        (split (same_sort_as d.sort (sort_of_expr c.caller e)) (dims_agree c.callee c.site.actuals d.dims (dims_of_actual c.caller e)) fit).0
-
     common_types : (d e : DataName) → IsAmong d c.callee.names → d.role ≡ InCommon → IsAmong e c.caller.names → e.name ≡ d.name → e.sort ≡ d.sort
     common_types d e m r k q =
         let s = decks.is_shared dialect p wells agree (keeps BlockMissing) i j c d m r in
         ap (λ (z : DataName). z.sort) (one_data_name c.caller.names e s.its (unit.no_twins dialect c.caller caller_is) k s.among (q ∙ sym s.name)) ∙ s.sort
 
-    pub agrees : Agrees c
+    pub agrees : CallIsDeclared c
     agrees = record {
       apart = λ d m e.
           clash (is_among d.name (names_of_unit c.caller)) (has_own_name c.caller.names d m)
           (ap (λ x. is_among x (names_of_unit c.caller)) (e ∙ called_name p.units i j c) ∙ calls_others dialect c.caller caller_is c.line c.is_line c.site c.is_site);
-      dummies = dummy_types;
       commons = common_types;
     }
 
 pub calls_agree : CallsAgree
 calls_agree dialect deck p w units keeps i j c =
-    let wells = subst (AreWellFormedUnits dialect) units w.0 in (
-      agrees dialect p wells (subst (λ us. list_all (λ u. list_all (agree_on_blocks u) us) us ≡ true) units w.1) keeps i j c,
-      names_are_held dialect c.callee (decks.well_at dialect p.units j c.callee wells c.is_callee),
-    )
+    agrees dialect p (subst (AreWellFormedUnits dialect) units w.0) (subst (λ us. list_all (λ u. list_all (agree_on_blocks u) us) us ≡ true) units w.1) keeps i j c

@@ -157,11 +157,6 @@ one_data_name ds d e h m k q = one_item (sym m.1 ∙ (ap (slice_get ds) at ∙ k
 pub has_own_name : (ds : List DataName) (d : DataName) → IsAmong d ds → is_among d.name (names_in ds) ≡ true
 has_own_name ds d m = among_named (names_in ds) d.name (m.0, map_at (λ (z : DataName). z.name) ds m.0 d m.1)
 
-pub found_name : (ds : List DataName) (d : DataName) → has_twin (names_in ds) ≡ false → IsAmong d ds → data_name_in ds d.name ≡ Some d
-found_name ds d h m =
-    let r : IsNamed ds d.name = named ds d.name (has_own_name ds d m) in
-    r.is ∙ ap Some (one_data_name ds r.its d h r.among m r.name)
-
 pub data_among : (ds : List DataName) (x : Name) (d : DataName) → data_name_in ds x ≡ Some d → IsAmong d ds
 data_among [] x d h = absurd (cc)
 data_among (e ∷ ds) x d h = by_test (same_name e.name x) h (data_among ds x d)

@@ -1,5 +1,5 @@
 -- The names of a well-formed unit: their roles, dimensions and types.
-use Rattle.std.proofs.Common.{◌≡◌, ◌≤◌, ℕ, zero, suc, Bool, true, false, cond, not, ◌&&◌, ◌||◌, pos, List, [], ◌∷◌, ◌++◌, map, flat_map, length, Some, is_some, nat_lt, refl, sym, ap, ◌∙◌, subst, arith, rules}
+use Rattle.std.proofs.Common.{◌≡◌, ◌≤◌, ℕ, zero, suc, Bool, true, false, cond, not, ◌&&◌, ◌||◌, List, [], ◌∷◌, ◌++◌, map, flat_map, length, Some, is_some, nat_lt, refl, sym, ap, ◌∙◌, subst, rules}
 use Rattle.std.specs.List.{list_any, list_all}
 use Rattle.fort_syntax.specs.NameRules.{is_zero_dim, is_bad_shape, most_dims, fixed_size}
 use Rattle.fort_syntax.specs.Scopes.{is_among, has_twin, same_sort, same_option, is_given_dims, is_array, is_integer, is_integer_scalar}
@@ -16,20 +16,15 @@ use Rattle.fort_syntax.specs.declared.unit.DataName.{DataName}
 use Rattle.fort_syntax.specs.declared.unit.Role.{Role}
 use Rattle.fort_syntax.specs.declared.unit.Role.TheVariants.{Dummy, InCommon, OwnValue, Local}
 use Rattle.fort_syntax.specs.declared.unit.Unit.{Unit as Routine}
-use Rattle.fort_model.specs.Fits.{HaveShapes, HasShape}
 use Rattle.fort_model.specs.Lists.{IsAmong}
-use Rattle.fort_model.specs.Names.{data_name, is_own}
-use Rattle.fort_model.specs.Places.{stretch, dim_values}
 use Rattle.fort_model.specs.Program.{commons, items_of, has_common, has_role, is_in_common}
-use Rattle.fort_model.specs.Storage.{Storage, Environment}
-use Rattle.fort_laws.specs.GoodDecks.{BlocksHoldCommons, DimensionsAreScalars}
-use Rattle.fort_laws.specs.GoodStatements.{DimsAreScalars}
+use Rattle.fort_laws.specs.GoodDecks.{BlocksHoldCommons}
 use Rattle.fort_laws.specs.Typed.{IsScalar, AreDims}
-use Rattle.fort_laws.proofs.DeclaredNames.{IsNamed, named, named_among, among_named, names_in, has_own_name, data_among, among_joined_left, among_joined_right, no_twin_apart}
+use Rattle.fort_laws.proofs.DeclaredNames.{IsNamed, named, named_among, among_named, names_in, has_own_name, among_joined_left, among_joined_right, no_twin_apart}
 use Rattle.fort_laws.proofs.FrameSeats.{clash}
 use Rattle.fort_laws.proofs.Near.{known}
 use Rattle.fort_laws.proofs.RulesKept.{neither, none_passes, split}
-use Rattle.fort_laws.proofs.Tests.{all_among, among_given, not_so, one_holds, one_item}
+use Rattle.fort_laws.proofs.Tests.{all_among, among_given, not_so, one_holds}
 
 -- ---- roles
 
@@ -244,32 +239,5 @@ module _ (dialect : Dialect) (u : Routine) (w : IsWellFormedUnit dialect u) wher
       go (Fixed n ∷ ds) h = go ds (λ x k. h x (suc k.0, k.1))
       go (Named x ∷ ds) h = (h x (0, refl), go ds (λ y k. h y (suc k.0, k.1)))
 
-  -- ---- environments
-
-  module _ (env : Environment) (st : Storage) (shapes : HaveShapes u env st) where
-    one_cell : (d : DataName) (x : Name) → IsAmong d u.names → IsAmong (Named x) d.dims → (e : DataName) × (data_name u x ≡ Some e) × (1 ≤ (env x).size)
-    one_cell d x m k =
-        let r : IsRightDim d x = right_dim d x m k in
-        let own : IsNamed u.names x = dummy_data x r.dummy in
-        let role : own.its.role ≡ Dummy = dummy_role own.its own.among (ap (λ y. is_among y u.dummies) own.name ∙ r.dummy) in
-        let shape : HasShape env st own.its = shapes own.its (record { among = own.among; not_own = ap is_own role }) in
-        let dims_are : own.its.dims ≡ [] = ap (λ (e : DataName). e.dims) (one_item (sym own.is ∙ r.scalar.is)) ∙ r.scalar.scalar in
-        let one : pos (env own.its.name).size ≡ pos 1 = shape.size ∙ ap (λ ds. stretch (dim_values env st ds)) dims_are in
-        (own.its, own.is, at_least (env x).size (ap (λ y. pos (env y).size) (sym own.name) ∙ one))
-      where
-        at_least : (n : ℕ) → pos n ≡ pos 1 → 1 ≤ n
-        at_least n q = grind arith
-
-    pub scalar_dims : (y : Name) (d : DataName) → data_name u y ≡ Some d → DimsAreScalars u env d.dims
-    scalar_dims y d is = go d.dims (λ x k. one_cell d x (data_among u.names y d is) k)
-      where
-        go : (ds : List Dim) → ((x : Name) → IsAmong (Named x) ds → (e : DataName) × (data_name u x ≡ Some e) × (1 ≤ (env x).size)) → DimsAreScalars u env ds
-        go [] h = tt
-        go (Fixed n ∷ ds) h = go ds (λ x k. h x (suc k.0, k.1))
-        go (Named x ∷ ds) h = (h x (0, refl), go ds (λ z k. h z (suc k.0, k.1)))
-
 pub blocks_are_common : BlocksHoldCommons
 blocks_are_common = blocks_hold_commons
-
-pub dimensions_are_scalars : DimensionsAreScalars
-dimensions_are_scalars = scalar_dims

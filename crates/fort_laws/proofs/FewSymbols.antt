@@ -96,11 +96,11 @@ taken_append (v ∷ vs) ws h k = (h.0, taken_append vs ws h.1 k)
 
 -- the ASSERT of a cut point
 pub record IsNumbered (asserts : List Assertion) (q : ℕ) (a : Assertion) : Type 0 where
-  number : ℕ
-  among : slice_get asserts number ≡ Some a
-  point : a.point ≡ q
+  pub number : ℕ
+  pub among : slice_get asserts number ≡ Some a
+  pub point : a.point ≡ q
 
-numbered : (asserts : List Assertion) (q : ℕ) (a : Assertion) → assertion_in asserts q ≡ Some a → IsNumbered asserts q a
+pub numbered : (asserts : List Assertion) (q : ℕ) (a : Assertion) → assertion_in asserts q ≡ Some a → IsNumbered asserts q a
 numbered [] q a h = absurd (cc)
 numbered (b ∷ rest) q a h = by_test (b.point == q) refl h (λ k. later (numbered rest q a k))
   where

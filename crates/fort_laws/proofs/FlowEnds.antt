@@ -95,13 +95,6 @@ module _ (dialect : Dialect) (p : Program) (i : ℕ) (u : Routine) (is : slice_g
   goes_on : (pc : ℕ) (line : Line) → slice_get u.lines pc ≡ Some line → ends_flow p.dialect line.stmt ≡ false → Inside (suc pc)
   goes_on pc line e f = last_goes_on p.dialect u u.lines pc line not_off e f
 
-  some_line : slice_get u.lines 0 ≡ None → ⊥
-  some_line e = go u.lines not_off e
-    where
-      go : (lines : List Line) → ((card : ℕ) → IsAmong card (off_end p.dialect u lines) → ⊥) → slice_get lines 0 ≡ None → ⊥
-      go [] none e = none u.«end» (0, refl)
-      go (x ∷ xs) none e = absurd (cc)
-
   -- the flow goes on to the next statement, or from the last of a block to its END IF
   next_inside : (pc : ℕ) → Inside (suc pc) → Inside (next_point u pc)
   next_inside pc (line, e) = by_part (part_of line.stmt) refl
@@ -332,5 +325,4 @@ module _ (dialect : Dialect) (p : Program) (i : ℕ) (u : Routine) (is : slice_g
       at_pc = omega arith
 
 pub ends_are_returns : EndsAreReturns
-ends_are_returns dialect p i u is w keeps =
-    (λ pc line cs q e to n. statement_leads dialect p i u is w keeps pc line.stmt (placed dialect p i u is w keeps pc line e) cs q to n, some_line dialect p i u is w keeps)
+ends_are_returns dialect p i u is w keeps pc line cs q e to n = statement_leads dialect p i u is w keeps pc line.stmt (placed dialect p i u is w keeps pc line e) cs q to n

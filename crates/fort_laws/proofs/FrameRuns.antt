@@ -70,10 +70,10 @@ module _ (units : List Routine) (sound : AreSound units) (p : Processor) (calls 
     abbrev pub Kept : Storage → Type 0
     Kept st = Framed May st0 st
 
-    abbrev After : Storage → Type 0
+    abbrev pub After : Storage → Type 0
     After st = Late May st0 st
 
-    abbrev after : (st : Storage) → Kept st → After st
+    abbrev pub after : (st : Storage) → Kept st → After st
     after st h = framed_late May st0 st h
 
     of_unit : IsSoundUnit units i u
@@ -121,7 +121,7 @@ module _ (units : List Routine) (sound : AreSound units) (p : Processor) (calls 
       from = λ st n h. comes_from May st0 st _ h (calls fuel runs i u env st is (still_placed units i u of_unit env st0 placed st h) site called (p.copies u.name k) xs fit n);
     }
 
-    keeps_line : (line : Line) (pc : ℕ) → IsAmong line u.lines
+    pub keeps_line : (line : Line) (pc : ℕ) → IsAmong line u.lines
         → Keeps Kept After after (perform (record { processor = p; units = units; unit = u; environment = env }) (run_within p units fuel) line.card pc (calls_before u pc) line.stmt)
     keeps_line line pc m =
         keeps_perform Kept After after (record { processor = p; units = units; unit = u; environment = env }) (run_within p units fuel) (IsPart u env) parts_lie (IsCalled u) calls_keep

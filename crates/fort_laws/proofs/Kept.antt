@@ -202,7 +202,7 @@ module _ (Kept Late : Storage → Type 0) (late : (st : Storage) → Kept st →
   keeps_result s card true = does_then Kept (λ _. Unit {0}) held (λ st. check ResultCheck card (is_defined (load st (s.environment s.unit.name).first))) does_held
       (λ st _. keeps_check ResultCheck card _)
 
-  keeps_valued : (card : ℕ) (Q : Taken → Type 0) (a : Act Taken) → Does Q a → Keeps (valued card a)
+  pub keeps_valued : (card : ℕ) (Q : Taken → Type 0) (a : Act Taken) → Does Q a → Keeps (valued card a)
   keeps_valued card Q a h = does_then Q (λ _. Unit {0}) a _ h (λ x _. keeps_value_of card x)
 
   -- ---- parts with calls, where each call in the text keeps the property
@@ -213,14 +213,14 @@ module _ (Kept Late : Storage → Type 0) (late : (st : Storage) → Kept st →
       (Called : CallSite → Type 0)
       (calls_keep : (site : CallSite) → Called site → (k : ℕ) (xs : List Taken) → AreTakenAs s.environment Part site.actuals xs
       → Keeps (call run s.environment (unit_at s.units (callee_of s.units site)) (passed (s.processor.copies s.unit.name k) 1 xs))) where
-    abbrev Fit : Expr → Taken → Type 0
+    abbrev pub Fit : Expr → Taken → Type 0
     Fit e x = IsTakenAs s.environment Part e x
 
-    abbrev AllFit : List Expr → List Taken → Type 0
+    abbrev pub AllFit : List Expr → List Taken → Type 0
     AllFit es xs = AreTakenAs s.environment Part es xs
 
     -- each call among some is one of the text
-    abbrev Sited : List CallSite → Type 0
+    abbrev pub Sited : List CallSite → Type 0
     Sited sites = (site : CallSite) → IsAmong site sites → Called site
 
     sited_left : (xs ys : List CallSite) → Sited (xs ++ ys) → Sited xs
@@ -255,7 +255,7 @@ module _ (Kept Late : Storage → Type 0) (late : (st : Storage) → Kept st →
         does_fresh Q (λ _. Unit {0}) _ (keeps_call_at site (sited site (0, refl)) (suc k) xs hx) (λ c _. value c)
 
     mutual
-      does_taken : (card k : ℕ) (e : Expr) → Sited (sites_in s.unit e) → Does (Fit e) (taken s run card k e)
+      pub does_taken : (card k : ℕ) (e : Expr) → Sited (sites_in s.unit e) → Does (Fit e) (taken s run card k e)
       does_taken card k (Const c) h = does_fresh (Fit (Const c)) (λ v. v ≡ Int (pos c)) _ (does_constant s.processor card c) (λ v e. ap Fresh e)
       does_taken card k (Truth b) h = does_give (Fit (Truth b)) _ tt
       does_taken card k (Var x) h = does_give (Fit (Var x)) _ refl
@@ -299,7 +299,7 @@ module _ (Kept Late : Storage → Type 0) (late : (st : Storage) → Kept st →
           keeps_then _ _ (keeps_valued card (Fit e) _ (does_taken card k e (sited_left (sites_in s.unit e) (sites_in_row s.unit es) h))) λ c.
           keeps_then _ _ (keeps_values card _ es (sited_right (sites_in s.unit e) (sites_in_row s.unit es) h)) λ cs. keeps_give _
 
-      does_actuals : (card k : ℕ) {m : Count} (es : Row_of-Expr m) → Sited (sites_in_row s.unit es) → Does (AllFit (listed es)) (actuals s run card k es)
+      pub does_actuals : (card k : ℕ) {m : Count} (es : Row_of-Expr m) → Sited (sites_in_row s.unit es) → Does (AllFit (listed es)) (actuals s run card k es)
       does_actuals card k end_of-Expr h = does_give (AllFit []) _ tt
       does_actuals card k (more_of-Expr e es) h =
           does_then (Fit e) (AllFit (e ∷ listed es)) _ _ (does_taken card k e (sited_left (sites_in s.unit e) (sites_in_row s.unit es) h)) λ x fit.

@@ -57,6 +57,6 @@ mutual
   sites_are_references u (And' q (only a) r (only b)) = are_both (sites_in u a) (sites_in u b) (sites_are_references u a) (sites_are_references u b)
   sites_are_references u (Or' q (only a) r (only b)) = are_both (sites_in u a) (sites_in u b) (sites_are_references u a) (sites_are_references u b)
 
-  row_references : (u : Routine) {m : Count} (es : Row_of-Expr m) (site : CallSite) → IsAmong site (sites_in_row u es) → site.reference ≡ true
+  pub row_references : (u : Routine) {m : Count} (es : Row_of-Expr m) (site : CallSite) → IsAmong site (sites_in_row u es) → site.reference ≡ true
   row_references u end_of-Expr = are_none
   row_references u (more_of-Expr e es) = are_both (sites_in u e) (sites_in_row u es) (sites_are_references u e) (row_references u es)

@@ -234,7 +234,7 @@ all_agree g es [] (b ∷ bs) h = absurd (cc)
 all_agree g es (a ∷ ds) [] h = absurd (cc)
 all_agree g es (a ∷ ds) (b ∷ bs) h = let s = split (dim_agrees g es a b) (dims_agree g es ds bs) h in (agrees g es a b s.0, all_agree g es ds bs s.1)
 
-pub fits_at : (g : Routine) (all : List Expr) (u : Routine) (ds : List Name) (es : List Expr) (n : ℕ) (d : Name) → all_fit g all u ds es ≡ true → slice_get ds n ≡ Some d
+fits_at : (g : Routine) (all : List Expr) (u : Routine) (ds : List Name) (es : List Expr) (n : ℕ) (d : Name) → all_fit g all u ds es ≡ true → slice_get ds n ≡ Some d
     → (e : Expr) × (slice_get es n ≡ Some e) × (fits_dummy g all u (data_name g d) e ≡ true)
 fits_at g all u [] es n d h a = absurd (cc)
 fits_at g all u (y ∷ ys) [] n d h a = absurd (cc)
@@ -294,6 +294,22 @@ module _ (p : Program) (keeps : KeepsRules p) (table : HoldsSmashed p) (declared
         is = r.1;
         dims = all_agree c.callee c.site.actuals d.dims (dims_of_actual c.caller r.0) (split (same_sort_as d.sort (sort_of_expr c.caller r.0)) (dims_agree c.callee c.site.actuals d.dims (dims_of_actual c.caller r.0)) one).1;
       }
+
+  -- actuals have the types of their dummies
+  pub sorts_agree : (i j : ℕ) (c : Calls p.units i j) (d : DataName) (n : ℕ) (e : Expr) → IsAmong d c.callee.names → slice_get c.callee.dummies n ≡ Some d.name → slice_get c.site.actuals n ≡ Some e
+      → same_sort_as d.sort (sort_of_expr c.caller e) ≡ true
+  sorts_agree i j c d n e m a b =
+      let kept : mismatches c.caller c.site j c.callee ≡ false = unbroken p (mismatches c.caller) c (λ card k. keeps BadArguments i card (record { unit = c.caller; is_unit = c.is_caller; breaks = k })) in
+      let fit : actuals_fit c.caller c.callee c.site.actuals ≡ true =
+      not_not (actuals_fit c.caller c.callee c.site.actuals) (neither (not (actuals_fit c.caller c.callee c.site.actuals)) (not (reference_fits c.caller c.callee c.site.reference)) kept).0 in
+      let r = fits_at c.callee c.site.actuals c.caller c.callee.dummies c.site.actuals n d.name fit a in
+      let data_is : data_name c.callee d.name ≡ Some d = found p.units j c.callee (sound_unit j c.callee c.is_callee) d m d.name refl in
+      let one = ap (λ (o : Option DataName). fits_dummy c.callee c.site.actuals c.caller o r.0) (sym data_is) ∙ r.2 in
+      ap (λ (x : Expr). same_sort_as d.sort (sort_of_expr c.caller x)) (same_actual e r.0 (sym b ∙ r.1))
+      ∙ (split (same_sort_as d.sort (sort_of_expr c.caller r.0)) (dims_agree c.callee c.site.actuals d.dims (dims_of_actual c.caller r.0)) one).0
+    where
+      same_actual : (x y : Expr) → Some x ≡ Some y → x ≡ y
+      same_actual x y q = cc
 
   are_sound : AreSound p.units
   are_sound = record {

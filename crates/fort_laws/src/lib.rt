@@ -7,7 +7,9 @@ mod decks;
 mod exactness;
 mod expressions;
 mod frames;
+mod lazy;
 mod places;
+mod programs;
 mod segments;
 mod statements;
 mod steps;
@@ -18,8 +20,8 @@ mod ways;
 pub use calls::{calls_are_matched, unit_calls_match};
 pub use clocks::clocks_fall_only_so_often;
 pub use decks::{
-    blocks_are_common, calls_agree, clocks_are_equal, dimensions_are_scalars, ends_are_returns,
-    statements_are_good, units_are_cut_up, well_formed_is_declared,
+    blocks_are_common, calls_agree, decks_are_correct, ends_are_returns, statements_are_typed,
+    well_formed_is_declared,
 };
 pub use exactness::{
     checks_do_not_depend_on_values, conditions_are_exact, valid_conditions_make_paths_safe,
@@ -30,7 +32,9 @@ pub use frames::{
     evaluation_changes_nothing, rules_make_sound, rules_pass_smashed_alone,
     runs_change_only_smashed, runs_without_smashing_change_nothing,
 };
+pub use lazy::lazy_runs_follow_strict_ones;
 pub use places::elements_lie_in_arrays;
+pub use programs::{programs_are_correct, strict_programs_are_correct};
 pub use segments::{safe_runs_arrive, safe_runs_end, statements_keep};
 pub use statements::statements_match;
 pub use steps::{

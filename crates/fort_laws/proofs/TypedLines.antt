@@ -1,8 +1,7 @@
--- Statements of a well-formed unit are good: they have the types that their places demand, and write only what may be written.
+-- Statements of a well-formed unit have the types that their places demand.
 use Rattle.std.proofs.Common.{◌≡◌, ℕ, suc, Bool, true, false, cond, not, ◌&&◌, ◌||◌, List, [], ◌∷◌, ◌++◌, flat_map, length, Option, Some, None, slice_get, nat_lt, refl, sym, ap, ◌∙◌, subst}
 use Rattle.std.specs.Prelude.{◌==◌}
-use Rattle.std.specs.List.{list_any, list_all}
-use Rattle.std.specs.Cmp.Lexicographic.{same_text}
+use Rattle.std.specs.List.{list_all}
 use Rattle.fort_syntax.specs.Scopes.{Scope, is_among, is_given_dims, is_array, is_intrinsic, is_integer_scalar, same_option}
 use Rattle.fort_syntax.specs.TreePatterns as syntax
 use Rattle.fort_syntax.specs.TypeRules.{type_of, gives_logical, is_fit_param, is_fit_step, has_fit_places, has_fit_operands}
@@ -15,42 +14,34 @@ use Rattle.fort_syntax.specs.declared.dialect.Sort.TheVariants.{Integer, Logical
 use Rattle.fort_syntax.specs.declared.expr.Expr.{Expr}
 use Rattle.fort_syntax.specs.declared.expr.Expr.TheVariants.{Const, Truth, Var, Apply', Paren', Pos', Neg', Power', Bin', Rel', Not', And', Or'}
 use Rattle.fort_syntax.specs.declared.name.Name.{Name}
-use Rattle.fort_syntax.specs.declared.rule.Rule.TheVariants.{DimensionSmashed}
 use Rattle.fort_syntax.specs.declared.stmt.Dim.{Dim}
-use Rattle.fort_syntax.specs.declared.stmt.Dim.TheVariants.{Fixed, Named}
 use Rattle.fort_syntax.specs.declared.stmt.Param.{Param}
 use Rattle.fort_syntax.specs.declared.stmt.Param.TheVariants as param
 use Rattle.fort_syntax.specs.declared.stmt.Stmt.{Stmt}
 use Rattle.fort_syntax.specs.declared.stmt.Stmt.TheVariants.{Subroutine, Function, Declare, Dimension, Common, Assign, GoTo, Computed, ArithIf, LogicalIf', Do, Continue, Call, Return, End, BlockIf, ElseIf, Else, EndIf}
-use Rattle.fort_syntax.specs.declared.unit.DataName.{DataName}
 use Rattle.fort_syntax.specs.declared.unit.Line.{Line}
 use Rattle.fort_syntax.specs.declared.unit.Unit.{Unit as Routine}
 use Rattle.fort_model.specs.Calls.{CallSite, own_site, listed, sites_in, sites_in_row, sites_of}
-use Rattle.fort_model.specs.Fits.{IsIn}
 use Rattle.fort_model.specs.Flow.{target, Loop, loop_of, loops_from, loops_at, around}
 use Rattle.fort_model.specs.Lists.{IsAmong}
-use Rattle.fort_model.specs.Names.{intrinsic, applied, applied_by, dims_of, is_function, same_name}
-use Rattle.fort_model.specs.Program.{Program, is_smashed}
-use Rattle.fort_model.specs.Rules.{dim_smashed}
-use Rattle.fort_model.specs.Smashes.{Smashes, sets, HoldsSmashed, set_name, set_by}
-use Rattle.fort_model.specs.Storage.{Environment}
+use Rattle.fort_model.specs.Names.{intrinsic, applied, applied_by, dims_of, is_function}
+use Rattle.fort_model.specs.Program.{Program}
 use Rattle.fort_model.specs.Trees.{carried, row_of}
-use Rattle.fort_model.specs.Walk.{is_dim, is_some_dim}
-use Rattle.fort_laws.specs.CallLaw.{LieApart}
 use Rattle.fort_laws.specs.Called.{IsReferenceTo, IsCallTo}
-use Rattle.fort_laws.specs.GoodDecks.{KeepsRule, StatementsAreGood}
-use Rattle.fort_laws.specs.GoodStatements.{DimsAreOther, MayBeWritten, IsParameter, IsStep, AreGoodLoops, IsGoodElement, IsLeft, HasLabels, HasResult, IsGood}
+use Rattle.fort_laws.specs.GoodDecks.{StatementsAreTyped}
+use Rattle.fort_laws.specs.GoodStatements.{IsParameter, IsStep}
+use Rattle.fort_laws.specs.TypedStatements.{AreTypedLoops, IsTypedElement, IsTypedLeft, HasSomeLabel, HasOwnValue, IsTypedStatement}
 use Rattle.fort_laws.specs.Typed.{IsScalar, IsTyped, AreInteger}
 use Rattle.fort_laws.specs.Ways.{IsExecutable}
 use Rattle.fort_laws.proofs.DeclaredCalls.{called_in_text, referred_in_text}
-use Rattle.fort_laws.proofs.DeclaredNames.{IsNamed, same_dims_told, named_data, data_among, found_named}
+use Rattle.fort_laws.proofs.DeclaredNames.{IsNamed, same_dims_told, named_data}
 use Rattle.fort_laws.proofs.DeclaredTypes as types
 use Rattle.fort_laws.proofs.DeclaredTypes.{AreReferred, AreFit, fit_left, fit_right}
 use Rattle.fort_laws.proofs.DeclaredUnits as unit
 use Rattle.fort_laws.proofs.DeclaredUses.{AreRight, right_left, right_right, right_behind, right_first, IsRightLine, right_line, row_uses, own_is_scalar}
-use Rattle.fort_laws.proofs.FrameSeats.{clash, same_is}
+use Rattle.fort_laws.proofs.FrameSeats.{clash}
 use Rattle.fort_laws.proofs.Kept.{among_right}
-use Rattle.fort_laws.proofs.RulesKept.{is_false, none_passes, not_both, not_not, passes_any, split}
+use Rattle.fort_laws.proofs.RulesKept.{not_not, split}
 use Rattle.fort_laws.proofs.Tests.{all_among}
 
 -- ---- forms
@@ -107,63 +98,19 @@ row_parts (e ∷ es) = ap (λ xs. parts e ++ xs) (row_parts es)
 abbrev AreCalled : (Name → List Expr → Type 0) → List CallSite → Type 0
 AreCalled IsCall sites = (site : CallSite) → IsAmong site sites → site.reference ≡ false → IsCall site.callee site.actuals
 
-module _ (dialect : Dialect) (p : Program) (i : ℕ) (u : Routine) (is : slice_get p.units i ≡ Some u) (w : IsWellFormedUnit dialect u)
-    (keeps : KeepsRule p DimensionSmashed) (table : HoldsSmashed p) (env : Environment) (apart : LieApart p.units i u env) where
+module _ (dialect : Dialect) (p : Program) (i : ℕ) (u : Routine) (is : slice_get p.units i ≡ Some u) (w : IsWellFormedUnit dialect u) where
   abbrev scope : Scope
   scope = scope_of_unit u
 
-  -- ---- what may be written
-
-  no_dim_smashed : dim_smashed p i u ≡ false
-  no_dim_smashed =
-      is_false (dim_smashed p i u)
-      (λ t. keeps i u.head (record { unit = u; is_unit = is; breaks = subst (λ (b : Bool). IsAmong u.head (cond b (u.head ∷ []) [])) (sym t) (0, refl) }))
-
-  -- a smashed name is no dimension
-  not_dim : (x z : Name) (e : DataName) → is_among x (names_of_unit u) ≡ true → Smashes p.units i x → IsAmong e u.names → IsAmong (Named z) e.dims → same_name x z ≡ false
-  not_dim x z e h s m k = is_false (same_name x z) (λ t. clash (is_smashed p i d.its.name) smashed (unsmashed t))
-    where
-      d : IsNamed u.names x
-      d = unit.has_data dialect u w x h
-
-      smashed : is_smashed p i d.its.name ≡ true
-      smashed = ap (is_smashed p i) d.name ∙ (table i x).1 s
-
-      unsmashed : same_name x z ≡ true → is_smashed p i d.its.name ≡ false
-      unsmashed t =
-          not_both (is_some_dim u d.its.name) (is_smashed p i d.its.name)
-          (none_passes (λ f. is_some_dim u f.name && is_smashed p i f.name) u.names d.its no_dim_smashed d.among)
-          (passes_any (λ f. list_any (is_dim d.its.name) f.dims) u.names e m
-          (passes_any (is_dim d.its.name) e.dims (Named z) k (same_is d.its.name z (d.name ∙ same_text x z (sym t)))))
-
-  dims_are_other : (x : Name) (ds : List Dim) → ((z : Name) → IsAmong (Named z) ds → same_name x z ≡ false) → DimsAreOther u env x ds
-  dims_are_other x [] h = tt
-  dims_are_other x (Fixed n ∷ ds) h = dims_are_other x ds (λ z k. h z (suc k.0, k.1))
-  dims_are_other x (Named z ∷ ds) h = (h z (0, refl), dims_are_other x ds (λ y k. h y (suc k.0, k.1)))
-
-  -- a name that the unit smashes may be written
-  may : (x : Name) → is_among x (names_of_unit u) ≡ true → Smashes p.units i x → MayBeWritten u env x
-  may x h s = record {
-    apart = λ y e q unlike k a b.
-        apart d.its e d.among (data_among u.names y e q) (subst (Smashes p.units i) (sym d.name) s)
-        (λ o. clash (same_name x y) (same_is x y (sym d.name ∙ (o ∙ found_named u.names y e q))) unlike)
-        k (subst (λ z. IsIn k (env z)) (sym d.name) a) (subst (λ z. IsIn k (env z)) (sym (found_named u.names y e q)) b);
-    no_dim = λ y e q. dims_are_other x e.dims (λ z k. not_dim x z e h s (data_among u.names y e q) k);
-  }
-    where
-      d : IsNamed u.names x
-      d = unit.has_data dialect u w x h
-
   -- ---- statements
 
-  -- what a statement of the unit is: right in its form, uses and types; and the unit smashes what it sets
+  -- what a statement of the unit is: right in its form, uses and types
   pub record IsFitLine (s : Stmt) : Type 0 where
     pub performs : is_performing (class_of s) ≡ true
     pub form : has_right_form s ≡ true
     pub uses : AreRight u (uses_of s)
     pub places : has_fit_places scope s ≡ true
     pub operands : AreFit u (all_parts s)
-    pub smashed : (x : Name) → IsAmong x (set_by s) → Smashes p.units i x
 
   fit_line : (line : Line) → IsAmong line u.lines → IsFitLine line.stmt
   fit_line line m =
@@ -175,7 +122,6 @@ module _ (dialect : Dialect) (p : Program) (i : ℕ) (u : Routine) (is : slice_g
         uses = r.uses;
         places = typed.0;
         operands = λ e k. all_among (has_fit_operands scope) (all_parts line.stmt) e typed.1 k;
-        smashed = λ x k. sets u line is m k;
       }
 
   -- the statement that a logical IF carries
@@ -188,7 +134,6 @@ module _ (dialect : Dialect) (p : Program) (i : ℕ) (u : Routine) (is : slice_g
         uses = right_right u (uses_in read e) (uses_of s) h.uses;
         places = (split (gives_logical scope e) (has_fit_places scope s) h.places).1;
         operands = fit_right u (parts e) (all_parts s) h.operands;
-        smashed = h.smashed;
       }
 
   -- ---- DOs
@@ -204,7 +149,6 @@ module _ (dialect : Dialect) (p : Program) (i : ℕ) (u : Routine) (is : slice_g
   -- the parts of a DO
   record IsFitDo (x : Name) (first last : Param) (step : Option Param) : Type 0 where
     variable : IsScalar u Integer x
-    writes : MayBeWritten u env x
     begins : IsParameter u first
     ends : IsParameter u last
     steps : IsStep u step
@@ -219,18 +163,17 @@ module _ (dialect : Dialect) (p : Program) (i : ℕ) (u : Routine) (is : slice_g
       let own = split (is_integer_scalar scope x) (is_fit_param scope first) both_params.0 in
       record {
         variable = unit.integer_scalar dialect u w x data_is own.0;
-        writes = may x data_is (h.smashed x (0, refl));
         begins = parameter first (right_left u (uses_of_param first) (uses_of_param last) two) own.1;
         ends = parameter last (right_right u (uses_of_param first) (uses_of_param last) two) both_params.1;
         steps = step_parameter step (right_right u (uses_of_param first ++ uses_of_param last) (uses_of_step step) behind) three.1;
       }
 
   -- a DO that a statement begins is put before others
-  add_loop : (all : List Line) (pc k : ℕ) (s : Stmt) (ds : List Loop) → IsFitLine s → AreGoodLoops u env ds → AreGoodLoops u env (loop_of all pc k s ds)
+  add_loop : (all : List Line) (pc k : ℕ) (s : Stmt) (ds : List Loop) → IsFitLine s → AreTypedLoops u ds → AreTypedLoops u (loop_of all pc k s ds)
   add_loop all pc k (Do label x first last step) ds h good = put (target all label == pc)
     where
-      put : (t : Bool) → AreGoodLoops u env (cond t (record { at = k; variable = x; last = last; step = step } ∷ ds) ds)
-      put true = let d = fit_do label x first last step h in (record { variable = d.variable; may = d.writes; last = d.ends; step = d.steps }, good)
+      put : (t : Bool) → AreTypedLoops u (cond t (record { at = k; variable = x; last = last; step = step } ∷ ds) ds)
+      put true = let d = fit_do label x first last step h in (record { variable = d.variable; last = d.ends; step = d.steps }, good)
       put false = good
   add_loop all pc k (Assign left right) ds h good = good
   add_loop all pc k (GoTo label) ds h good = good
@@ -251,20 +194,20 @@ module _ (dialect : Dialect) (p : Program) (i : ℕ) (u : Routine) (is : slice_g
   add_loop all pc k (Common groups) ds h good = good
   add_loop all pc k End ds h good = good
 
-  loops_are_good : (all : List Line) (pc k : ℕ) (lines : List Line) (ds : List Loop) → ((line : Line) → IsAmong line lines → IsFitLine line.stmt) → AreGoodLoops u env ds
-      → AreGoodLoops u env (loops_from all pc k lines ds)
-  loops_are_good all pc k [] ds h good = good
-  loops_are_good all pc k (line ∷ lines) ds h good =
-      loops_are_good all pc (suc k) lines (loop_of all pc k line.stmt ds) (λ l m. h l (suc m.0, m.1)) (add_loop all pc k line.stmt ds (h line (0, refl)) good)
+  loops_are_typed : (all : List Line) (pc k : ℕ) (lines : List Line) (ds : List Loop) → ((line : Line) → IsAmong line lines → IsFitLine line.stmt) → AreTypedLoops u ds
+      → AreTypedLoops u (loops_from all pc k lines ds)
+  loops_are_typed all pc k [] ds h good = good
+  loops_are_typed all pc k (line ∷ lines) ds h good =
+      loops_are_typed all pc (suc k) lines (loop_of all pc k line.stmt ds) (λ l m. h l (suc m.0, m.1)) (add_loop all pc k line.stmt ds (h line (0, refl)) good)
 
-  good_loops : (pc : ℕ) → AreGoodLoops u env (loops_at u pc)
-  good_loops pc = loops_are_good u.lines pc 0 u.lines [] fit_line tt
+  typed_loops : (pc : ℕ) → AreTypedLoops u (loops_at u pc)
+  typed_loops pc = loops_are_typed u.lines pc 0 u.lines [] fit_line tt
 
-  some_good : (pc : ℕ) (ds : List Loop) → AreGoodLoops u env ds → AreGoodLoops u env (around pc ds)
-  some_good pc [] good = tt
-  some_good pc (d ∷ ds) good = put (nat_lt d.at pc) (some_good pc ds good.1)
+  some_typed : (pc : ℕ) (ds : List Loop) → AreTypedLoops u ds → AreTypedLoops u (around pc ds)
+  some_typed pc [] good = tt
+  some_typed pc (d ∷ ds) good = put (nat_lt d.at pc) (some_typed pc ds good.1)
     where
-      put : (t : Bool) → AreGoodLoops u env (around pc ds) → AreGoodLoops u env (cond t (d ∷ around pc ds) (around pc ds))
+      put : (t : Bool) → AreTypedLoops u (around pc ds) → AreTypedLoops u (cond t (d ∷ around pc ds) (around pc ds))
       put true rest = (good.0, rest)
       put false rest = rest
 
@@ -274,39 +217,39 @@ module _ (dialect : Dialect) (p : Program) (i : ℕ) (u : Routine) (is : slice_g
   scalar_by_name x h = let d : IsNamed u.names x = unit.has_data dialect u w x h.0 in (d.its.sort, types.scalar_of dialect u w d.its.sort x h.0 h.1 (d.sort u.functions))
 
   module _ (IsReference : Sort → Name → List Expr → Type 0) (IsCall : Name → List Expr → Type 0) where
-    own_result : HasResult u env IsReference IsCall (is_function u)
+    own_result : HasOwnValue u (is_function u)
     own_result = by_kind (is_function u) refl
       where
-        by_kind : (t : Bool) → is_function u ≡ t → HasResult u env IsReference IsCall t
+        by_kind : (t : Bool) → is_function u ≡ t → HasOwnValue u t
         by_kind false e = tt
         by_kind true e = scalar_by_name u.name (own_is_scalar dialect u w e)
 
     -- ---- assignments
 
-    -- the left side of an assignment has a type, and may be written
+    -- the left side of an assignment has a type
     abbrev IsFitLeft : Expr → Type 0
-    IsFitLeft e = (q : Sort) × (type_of scope e ≡ Some q) × IsLeft u env IsReference IsCall q e
+    IsFitLeft e = (q : Sort) × (type_of scope e ≡ Some q) × IsTypedLeft u IsReference IsCall q e
 
-    left_name : (x : Name) → AreRight u (uses_on_left (Var x)) → Smashes p.units i x → IsFitLeft (Var x)
-    left_name x h s =
+    left_name : (x : Name) → AreRight u (uses_on_left (Var x)) → IsFitLeft (Var x)
+    left_name x h =
         let r = right_first u x assigned [] h in
         let d : IsNamed u.names x = unit.has_data dialect u w x r.0 in
-        (d.its.sort, d.sort u.functions, (types.scalar_of dialect u w d.its.sort x r.0 r.1 (d.sort u.functions), may x r.0 s))
+        (d.its.sort, d.sort u.functions, types.scalar_of dialect u w d.its.sort x r.0 r.1 (d.sort u.functions))
 
-    left_side : (e : Expr) → is_left_side e ≡ true → AreRight u (uses_on_left e) → AreFit u (parts e) → AreReferred u IsReference (sites_in u e) → ((x : Name) → IsAmong x (set_name e) → Smashes p.units i x) → IsFitLeft e
-    left_side (Var x) t h fit refer s = left_name x h (s x (0, refl))
-    left_side (Const n) t h fit refer s = absurd (cc)
-    left_side (Truth b) t h fit refer s = absurd (cc)
-    left_side (Paren' shape a) t h fit refer s = absurd (cc)
-    left_side (Pos' shape a) t h fit refer s = absurd (cc)
-    left_side (Neg' shape a) t h fit refer s = absurd (cc)
-    left_side (Power' shape a n) t h fit refer s = absurd (cc)
-    left_side (Bin' o q a r b) t h fit refer s = absurd (cc)
-    left_side (Rel' o q a r b) t h fit refer s = absurd (cc)
-    left_side (Not' shape a) t h fit refer s = absurd (cc)
-    left_side (And' q a r b) t h fit refer s = absurd (cc)
-    left_side (Or' q a r b) t h fit refer s = absurd (cc)
-    left_side (Apply' f shape args) t h fit refer s = (d.its.sort, type_is, element (dims_among u.names f) refl)
+    left_side : (e : Expr) → is_left_side e ≡ true → AreRight u (uses_on_left e) → AreFit u (parts e) → AreReferred u IsReference (sites_in u e) → IsFitLeft e
+    left_side (Var x) t h fit refer = left_name x h
+    left_side (Const n) t h fit refer = absurd (cc)
+    left_side (Truth b) t h fit refer = absurd (cc)
+    left_side (Paren' shape a) t h fit refer = absurd (cc)
+    left_side (Pos' shape a) t h fit refer = absurd (cc)
+    left_side (Neg' shape a) t h fit refer = absurd (cc)
+    left_side (Power' shape a n) t h fit refer = absurd (cc)
+    left_side (Bin' o q a r b) t h fit refer = absurd (cc)
+    left_side (Rel' o q a r b) t h fit refer = absurd (cc)
+    left_side (Not' shape a) t h fit refer = absurd (cc)
+    left_side (And' q a r b) t h fit refer = absurd (cc)
+    left_side (Or' q a r b) t h fit refer = absurd (cc)
+    left_side (Apply' f shape args) t h fit refer = (d.its.sort, type_is, element (dims_among u.names f) refl)
       where
         r : (is_array scope f ≡ true) × (not (is_array scope f && (length (syntax.listed args) == length (dims_among u.names f))) ≡ false)
         r = right_first u f (assigned_element (length (syntax.listed args))) (uses_in_row read args) h
@@ -329,7 +272,7 @@ module _ (dialect : Dialect) (p : Program) (i : ℕ) (u : Routine) (is : slice_g
             (types.referred_right dialect u w IsReference (own_site (applied u f) f (listed args)) (sites_in_row u args) refer)
             (types.integers_demanded dialect u w f (syntax.listed args) (fit (Apply' f shape args) (0, refl)) (ap (λ b. b || is_intrinsic scope f) r.0))
 
-        element : (ds : List Dim) → dims_among u.names f ≡ ds → IsGoodElement u env IsReference IsCall d.its.sort f args
+        element : (ds : List Dim) → dims_among u.names f ≡ ds → IsTypedElement u IsReference IsCall d.its.sort f args
         element [] e = absurd (clash (is_array scope f) r.0 (ap is_given_dims e))
         element (b ∷ bs) e =
             let dims_are : dims_of u f ≡ b ∷ bs = same_dims_told u.names f ∙ e in
@@ -339,7 +282,6 @@ module _ (dialect : Dialect) (p : Program) (i : ℕ) (u : Routine) (is : slice_g
               applied_is = ap (λ z. applied_by z (intrinsic f)) dims_are;
               dims_are = dims_are;
               array = types.array_of dialect u w d.its.sort f (b ∷ bs) r.0 e (d.sort u.functions);
-              may = may f data_is (s f (0, refl));
               many = types.row_count args ∙ (many ∙ ap length e);
               integers = subscripts;
             }
@@ -353,12 +295,12 @@ module _ (dialect : Dialect) (p : Program) (i : ℕ) (u : Routine) (is : slice_g
     one_typed : (q : Sort) (e : Expr) → AreRight u (uses_in read e) → AreFit u (parts e ++ []) → AreReferred u IsReference (sites_in u e) → same_option (type_of scope e) (Some q) ≡ true → IsTyped u IsReference q e
     one_typed q e h fit refer t = types.typed dialect u w IsReference read (types.reads_scalars u) q e h (fit_left u (parts e) [] fit) refer (types.same_type _ q t)
 
-    good_assignment : (pc : ℕ) (left right : Expr) → IsFitLine (Assign left right) → AreReferred u IsReference (sites_of u (Assign left right)) → IsGood u env IsReference IsCall pc (Assign left right)
-    good_assignment pc left right h refer = (l.0, l.2, right_typed, good_loops pc)
+    typed_assignment : (pc : ℕ) (left right : Expr) → IsFitLine (Assign left right) → AreReferred u IsReference (sites_of u (Assign left right)) → IsTypedStatement u IsReference IsCall pc (Assign left right)
+    typed_assignment pc left right h refer = (l.0, l.2, right_typed, typed_loops pc)
       where
-        l : (q : Sort) × (type_of scope left ≡ Some q) × IsLeft u env IsReference IsCall q left
+        l : (q : Sort) × (type_of scope left ≡ Some q) × IsTypedLeft u IsReference IsCall q left
         l = left_side left h.form (right_left u (uses_on_left left) (uses_in read right) h.uses) (fit_left u (parts left) (parts right ++ []) h.operands)
-            (types.referred_left dialect u w IsReference (sites_in u left) (sites_in u right) refer) h.smashed
+            (types.referred_left dialect u w IsReference (sites_in u left) (sites_in u right) refer)
 
         right_typed : IsTyped u IsReference l.0 right
         right_typed =
@@ -366,54 +308,53 @@ module _ (dialect : Dialect) (p : Program) (i : ℕ) (u : Routine) (is : slice_g
             (fit_left u (parts right) [] (fit_right u (parts left) (parts right ++ []) h.operands)) (types.referred_right dialect u w IsReference (sites_in u left) (sites_in u right) refer)
             (types.same_type_as l.0 _ (ap (λ o. same_option o (type_of scope right)) (sym l.1) ∙ h.places))
 
-    good_call : (pc : ℕ) (g : Name) (args : List Expr) → IsFitLine (Call g args) → AreReferred u IsReference (sites_of u (Call g args)) → AreCalled IsCall (sites_of u (Call g args))
-        → IsGood u env IsReference IsCall pc (Call g args)
-    good_call pc g args h refer calls = (
+    typed_call : (pc : ℕ) (g : Name) (args : List Expr) → IsFitLine (Call g args) → AreReferred u IsReference (sites_of u (Call g args)) → AreCalled IsCall (sites_of u (Call g args))
+        → IsTypedStatement u IsReference IsCall pc (Call g args)
+    typed_call pc g args h refer calls = (
       calls (record { reference = false; callee = g; actuals = args }) (0, refl) refl,
       types.actuals dialect u w IsReference actual (λ x k. k) (row_of args)
           (subst (AreRight u) (sym (row_uses actual args)) (right_behind u (occurrence g called) (flat_map (uses_in actual) args) h.uses))
           (subst (AreFit u) (sym (row_parts args)) h.operands)
           (types.referred_right dialect u w IsReference (record { reference = false; callee = g; actuals = args } ∷ []) (sites_in_row u (row_of args)) refer),
-      good_loops pc,
+      typed_loops pc,
     )
 
-    has_labels : (ls : List ℕ) → is_given ls ≡ true → HasLabels u env IsReference IsCall ls
+    has_labels : (ls : List ℕ) → is_given ls ≡ true → HasSomeLabel ls
     has_labels [] h = absurd (cc)
     has_labels (l ∷ ls) h = tt
 
-    good : (pc : ℕ) (s : Stmt) → IsFitLine s → AreReferred u IsReference (sites_of u s) → AreCalled IsCall (sites_of u s) → IsGood u env IsReference IsCall pc s
-    good pc (Assign left right) h refer calls = good_assignment pc left right h refer
-    good pc (GoTo l) h refer calls = tt
-    good pc (Computed ls x) h refer calls = (unit.integer_scalar dialect u w x (right_first u x read [] h.uses).0 h.places, has_labels ls h.form, good_loops pc)
-    good pc (ArithIf e l m n) h refer calls = one_typed Integer e h.uses h.operands refer h.places
-    good pc (LogicalIf' e shape (carried b)) h refer calls =
+    typed_statement : (pc : ℕ) (s : Stmt) → IsFitLine s → AreReferred u IsReference (sites_of u s) → AreCalled IsCall (sites_of u s) → IsTypedStatement u IsReference IsCall pc s
+    typed_statement pc (Assign left right) h refer calls = typed_assignment pc left right h refer
+    typed_statement pc (GoTo l) h refer calls = tt
+    typed_statement pc (Computed ls x) h refer calls = (unit.integer_scalar dialect u w x (right_first u x read [] h.uses).0 h.places, has_labels ls h.form, typed_loops pc)
+    typed_statement pc (ArithIf e l m n) h refer calls = one_typed Integer e h.uses h.operands refer h.places
+    typed_statement pc (LogicalIf' e shape (carried b)) h refer calls =
         let inner : IsFitLine b = fit_carried e b h in (
           types.typed dialect u w IsReference read (types.reads_scalars u) Logical e (right_left u (uses_in read e) (uses_of b) h.uses) (fit_left u (parts e) (all_parts b) h.operands)
               (types.referred_left dialect u w IsReference (sites_in u e) (sites_of u b) refer) (types.same_type _ Logical (split (gives_logical scope e) (has_fit_places scope b) h.places).0),
-          good_loops pc,
+          typed_loops pc,
           executable b inner.performs inner.form,
-          good pc b inner (types.referred_right dialect u w IsReference (sites_in u e) (sites_of u b) refer) (called_right (sites_in u e) (sites_of u b) calls),
+          typed_statement pc b inner (types.referred_right dialect u w IsReference (sites_in u e) (sites_of u b) refer) (called_right (sites_in u e) (sites_of u b) calls),
         )
-    good pc (Do label x first last step) h refer calls =
+    typed_statement pc (Do label x first last step) h refer calls =
         let d = fit_do label x first last step h in
-        (d.variable, d.writes, d.begins, d.ends, d.steps, some_good pc (loops_at u (target u.lines label)) (good_loops (target u.lines label)))
-    good pc Continue h refer calls = good_loops pc
-    good pc (Call g args) h refer calls = good_call pc g args h refer calls
-    good pc Return h refer calls = own_result
-    good pc (BlockIf e) h refer calls = one_typed Logical e h.uses h.operands refer h.places
-    good pc (ElseIf e) h refer calls = one_typed Logical e h.uses h.operands refer h.places
-    good pc Else h refer calls = good_loops pc
-    good pc EndIf h refer calls = good_loops pc
-    good pc (Subroutine f dummies) h refer calls = let bad : false ≡ true = h.performs in absurd (cc)
-    good pc (Function sort f dummies) h refer calls = let bad : false ≡ true = h.performs in absurd (cc)
-    good pc (Declare sort items) h refer calls = let bad : false ≡ true = h.performs in absurd (cc)
-    good pc (Dimension items) h refer calls = let bad : false ≡ true = h.performs in absurd (cc)
-    good pc (Common groups) h refer calls = let bad : false ≡ true = h.performs in absurd (cc)
-    good pc End h refer calls = let bad : false ≡ true = h.performs in absurd (cc)
+        (d.variable, d.begins, d.ends, d.steps, some_typed pc (loops_at u (target u.lines label)) (typed_loops (target u.lines label)))
+    typed_statement pc Continue h refer calls = typed_loops pc
+    typed_statement pc (Call g args) h refer calls = typed_call pc g args h refer calls
+    typed_statement pc Return h refer calls = own_result
+    typed_statement pc (BlockIf e) h refer calls = one_typed Logical e h.uses h.operands refer h.places
+    typed_statement pc (ElseIf e) h refer calls = one_typed Logical e h.uses h.operands refer h.places
+    typed_statement pc Else h refer calls = typed_loops pc
+    typed_statement pc EndIf h refer calls = typed_loops pc
+    typed_statement pc (Subroutine f dummies) h refer calls = let bad : false ≡ true = h.performs in absurd (cc)
+    typed_statement pc (Function sort f dummies) h refer calls = let bad : false ≡ true = h.performs in absurd (cc)
+    typed_statement pc (Declare sort items) h refer calls = let bad : false ≡ true = h.performs in absurd (cc)
+    typed_statement pc (Dimension items) h refer calls = let bad : false ≡ true = h.performs in absurd (cc)
+    typed_statement pc (Common groups) h refer calls = let bad : false ≡ true = h.performs in absurd (cc)
+    typed_statement pc End h refer calls = let bad : false ≡ true = h.performs in absurd (cc)
 
-pub statements_are_good : StatementsAreGood
-statements_are_good dialect p i u is w keeps table env apart pc line at =
-    good dialect p i u is w (keeps DimensionSmashed) table env apart (IsReferenceTo p i u) (IsCallTo p i u) pc line.stmt
-    (fit_line dialect p i u is w (keeps DimensionSmashed) table env apart line (pc, at))
+pub statements_are_typed : StatementsAreTyped
+statements_are_typed dialect p i u is w keeps pc line at =
+    typed_statement dialect p i u is w (IsReferenceTo p i u) (IsCallTo p i u) pc line.stmt (fit_line dialect p i u is w line (pc, at))
     (λ site q m e told. referred_in_text p keeps dialect i u is line (pc, at) site m q e told)
     (λ site m e. called_in_text p keeps dialect i u is line (pc, at) site m e)
