@@ -41,6 +41,7 @@ pub mod Matching
 pub mod Near
 pub mod PlaceBounds
 pub mod Ranks
+pub mod ReadyRows
 pub mod References
 pub mod RightUnits
 pub mod RulesGive

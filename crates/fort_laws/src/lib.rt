@@ -9,6 +9,7 @@ mod frames;
 mod lazy;
 mod places;
 mod programs;
+mod ready_rows;
 mod segments;
 mod statements;
 mod steps;
@@ -30,6 +31,7 @@ pub use frames::{
 pub use lazy::lazy_runs_follow_strict_ones;
 pub use places::elements_lie_in_arrays;
 pub use programs::{programs_are_correct, strict_programs_are_correct};
+pub use ready_rows::inc_is_ready;
 pub use segments::{safe_runs_arrive, safe_runs_end, statements_keep};
 pub use statements::statements_match;
 pub use steps::{
