@@ -17,6 +17,7 @@ pub mod Exact
 pub mod Falling
 pub mod FewSymbols
 pub mod FittingNotes
+pub mod FormedUnits
 pub mod FrameCalls
 pub mod FrameClaims
 pub mod FrameEnter

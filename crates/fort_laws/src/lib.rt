@@ -5,6 +5,7 @@ mod calls;
 mod clocks;
 mod exactness;
 mod expressions;
+mod formed;
 mod frames;
 mod lazy;
 mod places;
@@ -24,6 +25,7 @@ pub use exactness::{
     words_tell_symbols,
 };
 pub use expressions::expressions_match;
+pub use formed::formed_units_have_names;
 pub use frames::{
     evaluation_changes_nothing, rules_make_sound, rules_pass_smashed_alone,
     runs_change_only_smashed, runs_without_smashing_change_nothing,
