@@ -2,6 +2,7 @@
 use Rattle.std.specs.Prelude.{ℕ, ◌≡◌, Some, None, Result, Ok, Err, List}
 use Rattle.fort_syntax.specs.declared.dialect.Dialect.{Dialect}
 use Rattle.fort_syntax.specs.declared.stmt.Stmt.{Stmt}
+use Rattle.fort_syntax.specs.Grammar.{Spells}
 use Rattle.fort_syntax.specs.Misspelled.{refusal_of}
 use Rattle.stmt_parse.specs.declared.answer.StmtRefusal.{StmtRefusal}
 use Rattle.stmt_parse.specs.declared.answer.StmtRefusal.TheVariants.{Breaks, NoMemory}
@@ -15,3 +16,7 @@ Refuses d t (Breaks r) = (statement_of d t ≡ None) × (r ≡ refusal_of d t)
 abbrev pub Answers : Dialect → List ℕ → Result Stmt StmtRefusal → Type 0
 Answers d t (Ok s) = statement_of d t ≡ Some s
 Answers d t (Err e) = Refuses d t e
+
+-- a text spells at most one statement
+abbrev pub TextSpellsOneStatement : Type 0
+TextSpellsOneStatement = (d : Dialect) (t : List ℕ) (s u : Stmt) → Spells d t s → Spells d t u → s ≡ u
