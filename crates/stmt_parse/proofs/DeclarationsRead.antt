@@ -16,7 +16,7 @@ use Rattle.fort_syntax.specs.Grammar.{more_listed, listed, in_brackets, dim, ite
 use Rattle.stmt_parse.specs.Tokens.{◌>>=◌, after, name_at}
 use Rattle.stmt_parse.specs.Statements.{whole, list_of, rest_of_brackets, brackets_at, item_at, groups_at, subroutine, function, declare, is_array, all_arrays, dimension_of, common}
 use Rattle.stmt_parse.proofs.TokensRead.{when_true}
-use Rattle.stmt_parse.proofs.PartEnds.{step_to, lengths, at_end}
+use Rattle.stmt_parse.proofs.PartEnds.{and_true, step_to, lengths, at_end}
 use Rattle.stmt_parse.proofs.ListsRead.{name_begins, name_complete, rest_complete, brackets_complete, brackets_apart}
 use Rattle.stmt_parse.proofs.ItemsRead.{items_complete, groups_complete}
 
@@ -52,10 +52,6 @@ unfolding declare
 declare_read n o is t h few = step_to (list_of (item_at n) n t) (is, []) (λ is. whole is >>= λ w. Some (Declare o w)) _ (items_whole n is t h few) refl
 
 -- arrays are items with dimensions
-
-and_true : (x y : Bool) → x ≡ true → y ≡ true → (x && y) ≡ true
-and_true true y h k = k
-and_true false y h k = absurd cc
 
 filled : (ds : List Dim) (x : List ℕ) → bracketed (listed dim ds) x → (nat_lt 0 (length ds) ≡ true) × in_brackets dim ds x
 filled [] x p = absurd (p.4).3

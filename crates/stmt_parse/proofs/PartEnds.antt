@@ -36,6 +36,10 @@ first_false : (x y : Bool) → x ≡ false → (x && y) ≡ false
 first_false false y h = refl
 first_false true y h = absurd cc
 
+pub and_true : (x y : Bool) → x ≡ true → y ≡ true → (x && y) ≡ true
+and_true true y h k = k
+and_true false y h k = absurd cc
+
 -- a word with another first byte does not begin the text
 pub differs : (w : ℕ) (ws : List ℕ) (b : ℕ) (rest : List ℕ) → (w == b) ≡ false → begins (w ∷ ws) (b ∷ rest) ≡ false
 differs w ws b rest h = first_false (w == b) _ h

@@ -16,7 +16,7 @@ use Rattle.stmt_parse.specs.Parsing.{bracketed_arguments, parse}
 use Rattle.stmt_parse.specs.Statements.{whole, rest_of_brackets, left_at, assign, go_to, computed, actuals_at, call, jump, plain}
 use Rattle.stmt_parse.proofs.TokensRead.{when_true, when_false, label_read}
 use Rattle.stmt_parse.proofs.Readings.{both_true}
-use Rattle.stmt_parse.proofs.PartEnds.{differs, step_to, lengths, at_end}
+use Rattle.stmt_parse.proofs.PartEnds.{and_true, differs, step_to, lengths, at_end}
 use Rattle.stmt_parse.proofs.ListsRead.{name_begins, label_complete, rest_complete}
 use Rattle.stmt_parse.proofs.ExpressionsRead.{ExpressionsRead}
 use Rattle.stmt_parse.proofs.Unassigned.{long_unassigned, word_unassigned, call_unassigned, labels_arguments}
@@ -48,10 +48,6 @@ pub record IsPlain (n : ℕ) (t : List ℕ) (s : Stmt) : Type 0 where
 
 digit_name_byte : (b : ℕ) → is_digit b ≡ true → is_name_byte b ≡ true
 digit_name_byte b h = grind (arith, nat_tests)
-
-and_true : (x y : Bool) → x ≡ true → y ≡ true → (x && y) ≡ true
-and_true true y h k = k
-and_true false y h k = absurd cc
 
 pub all_name_bytes : (u : List ℕ) → list_all is_digit u ≡ true → list_all is_name_byte u ≡ true
 all_name_bytes [] h = refl
