@@ -18,23 +18,24 @@ use Rattle.stmt_parse.specs.Tokens.{◌>>=◌, after, name_at, label_at}
 use Rattle.stmt_parse.specs.Parsing.{parse}
 use Rattle.stmt_parse.specs.Statements.{whole, or_other, left_at, assign, condition_at, arith_if, is_word, plain, carried_if, carried, is_77, behind_condition}
 use Rattle.stmt_parse.proofs.TokensRead.{when_true, when_false, label_read}
-use Rattle.stmt_parse.proofs.Readings.{both_true, word_so}
+use Rattle.stmt_parse.proofs.ExpressionsAnswers.{both_true}
+use Rattle.stmt_parse.proofs.Readings.{word_so}
 use Rattle.stmt_parse.proofs.PartEnds.{differs, step_to, lengths, at_end}
 use Rattle.stmt_parse.proofs.ItemsRead.{digit_first}
-use Rattle.stmt_parse.proofs.ExpressionsRead.{ExpressionsRead}
+use Rattle.stmt_parse.proofs.ExpressionsAgree.{spelled_parsed}
 use Rattle.stmt_parse.proofs.Unassigned.{call_unassigned}
 use Rattle.stmt_parse.proofs.PlainRead.{IsPlain, behind, digits_apart, assign_read, go_to_plain, computed_plain, call_plain, continue_plain, return_plain}
 
 -- ---- conditions
 
-pub condition_read : ExpressionsRead → (n : ℕ) (e : Expr) (v r : List ℕ) → (expression e ⨾ just (codes ")")) v → length v + 1 ≤ n → condition_at n (v ++ r) ≡ Some (e, r)
+pub condition_read : (n : ℕ) (e : Expr) (v r : List ℕ) → (expression e ⨾ just (codes ")")) v → length v + 1 ≤ n → condition_at n (v ++ r) ≡ Some (e, r)
 unfolding condition_at
-condition_read x n e v r h few =
+condition_read n e v r h few =
     let size = lengths v h.0 (codes ")") (h.2 ∙ ap (λ c. h.0 ++ c) h.4) in
     let one : length (codes ")") ≡ 1 = refl in
     ap (condition_at n) (ap (λ y. y ++ r) (h.2 ∙ ap (λ c. h.0 ++ c) h.4) ∙ append_assoc h.0 (codes ")") r)
     ∙ step_to (parse n 0 (h.0 ++ (codes ")" ++ r))) (e, codes ")" ++ r) (λ e. after (codes ")") e.1 >>= λ rest. Some (e.0, rest)) _
-        (x.spelled_parsed e h.0 (codes ")" ++ r) n h.3 (omega arith) refl) refl
+        (spelled_parsed e h.0 (codes ")" ++ r) n 0 h.3 (omega arith) (omega arith) refl) refl
 
 -- a word, a condition and what is behind it
 pub record Condition (w t : List ℕ) (e : Expr) (Q : List ℕ → Type 0) : Type 0 where
@@ -62,9 +63,9 @@ one_argument : (e : Expr) (v : List ℕ) → (expression e ⨾ just (codes ")"))
 one_argument e v h = (h.0, h.1, h.2, (h.0, [], sym (append-nil h.0), h.3, refl), h.4)
 
 -- a word with a condition, and no `=` behind it
-pub if_unassigned : ExpressionsRead → (n : ℕ) (w : List ℕ) (e : Expr) (v r : List ℕ) → list_all is_name_byte w ≡ true → (expression e ⨾ just (codes ")")) v → length v + 1 ≤ n
+pub if_unassigned : (n : ℕ) (w : List ℕ) (e : Expr) (v r : List ℕ) → list_all is_name_byte w ≡ true → (expression e ⨾ just (codes ")")) v → length v + 1 ≤ n
     → begins (codes "=") r ≡ false → assign n (w ++ (codes "(" ++ (v ++ r))) ≡ None
-if_unassigned x n w e v r h k few unequal = call_unassigned x n w (e ∷ []) v r h (one_argument e v k) few unequal
+if_unassigned n w e v r h k few unequal = call_unassigned n w (e ∷ []) v r h (one_argument e v k) few unequal
 
 -- ---- three labels
 
@@ -138,26 +139,26 @@ plain_carried n t s p =
 abbrev pub LabelsBehind : ℕ → ℕ → ℕ → List ℕ → Type 0
 LabelsBehind l m k = label l ⨾ just (codes ",") ⨾ label m ⨾ just (codes ",") ⨾ label k
 
-arith_carried : ExpressionsRead → (n : ℕ) (e : Expr) (l m k : ℕ) (t : List ℕ) → (just (codes "IF") ⨾ condition e ⨾ LabelsBehind l m k) t → length t + 2 ≤ n
+arith_carried : (n : ℕ) (e : Expr) (l m k : ℕ) (t : List ℕ) → (just (codes "IF") ⨾ condition e ⨾ LabelsBehind l m k) t → length t + 2 ≤ n
     → carried n t ≡ Some (ArithIf e l m k)
 unfolding carried carried_if
-arith_carried x n e l m k t h few =
+arith_carried n e l m k t h few =
     let c = condition_cut (codes "IF") t e h in
     let size = c.size in
     ap (carried n) c.same
     ∙ ap (λ o. or_other o (carried_if n (c.inner ++ c.rest)))
-        (if_unassigned x n (codes "IF") e c.inner c.rest refl c.is (omega arith) (labels_digit l c.rest c.next).1)
-    ∙ step_to (condition_at n (c.inner ++ c.rest)) (e, c.rest) (λ e. arith_if e.0 e.1) _ (condition_read x n e c.inner c.rest c.is (omega arith)) (labels_read e l m k c.rest c.next)
+        (if_unassigned n (codes "IF") e c.inner c.rest refl c.is (omega arith) (labels_digit l c.rest c.next).1)
+    ∙ step_to (condition_at n (c.inner ++ c.rest)) (e, c.rest) (λ e. arith_if e.0 e.1) _ (condition_read n e c.inner c.rest c.is (omega arith)) (labels_read e l m k c.rest c.next)
 
-pub carried_read : ExpressionsRead → (d : Dialect) (s : Stmt) (n : ℕ) (t : List ℕ) → is_carried s ≡ true → form d s t → length t + 2 ≤ n → carried n t ≡ Some s
-carried_read x d (Assign left right) n t c h few = assign_carried n t _ (assign_read x n left right t h few)
-carried_read x d (GoTo l) n t c h few = plain_carried n t _ (go_to_plain n l t h)
-carried_read x d (Computed ls y) n t c h few = plain_carried n t _ (computed_plain x n ls y t h few)
-carried_read x d (ArithIf e l m k) n t c h few = arith_carried x n e l m k t h few
-carried_read x d (Call y es) n t c h few = plain_carried n t _ (call_plain x n y es t h few)
-carried_read x d Continue n t c h few = plain_carried n t _ (continue_plain n t h)
-carried_read x d Return n t c h few = plain_carried n t _ (return_plain n t h)
-carried_read x d _ n t c h few = absurd cc
+pub carried_read : (d : Dialect) (s : Stmt) (n : ℕ) (t : List ℕ) → is_carried s ≡ true → form d s t → length t + 2 ≤ n → carried n t ≡ Some s
+carried_read d (Assign left right) n t c h few = assign_carried n t _ (assign_read n left right t h few)
+carried_read d (GoTo l) n t c h few = plain_carried n t _ (go_to_plain n l t h)
+carried_read d (Computed ls y) n t c h few = plain_carried n t _ (computed_plain n ls y t h few)
+carried_read d (ArithIf e l m k) n t c h few = arith_carried n e l m k t h few
+carried_read d (Call y es) n t c h few = plain_carried n t _ (call_plain n y es t h few)
+carried_read d Continue n t c h few = plain_carried n t _ (continue_plain n t h)
+carried_read d Return n t c h few = plain_carried n t _ (return_plain n t h)
+carried_read d _ n t c h few = absurd cc
 
 -- ---- behind a condition
 
@@ -181,12 +182,12 @@ second_false : (x y : Bool) → y ≡ false → (x && y) ≡ false
 second_false true y h = h
 second_false false y h = refl
 
-pub carried_behind : ExpressionsRead → (d : Dialect) (n : ℕ) (e : Expr) (s : Stmt) (r : List ℕ) → is_carried s ≡ true → form d s r → length r + 2 ≤ n
+pub carried_behind : (d : Dialect) (n : ℕ) (e : Expr) (s : Stmt) (r : List ℕ) → is_carried s ≡ true → form d s r → length r + 2 ≤ n
     → (begins (codes "=") r ≡ false) × (behind_condition d n e r ≡ Some (LogicalIf e s))
 unfolding behind_condition
-carried_behind x d n e s r c h few =
+carried_behind d n e s r c h few =
     let p = carried_apart d s r c h in
-    let k = carried_read x d s n r c h few in
+    let k = carried_read d s n r c h few in
     (p.1,
      when_false (starts is_digit r) _ _ p.0
      ∙ when_false (is_77 d && is_word (codes "THEN") r) _ _ (second_false (is_77 d) _ (not_then (is_word (codes "THEN") r) n r s refl k))

@@ -16,7 +16,8 @@ use Rattle.fort_syntax.specs.Grammar.{more_listed, listed, in_brackets, dim, ite
 use Rattle.stmt_parse.specs.Tokens.{◌>>=◌, after, name_at}
 use Rattle.stmt_parse.specs.Statements.{whole, list_of, rest_of_brackets, brackets_at, item_at, groups_at, subroutine, function, declare, is_array, all_arrays, dimension_of, common}
 use Rattle.stmt_parse.proofs.TokensRead.{when_true}
-use Rattle.stmt_parse.proofs.PartEnds.{and_true, step_to, lengths, at_end}
+use Rattle.stmt_parse.proofs.PartsParsed.{and_true}
+use Rattle.stmt_parse.proofs.PartEnds.{step_to, lengths, at_end}
 use Rattle.stmt_parse.proofs.ListsRead.{name_begins, name_complete, rest_complete, brackets_complete, brackets_apart}
 use Rattle.stmt_parse.proofs.ItemsRead.{items_complete, groups_complete}
 

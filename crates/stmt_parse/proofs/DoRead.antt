@@ -15,15 +15,15 @@ use Rattle.fort_syntax.specs.Misspelled.{begins}
 use Rattle.stmt_parse.specs.Tokens.{◌>>=◌, after, name_at, constant_at, label_at}
 use Rattle.stmt_parse.specs.Statements.{whole, assign, param_at, step_at, do_of}
 use Rattle.stmt_parse.proofs.TokensRead.{when_true, when_false, constant_read, label_read}
-use Rattle.stmt_parse.proofs.Readings.{both_true}
-use Rattle.stmt_parse.proofs.PartEnds.{part_ends, no_name_byte, no_digit, name_no_digit, step_to, lengths, at_end}
+use Rattle.stmt_parse.proofs.ExpressionsAnswers.{both_true}
+use Rattle.stmt_parse.proofs.ExpressionsEnds.{is_apart, no_name_byte, no_digit}
+use Rattle.stmt_parse.proofs.PartEnds.{name_no_digit, step_to, lengths, at_end}
 use Rattle.stmt_parse.proofs.ListsRead.{IsComplete, name_begins}
 use Rattle.stmt_parse.proofs.ItemsRead.{digit_first}
-use Rattle.stmt_parse.proofs.ExpressionsRead.{ExpressionsRead}
 use Rattle.stmt_parse.proofs.Unassigned.{counted_unassigned}
 use Rattle.stmt_parse.proofs.PlainRead.{behind, all_name_bytes, all_joined, name_bytes}
 
-param_complete : (p : Param) (u r : List ℕ) → param p u → part_ends r ≡ true → param_at (u ++ r) ≡ Some (p, r)
+param_complete : (p : Param) (u r : List ℕ) → param p u → is_apart r ≡ true → param_at (u ++ r) ≡ Some (p, r)
 unfolding param_at
 param_complete (parameter.Fixed c) u r h e =
     when_true (starts is_digit (u ++ r)) _ _ (digit_first u r h.0)
@@ -32,12 +32,12 @@ param_complete (parameter.Named x) u r h e =
     when_false (starts is_digit (u ++ r)) _ _ (ap (λ y. starts is_digit (y ++ r)) h.0 ∙ name_no_digit x r h.1)
     ∙ step_to (name_at (u ++ r)) (x, r) (λ x. Some (parameter.Named x.0, x.1)) _ (name_begins x u r h (no_name_byte r e)) refl
 
-step_read : (by : Option Param) (u : List ℕ) → step by u → (part_ends u ≡ true) × (step_at u ≡ Some (by, []))
+step_read : (by : Option Param) (u : List ℕ) → step by u → (is_apart u ≡ true) × (step_at u ≡ Some (by, []))
 unfolding step_at
-step_read None u h = (ap part_ends h, ap step_at h)
+step_read None u h = (ap is_apart h, ap step_at h)
 step_read (Some p) u h =
     let b = behind (codes ",") u h in
-    (ap part_ends b.1,
+    (ap is_apart b.1,
      ap step_at b.1 ∙ step_to (param_at b.0) (p, []) (λ p. Some (Some p.0, p.1)) _ (at_end param_at b.0 p (param_complete p b.0 [] b.2 refl)) refl)
 
 -- the texts of a DO behind its first word
@@ -121,9 +121,9 @@ first_fits t a b c f r h =
     let one : length (codes "=") ≡ 1 = refl in
     omega arith
 
-pub do_unassigned : ExpressionsRead → (n l : ℕ) (x : Name) (a b : Param) (by : Option Param) (t : List ℕ) → Counts l x a b by t → length t + 1 ≤ n
+pub do_unassigned : (n l : ℕ) (x : Name) (a b : Param) (by : Option Param) (t : List ℕ) → Counts l x a b by t → length t + 1 ≤ n
     → assign n (codes "DO" ++ t) ≡ None
-do_unassigned z n l x a b by t h few =
+do_unassigned n l x a b by t h few =
     let p = parts l x a b by t h in
     let e = param_expression a p.first p.is_first in
     let last = p.last ++ p.step_text in
@@ -132,4 +132,4 @@ do_unassigned z n l x a b by t h few =
         all_joined is_name_byte (codes "DO") (p.label_text ++ p.name_text) refl
             (all_joined is_name_byte p.label_text p.name_text (all_name_bytes p.label_text (both_true _ _ p.is_label.0).1) (name_bytes x p.name_text p.is_name)) in
     ap (assign n) (ap (λ y. codes "DO" ++ y) p.same ∙ behind_do p.label_text p.name_text (codes "=" ++ (p.first ++ (codes "," ++ last))))
-    ∙ counted_unassigned z n (codes "DO" ++ (p.label_text ++ p.name_text)) e.0 p.first last bytes e.1 (omega arith)
+    ∙ counted_unassigned n (codes "DO" ++ (p.label_text ++ p.name_text)) e.0 p.first last bytes e.1 (omega arith)

@@ -15,9 +15,10 @@ use Rattle.fort_syntax.specs.Grammar.{listed, dim, item, slashed, first_block, m
 use Rattle.fort_syntax.specs.Misspelled.{begins}
 use Rattle.stmt_parse.specs.Tokens.{◌>>=◌, after, name_at, constant_at}
 use Rattle.stmt_parse.specs.Statements.{list_of, brackets_at, dim_at, item_at, slashed_at, first_block_at, group_behind, slashed_group, more_groups_at, groups_at}
-use Rattle.stmt_parse.proofs.Readings.{both_true}
+use Rattle.stmt_parse.proofs.ExpressionsAnswers.{both_true}
 use Rattle.stmt_parse.proofs.TokensRead.{when_true, when_false, name_read, constant_read}
-use Rattle.stmt_parse.proofs.PartEnds.{list_ends, list_part, no_name_byte, no_digit, name_apart, name_no_digit, step_to, lengths}
+use Rattle.stmt_parse.proofs.ExpressionsEnds.{no_name_byte, no_digit}
+use Rattle.stmt_parse.proofs.PartEnds.{list_ends, list_apart, name_apart, name_no_digit, step_to, lengths}
 use Rattle.stmt_parse.proofs.ListsRead.{IsComplete, name_begins, more_ends, list_complete, brackets_complete, brackets_apart}
 
 pub digit_first : (u r : List ℕ) → is_digits u ≡ true → starts is_digit (u ++ r) ≡ true

@@ -9,11 +9,12 @@ use Rattle.fort_syntax.specs.Misspelled.{begins}
 use Rattle.stmt_parse.specs.Tokens.{Reading, ◌>>=◌, after, name_at, label_at}
 use Rattle.stmt_parse.specs.Statements.{Reader, more_of, list_of, rest_of_brackets, brackets_at}
 use Rattle.stmt_parse.proofs.TokensRead.{when_true, when_false, name_read, label_read}
-use Rattle.stmt_parse.proofs.PartEnds.{part_ends, list_ends, list_part, no_name_byte, no_digit, no_bracket, no_comma, step_to, lengths}
+use Rattle.stmt_parse.proofs.ExpressionsEnds.{is_apart, no_name_byte, no_digit, no_bracket}
+use Rattle.stmt_parse.proofs.PartEnds.{list_ends, list_apart, no_comma, step_to, lengths}
 
 -- whatever is spelled in fewer bytes is read where it ends
 abbrev pub IsComplete : {A : Type 0} → ℕ → Reader A → (A → Texts) → Type 0
-IsComplete {A} n read P = (x : A) (u r : List ℕ) → P x u → length u < n → part_ends r ≡ true → read (u ++ r) ≡ Some (x, r)
+IsComplete {A} n read P = (x : A) (u r : List ℕ) → P x u → length u < n → is_apart r ≡ true → read (u ++ r) ≡ Some (x, r)
 
 pub name_begins : (x a v : List ℕ) → name x a → starts is_name_byte v ≡ false → name_at (a ++ v) ≡ Some (x, v)
 name_begins x a v h k = ap (λ y. name_at (y ++ v)) h.0 ∙ name_read x v h.1 k
@@ -35,9 +36,9 @@ comma_lengths u c v a w h k l =
     let s = lengths v a w l in
     omega arith
 
-pub more_ends : {A : Type 0} (P : A → Texts) (zs : List A) (w r : List ℕ) → more_listed P zs w → list_ends r ≡ true → part_ends (w ++ r) ≡ true
-more_ends P [] w r h e = ap (λ x. part_ends (x ++ r)) h ∙ list_part r e
-more_ends P (z ∷ zs) w r h e = ap (λ x. part_ends (x ++ r)) (h.2 ∙ ap (λ c. c ++ h.1) h.3)
+pub more_ends : {A : Type 0} (P : A → Texts) (zs : List A) (w r : List ℕ) → more_listed P zs w → list_ends r ≡ true → is_apart (w ++ r) ≡ true
+more_ends P [] w r h e = ap (λ x. is_apart (x ++ r)) h ∙ list_apart r e
+more_ends P (z ∷ zs) w r h e = ap (λ x. is_apart (x ++ r)) (h.2 ∙ ap (λ c. c ++ h.1) h.3)
 
 more_complete : {A : Type 0} (read : Reader A) (P : A → Texts) (n : ℕ) → IsComplete n read P
     → (m : ℕ) (xs zs : List A) (u r : List ℕ) → more_listed P zs u → length u < m → length u < n → list_ends r ≡ true
@@ -76,7 +77,7 @@ rest_complete read P n complete xs u r h few =
         refl
 
 pub brackets_complete : {A : Type 0} (read : Reader A) (P : A → Texts) (n : ℕ) → IsComplete n read P
-    → (xs : List A) (u r : List ℕ) → in_brackets P xs u → length u < n → part_ends r ≡ true → brackets_at read n (u ++ r) ≡ Some (xs, r)
+    → (xs : List A) (u r : List ℕ) → in_brackets P xs u → length u < n → is_apart r ≡ true → brackets_at read n (u ++ r) ≡ Some (xs, r)
 unfolding brackets_at
 brackets_complete read P n complete [] u r h few e =
     ap (λ y. brackets_at read n (y ++ r)) h ∙ when_false (begins (codes "(") r) _ _ (no_bracket r e)
@@ -85,6 +86,6 @@ brackets_complete read P n complete (x ∷ xs) u r h few e =
     ap (λ y. brackets_at read n (y ++ r)) (h.2 ∙ ap (λ c. c ++ h.1) h.3) ∙ rest_complete read P n complete (x ∷ xs) h.1 r h.4 (omega arith)
 
 -- what stands behind a name with brackets or without goes on with no name
-pub brackets_apart : {A : Type 0} (P : A → Texts) (xs : List A) (u r : List ℕ) → in_brackets P xs u → part_ends r ≡ true → starts is_name_byte (u ++ r) ≡ false
+pub brackets_apart : {A : Type 0} (P : A → Texts) (xs : List A) (u r : List ℕ) → in_brackets P xs u → is_apart r ≡ true → starts is_name_byte (u ++ r) ≡ false
 brackets_apart P [] u r h e = ap (λ y. starts is_name_byte (y ++ r)) h ∙ no_name_byte r e
 brackets_apart P (x ∷ xs) u r h e = ap (λ y. starts is_name_byte (y ++ r)) (h.2 ∙ ap (λ c. c ++ h.1) h.3)

@@ -1,55 +1,29 @@
 -- Where a name, a number or a list ends.
-use Rattle.std.proofs.Common.{◌≡◌, ℕ, ◌+◌, ◌≤◌, ◌<◌, Bool, true, false, Option, Some, List, [], ◌∷◌, ◌++◌, length, codes, refl, sym, ap, ◌∙◌, arith}
-use Rattle.std.specs.Prelude.{◌==◌, ◌&&◌, ◌||◌}
+use Rattle.std.proofs.Common.{◌≡◌, ℕ, ◌+◌, Bool, true, false, Option, Some, List, [], ◌∷◌, ◌++◌, length, codes, refl, sym, ap, ◌∙◌, arith}
+use Rattle.std.specs.Prelude.{◌==◌, ◌||◌}
 use Rattle.std.proofs.lemmas.List.{length-append, append-nil}
 use Rattle.std.proofs.lemmas.Bool.Decides.{nat_tests}
-use Rattle.formula.specs.Atoms.{is_digit, is_letter, is_name_byte, starts}
+use Rattle.formula.specs.Atoms.{is_digit, is_letter, starts}
 use Rattle.fort_syntax.specs.Spelled.{is_name}
 use Rattle.fort_syntax.specs.Misspelled.{begins}
-use Rattle.stmt_parse.specs.Tokens.{Reading, ◌>>=◌}
+use Rattle.stmt_parse.specs.Tokens.{◌>>=◌}
 use Rattle.stmt_parse.specs.Statements.{Reader}
-use Rattle.stmt_parse.proofs.Readings.{both_true}
-
--- nothing follows, or `)`, `,`, `/` or `=`
-abbrev pub part_ends : List ℕ → Bool
-part_ends [] = true
-part_ends (b ∷ r) = (b == 41) || (b == 44) || (b == 47) || (b == 61)
+use Rattle.stmt_parse.proofs.Climbing.{first_false}
+use Rattle.stmt_parse.proofs.ExpressionsAnswers.{both_true}
+use Rattle.stmt_parse.proofs.ExpressionsEnds.{is_apart}
 
 -- nothing follows, or `)` or `/`
 abbrev pub list_ends : List ℕ → Bool
 list_ends [] = true
 list_ends (b ∷ r) = (b == 41) || (b == 47)
 
-pub list_part : (r : List ℕ) → list_ends r ≡ true → part_ends r ≡ true
-list_part [] h = refl
-list_part (b ∷ r) h = grind (arith, nat_tests)
-
-pub no_name_byte : (r : List ℕ) → part_ends r ≡ true → starts is_name_byte r ≡ false
-no_name_byte [] h = refl
-no_name_byte (b ∷ r) h = grind (arith, nat_tests)
-
-pub no_digit : (r : List ℕ) → part_ends r ≡ true → starts is_digit r ≡ false
-no_digit [] h = refl
-no_digit (b ∷ r) h = grind (arith, nat_tests)
-
-first_false : (x y : Bool) → x ≡ false → (x && y) ≡ false
-first_false false y h = refl
-first_false true y h = absurd cc
-
-pub and_true : (x y : Bool) → x ≡ true → y ≡ true → (x && y) ≡ true
-and_true true y h k = k
-and_true false y h k = absurd cc
+pub list_apart : (r : List ℕ) → list_ends r ≡ true → is_apart r ≡ true
+list_apart [] h = refl
+list_apart (b ∷ r) h = grind (arith, nat_tests)
 
 -- a word with another first byte does not begin the text
 pub differs : (w : ℕ) (ws : List ℕ) (b : ℕ) (rest : List ℕ) → (w == b) ≡ false → begins (w ∷ ws) (b ∷ rest) ≡ false
 differs w ws b rest h = first_false (w == b) _ h
-
-not_open : (b : ℕ) → ((b == 41) || (b == 44) || (b == 47) || (b == 61)) ≡ true → (40 == b) ≡ false
-not_open b h = grind (arith, nat_tests)
-
-pub no_bracket : (r : List ℕ) → part_ends r ≡ true → begins (codes "(") r ≡ false
-no_bracket [] h = refl
-no_bracket (b ∷ r) h = differs 40 [] b r (not_open b h)
 
 not_comma : (b : ℕ) → ((b == 41) || (b == 47)) ≡ true → (44 == b) ≡ false
 not_comma b h = grind (arith, nat_tests)

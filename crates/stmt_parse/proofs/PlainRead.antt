@@ -15,28 +15,29 @@ use Rattle.stmt_parse.specs.Tokens.{◌>>=◌, after, name_at, label_at}
 use Rattle.stmt_parse.specs.Parsing.{bracketed_arguments, parse}
 use Rattle.stmt_parse.specs.Statements.{whole, rest_of_brackets, left_at, assign, go_to, computed, actuals_at, call, jump, plain}
 use Rattle.stmt_parse.proofs.TokensRead.{when_true, when_false, label_read}
-use Rattle.stmt_parse.proofs.Readings.{both_true}
-use Rattle.stmt_parse.proofs.PartEnds.{and_true, differs, step_to, lengths, at_end}
+use Rattle.stmt_parse.proofs.ExpressionsAnswers.{both_true}
+use Rattle.stmt_parse.proofs.PartsParsed.{and_true}
+use Rattle.stmt_parse.proofs.PartEnds.{differs, step_to, lengths, at_end}
 use Rattle.stmt_parse.proofs.ListsRead.{name_begins, label_complete, rest_complete}
-use Rattle.stmt_parse.proofs.ExpressionsRead.{ExpressionsRead}
+use Rattle.stmt_parse.proofs.ExpressionsAgree.{spelled_parsed, spelled_named, spelled_arguments}
 use Rattle.stmt_parse.proofs.Unassigned.{long_unassigned, word_unassigned, call_unassigned, labels_arguments}
 
 -- a text of a word and what stands behind it
 pub behind : {Q : Texts} (w t : List ℕ) → (just w ⨾ Q) t → (u : List ℕ) × (t ≡ w ++ u) × Q u
 behind w t h = (h.1, h.2 ∙ ap (λ c. c ++ h.1) h.3, h.4)
 
-pub assign_read : ExpressionsRead → (n : ℕ) (left right : Expr) (t : List ℕ) → (left_side left ⨾ just (codes "=") ⨾ expression right) t → length t + 2 ≤ n
+pub assign_read : (n : ℕ) (left right : Expr) (t : List ℕ) → (left_side left ⨾ just (codes "=") ⨾ expression right) t → length t + 2 ≤ n
     → assign n t ≡ Some (Assign left right)
 unfolding assign left_at
-assign_read x n left right t h few =
+assign_read n left right t h few =
     let b = behind (codes "=") h.1 h.4 in
     let size = lengths t h.0 h.1 h.2 in
     let rest = lengths h.1 (codes "=") b.0 b.1 in
     ap (assign n) (h.2 ∙ ap (λ y. h.0 ++ y) b.1)
     ∙ step_to (left_at n (h.0 ++ (codes "=" ++ b.0))) (left, codes "=" ++ b.0) (λ left. after (codes "=") left.1 >>= λ rest. parse n 0 rest >>= λ right. whole right >>= λ w. Some (Assign left.0 w)) _
-        (x.spelled_named left h.0 (codes "=" ++ b.0) n n h.3 (omega arith) (omega arith) refl)
+        (spelled_named left h.0 (codes "=" ++ b.0) n n h.3 (omega arith) (omega arith) refl)
         (step_to (parse n 0 b.0) (right, []) (λ right. whole right >>= λ w. Some (Assign left w)) _
-            (at_end (parse n 0) b.0 right (x.spelled_parsed right b.0 [] n b.2 (omega arith) refl)) refl)
+            (at_end (parse n 0) b.0 right (spelled_parsed right b.0 [] n 0 b.2 (omega arith) (omega arith) refl)) refl)
 
 -- a statement that is no assignment and no IF is read
 pub record IsPlain (n : ℕ) (t : List ℕ) (s : Stmt) : Type 0 where
@@ -96,18 +97,18 @@ computed_read n ls x v y h k few =
         (rest_complete label_at label n (label_complete n) ls v (codes "," ++ y) h few)
         (step_to (name_at y) (x, []) (λ x. whole x >>= λ w. Some (Computed ls w)) _ (at_end name_at y x (name_begins x y [] k refl)) refl)
 
-computed_word : ExpressionsRead → (n : ℕ) (ls : List ℕ) (x : Name) (v y : List ℕ) → (listed label ls ⨾ just (codes ")")) v → name x y → length v + 1 ≤ n
+computed_word : (n : ℕ) (ls : List ℕ) (x : Name) (v y : List ℕ) → (listed label ls ⨾ just (codes ")")) v → name x y → length v + 1 ≤ n
     → IsPlain n (codes "GOTO" ++ (codes "(" ++ (v ++ (codes "," ++ y)))) (Computed ls x)
 unfolding plain jump
-computed_word z n ls x v y h k few = record {
-  unassigned = call_unassigned z n (codes "GOTO") (map Const ls) v (codes "," ++ y) refl (h.0, h.1, h.2, labels_arguments ls h.0 h.3, h.4) few refl;
+computed_word n ls x v y h k few = record {
+  unassigned = call_unassigned n (codes "GOTO") (map Const ls) v (codes "," ++ y) refl (h.0, h.1, h.2, labels_arguments ls h.0 h.3, h.4) few refl;
   read = computed_read n ls x v y h k (omega arith);
   no_if = refl;
 }
 
-pub computed_plain : ExpressionsRead → (n : ℕ) (ls : List ℕ) (x : Name) (t : List ℕ) → (just (codes "GOTO") ⨾ bracketed (listed label ls) ⨾ just (codes ",") ⨾ name x) t
+pub computed_plain : (n : ℕ) (ls : List ℕ) (x : Name) (t : List ℕ) → (just (codes "GOTO") ⨾ bracketed (listed label ls) ⨾ just (codes ",") ⨾ name x) t
     → length t + 2 ≤ n → IsPlain n t (Computed ls x)
-computed_plain z n ls x t h few =
+computed_plain n ls x t h few =
     let a = behind (codes "GOTO") t h in
     let p = a.2 in
     let b = behind (codes "(") p.0 p.3 in
@@ -116,7 +117,7 @@ computed_plain z n ls x t h few =
     let size = lengths t (codes "GOTO") a.0 a.1 in
     let second = lengths a.0 (codes "(") (b.0 ++ (codes "," ++ c.0)) text in
     let third = lengths (b.0 ++ (codes "," ++ c.0)) b.0 (codes "," ++ c.0) refl in
-    subst (λ y. IsPlain n y (Computed ls x)) (sym (a.1 ∙ ap (λ y. codes "GOTO" ++ y) text)) (computed_word z n ls x b.0 c.0 b.2 c.2 (omega arith))
+    subst (λ y. IsPlain n y (Computed ls x)) (sym (a.1 ∙ ap (λ y. codes "GOTO" ++ y) text)) (computed_word n ls x b.0 c.0 b.2 c.2 (omega arith))
 
 -- ---- CALL
 
@@ -130,34 +131,34 @@ call_read n x es a v h apart k =
 called_bytes : (x a : List ℕ) → name x a → list_all is_name_byte (codes "CALL" ++ a) ≡ true
 called_bytes x a h = all_joined is_name_byte (codes "CALL") a refl (name_bytes x a h)
 
-call_word : ExpressionsRead → (n : ℕ) (x : Name) (es : List Expr) (a v : List ℕ) → name x a → actuals es v → length v + 1 ≤ n → IsPlain n (codes "CALL" ++ (a ++ v)) (Call x es)
+call_word : (n : ℕ) (x : Name) (es : List Expr) (a v : List ℕ) → name x a → actuals es v → length v + 1 ≤ n → IsPlain n (codes "CALL" ++ (a ++ v)) (Call x es)
 unfolding plain actuals_at
-call_word z n x [] a v h k few =
+call_word n x [] a v h k few =
     subst (λ y. IsPlain n (codes "CALL" ++ (a ++ y)) (Call x [])) (sym k) record {
       unassigned = word_unassigned n (codes "CALL" ++ a) [] (called_bytes x a h) refl refl refl;
       read = call_read n x [] a [] h refl refl;
       no_if = refl;
     }
-call_word z n x (e ∷ es) a v h k few =
+call_word n x (e ∷ es) a v h k few =
     let b = behind (codes "(") v k in
     let size = lengths v (codes "(") b.0 b.1 in
     subst (λ y. IsPlain n (codes "CALL" ++ (a ++ y)) (Call x (e ∷ es))) (sym b.1) record {
       unassigned =
           ap (λ y. assign n (codes "CALL" ++ (a ++ (codes "(" ++ y)))) (sym (append-nil b.0))
-          ∙ call_unassigned z n (codes "CALL" ++ a) (e ∷ es) b.0 [] (called_bytes x a h) b.2 (omega arith) refl;
+          ∙ call_unassigned n (codes "CALL" ++ a) (e ∷ es) b.0 [] (called_bytes x a h) b.2 (omega arith) refl;
       read =
           call_read n x (e ∷ es) a (codes "(" ++ b.0) h refl
-              (at_end (bracketed_arguments (parse n) n) b.0 (e ∷ es) (z.spelled_arguments (e ∷ es) b.0 [] n n b.2 (omega arith) (omega arith)));
+              (at_end (bracketed_arguments (parse n) n) b.0 (e ∷ es) (spelled_arguments (e ∷ es) b.0 [] n n b.2 (omega arith) (omega arith)));
       no_if = refl;
     }
 
-pub call_plain : ExpressionsRead → (n : ℕ) (x : Name) (es : List Expr) (t : List ℕ) → (just (codes "CALL") ⨾ name x ⨾ actuals es) t → length t + 2 ≤ n → IsPlain n t (Call x es)
-call_plain z n x es t h few =
+pub call_plain : (n : ℕ) (x : Name) (es : List Expr) (t : List ℕ) → (just (codes "CALL") ⨾ name x ⨾ actuals es) t → length t + 2 ≤ n → IsPlain n t (Call x es)
+call_plain n x es t h few =
     let a = behind (codes "CALL") t h in
     let p = a.2 in
     let size = lengths t (codes "CALL") a.0 a.1 in
     let second = lengths a.0 p.0 p.1 p.2 in
-    subst (λ y. IsPlain n y (Call x es)) (sym (a.1 ∙ ap (λ y. codes "CALL" ++ y) p.2)) (call_word z n x es p.0 p.1 p.3 p.4 (omega arith))
+    subst (λ y. IsPlain n y (Call x es)) (sym (a.1 ∙ ap (λ y. codes "CALL" ++ y) p.2)) (call_word n x es p.0 p.1 p.3 p.4 (omega arith))
 
 -- ---- words
 

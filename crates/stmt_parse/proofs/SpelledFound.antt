@@ -24,12 +24,12 @@ use Rattle.fort_syntax.specs.Misspelled.{begins}
 use Rattle.stmt_parse.specs.Tokens.{◌>>=◌, name_at}
 use Rattle.stmt_parse.specs.Statements.{or_other, assign, function, declare, plain, head, typed_head, logical_head, declaration, untyped_declaration, other, condition_at, behind_condition, is_word, if_of, else_if, block_part, by_word, found, statement_of}
 use Rattle.stmt_parse.proofs.TokensRead.{when_true, when_false, name_read}
-use Rattle.stmt_parse.proofs.Readings.{both_true, begins_so}
+use Rattle.stmt_parse.proofs.ExpressionsAnswers.{both_true, begun}
 use Rattle.stmt_parse.proofs.ExecutableSpelled.{logical_tree}
-use Rattle.stmt_parse.proofs.PartEnds.{and_true, step_to, lengths}
+use Rattle.stmt_parse.proofs.PartsParsed.{and_true}
+use Rattle.stmt_parse.proofs.PartEnds.{step_to, lengths}
 use Rattle.stmt_parse.proofs.ItemsRead.{Named, items_begin}
 use Rattle.stmt_parse.proofs.DeclarationsRead.{subroutine_read, function_read, declare_read, dimension_read, common_read}
-use Rattle.stmt_parse.proofs.ExpressionsRead.{ExpressionsRead}
 use Rattle.stmt_parse.proofs.Unassigned.{name_missing, long_unassigned, word_unassigned}
 use Rattle.stmt_parse.proofs.PlainRead.{IsPlain, behind, all_joined, assign_read, go_to_plain, computed_plain, call_plain, continue_plain, return_plain}
 use Rattle.stmt_parse.proofs.ConditionsRead.{Condition, condition_cut, condition_read, if_unassigned, labels_behind, carried_behind}
@@ -90,7 +90,7 @@ function_apart : (b : Bool) (t : List ℕ) → begins (codes "FUNCTION") t ≡ b
 function_apart false t h p = refl
 function_apart true t h p = absurd (
     let read : name_at t ≡ Some (p.first, p.rest) = ap name_at p.same ∙ name_read p.first p.rest p.is p.apart in
-    let missing : name_at t ≡ None = ap name_at (begins_so (codes "FUNCTION") t h) ∙ name_missing (codes "FUNCTION") (drop 8 t) refl (omega arith) in
+    let missing : name_at t ≡ None = ap name_at (begun (codes "FUNCTION") t h) ∙ name_missing (codes "FUNCTION") (drop 8 t) refl (omega arith) in
     let bad : Some (p.first, p.rest) ≡ None = sym read ∙ missing in
     cc)
 
@@ -171,45 +171,45 @@ common_found d n gs t h few =
 
 -- ---- IF
 
-if_found : ExpressionsRead → {Q : List ℕ → Type 0} (d : Dialect) (n : ℕ) (e : Expr) (t : List ℕ) (c : Condition (codes "IF") t e Q) → length t + 2 ≤ n → begins (codes "=") c.rest ≡ false
+if_found : {Q : List ℕ → Type 0} (d : Dialect) (n : ℕ) (e : Expr) (t : List ℕ) (c : Condition (codes "IF") t e Q) → length t + 2 ≤ n → begins (codes "=") c.rest ≡ false
     → found d n t ≡ behind_condition d n e c.rest
 unfolding by_word plain head typed_head logical_head declaration untyped_declaration other if_of
-if_found x d n e t c few unequal =
+if_found d n e t c few unequal =
     let size = c.size in
     ap (found d n) c.same
-    ∙ by_word_found d n (codes "IF" ++ (codes "(" ++ (c.inner ++ c.rest))) _ (if_unassigned x n (codes "IF") e c.inner c.rest refl c.is (omega arith) unequal)
-        (step_to (condition_at n (c.inner ++ c.rest)) (e, c.rest) (λ e. behind_condition d n e.0 e.1) _ (condition_read x n e c.inner c.rest c.is (omega arith)) refl)
+    ∙ by_word_found d n (codes "IF" ++ (codes "(" ++ (c.inner ++ c.rest))) _ (if_unassigned n (codes "IF") e c.inner c.rest refl c.is (omega arith) unequal)
+        (step_to (condition_at n (c.inner ++ c.rest)) (e, c.rest) (λ e. behind_condition d n e.0 e.1) _ (condition_read n e c.inner c.rest c.is (omega arith)) refl)
 
-arith_found : ExpressionsRead → (d : Dialect) (n : ℕ) (e : Expr) (l m k : ℕ) (t : List ℕ) → form d (ArithIf e l m k) t → length t + 2 ≤ n → found d n t ≡ Some (ArithIf e l m k)
-arith_found x d n e l m k t h few =
+arith_found : (d : Dialect) (n : ℕ) (e : Expr) (l m k : ℕ) (t : List ℕ) → form d (ArithIf e l m k) t → length t + 2 ≤ n → found d n t ≡ Some (ArithIf e l m k)
+arith_found d n e l m k t h few =
     let c = condition_cut (codes "IF") t e h in
     let p = labels_behind d n e l m k c.rest c.next in
-    if_found x d n e t c few p.0 ∙ p.1
+    if_found d n e t c few p.0 ∙ p.1
 
-logical_found : ExpressionsRead → (d : Dialect) (n : ℕ) (e : Expr) (s : Stmt) (t : List ℕ) → form d (LogicalIf' e _ (the_carried s)) t → length t + 2 ≤ n
+logical_found : (d : Dialect) (n : ℕ) (e : Expr) (s : Stmt) (t : List ℕ) → form d (LogicalIf' e _ (the_carried s)) t → length t + 2 ≤ n
     → found d n t ≡ Some (LogicalIf' e _ (the_carried s))
-logical_found x d n e s t h few =
+logical_found d n e s t h few =
     let c = condition_cut (codes "IF") t e h in
     let size = c.size in
-    let p = carried_behind x d n e s c.rest c.next.0 c.next.1 (omega arith) in
-    if_found x d n e t c few p.0 ∙ p.1 ∙ ap Some (logical_tree e s)
+    let p = carried_behind d n e s c.rest c.next.0 c.next.1 (omega arith) in
+    if_found d n e t c few p.0 ∙ p.1 ∙ ap Some (logical_tree e s)
 
 then_behind : (n : ℕ) (e : Expr) → behind_condition SeventySeven n e (codes "THEN") ≡ Some (BlockIf e)
 unfolding behind_condition
 then_behind n e = refl
 
-block_if_found : ExpressionsRead → (d : Dialect) (n : ℕ) (e : Expr) (t : List ℕ) → form d (BlockIf e) t → length t + 2 ≤ n → found d n t ≡ Some (BlockIf e)
-block_if_found x CommonForms n e t h few = absurd h
-block_if_found x SeventySeven n e t h few =
+block_if_found : (d : Dialect) (n : ℕ) (e : Expr) (t : List ℕ) → form d (BlockIf e) t → length t + 2 ≤ n → found d n t ≡ Some (BlockIf e)
+block_if_found CommonForms n e t h few = absurd h
+block_if_found SeventySeven n e t h few =
     let c = condition_cut (codes "IF") t e h in
-    if_found x SeventySeven n e t c few (ap (begins (codes "=")) c.next) ∙ ap (behind_condition SeventySeven n e) c.next ∙ then_behind n e
+    if_found SeventySeven n e t c few (ap (begins (codes "=")) c.next) ∙ ap (behind_condition SeventySeven n e) c.next ∙ then_behind n e
 
 -- ---- what belongs to a block IF
 
-else_if_read : ExpressionsRead → (n : ℕ) (e : Expr) (v r : List ℕ) → (expression e ⨾ just (codes ")")) v → r ≡ codes "THEN" → length v + 1 ≤ n → else_if n (v ++ r) ≡ Some (ElseIf e)
+else_if_read : (n : ℕ) (e : Expr) (v r : List ℕ) → (expression e ⨾ just (codes ")")) v → r ≡ codes "THEN" → length v + 1 ≤ n → else_if n (v ++ r) ≡ Some (ElseIf e)
 unfolding else_if
-else_if_read x n e v r h k few =
-    step_to (condition_at n (v ++ r)) (e, r) (λ e. if is_word (codes "THEN") e.1 then Some (ElseIf e.0) else None) _ (condition_read x n e v r h few)
+else_if_read n e v r h k few =
+    step_to (condition_at n (v ++ r)) (e, r) (λ e. if is_word (codes "THEN") e.1 then Some (ElseIf e.0) else None) _ (condition_read n e v r h few)
         (ap (λ y. if is_word (codes "THEN") y then Some (ElseIf e) else None) k)
 
 longer : (y : List ℕ) → (length (codes "ELSEIF(" ++ y) == 4) ≡ false
@@ -219,16 +219,16 @@ else_if_part : (n : ℕ) (y : List ℕ) → block_part n (codes "ELSEIF(" ++ y) 
 unfolding block_part
 else_if_part n y = when_false (length (codes "ELSEIF(" ++ y) == 4) (Some Else) (else_if n y) (longer y)
 
-else_if_found : ExpressionsRead → (d : Dialect) (n : ℕ) (e : Expr) (t : List ℕ) → form d (ElseIf e) t → length t + 2 ≤ n → found d n t ≡ Some (ElseIf e)
+else_if_found : (d : Dialect) (n : ℕ) (e : Expr) (t : List ℕ) → form d (ElseIf e) t → length t + 2 ≤ n → found d n t ≡ Some (ElseIf e)
 unfolding by_word plain head typed_head logical_head declaration untyped_declaration other
-else_if_found x CommonForms n e t h few = absurd h
-else_if_found x SeventySeven n e t h few =
+else_if_found CommonForms n e t h few = absurd h
+else_if_found SeventySeven n e t h few =
     let c = condition_cut (codes "ELSEIF") t e h in
     let size = c.size in
     ap (found SeventySeven n) c.same
     ∙ by_word_found SeventySeven n (codes "ELSEIF" ++ (codes "(" ++ (c.inner ++ c.rest))) _
-        (if_unassigned x n (codes "ELSEIF") e c.inner c.rest refl c.is (omega arith) (ap (begins (codes "=")) c.next))
-        (else_if_part n (c.inner ++ c.rest) ∙ else_if_read x n e c.inner c.rest c.is c.next (omega arith))
+        (if_unassigned n (codes "ELSEIF") e c.inner c.rest refl c.is (omega arith) (ap (begins (codes "=")) c.next))
+        (else_if_part n (c.inner ++ c.rest) ∙ else_if_read n e c.inner c.rest c.is c.next (omega arith))
 
 else_found : (d : Dialect) (n : ℕ) (t : List ℕ) → form d Else t → found d n t ≡ Some Else
 unfolding by_word plain head typed_head logical_head declaration untyped_declaration other block_part
@@ -248,40 +248,40 @@ end_found : (d : Dialect) (n : ℕ) (t : List ℕ) → form d End t → found d 
 unfolding by_word plain head typed_head logical_head declaration untyped_declaration other
 end_found d n t h = ap (found d n) h ∙ by_word_found d n (codes "END") _ (word_unassigned n (codes "END") [] refl refl refl refl) refl
 
-do_found : ExpressionsRead → (d : Dialect) (n l : ℕ) (x : Name) (a b : Param) (by : Option Param) (t : List ℕ) → form d (Do l x a b by) t → length t + 2 ≤ n → found d n t ≡ Some (Do l x a b by)
+do_found : (d : Dialect) (n l : ℕ) (x : Name) (a b : Param) (by : Option Param) (t : List ℕ) → form d (Do l x a b by) t → length t + 2 ≤ n → found d n t ≡ Some (Do l x a b by)
 unfolding by_word plain head typed_head logical_head declaration untyped_declaration other
-do_found z d n l x a b by t h few =
+do_found d n l x a b by t h few =
     let p = behind (codes "DO") t h in
     let size = shorter (codes "DO") t p.0 p.1 in
     ap (found d n) p.1
-    ∙ by_word_found d n (codes "DO" ++ p.0) _ (do_unassigned z n l x a b by p.0 p.2 (omega arith)) (do_read l x a b by p.0 p.2)
+    ∙ by_word_found d n (codes "DO" ++ p.0) _ (do_unassigned n l x a b by p.0 p.2 (omega arith)) (do_read l x a b by p.0 p.2)
 
 -- ---- all forms
 
-form_found : ExpressionsRead → (d : Dialect) (s : Stmt) (n : ℕ) (t : List ℕ) → form d s t → length t + 2 ≤ n → found d n t ≡ Some s
-form_found x d (Subroutine y ds) n t h few = subroutine_found d n y ds t h few
-form_found x d (Function o y ds) n t h few = function_found d n o y ds t h few
-form_found x d (Declare o is) n t h few = declare_found d n o is t h few
-form_found x d (Dimension is) n t h few = dimension_found d n is t h few
-form_found x d (Common gs) n t h few = common_found d n gs t h few
-form_found x d (Assign left right) n t h few = assign_found d n t _ (assign_read x n left right t h few)
-form_found x d (GoTo l) n t h few = plain_found d n t _ (go_to_plain n l t h)
-form_found x d (Computed ls y) n t h few = plain_found d n t _ (computed_plain x n ls y t h few)
-form_found x d (ArithIf e l m k) n t h few = arith_found x d n e l m k t h few
-form_found x d (LogicalIf' e _ (the_carried s)) n t h few = logical_found x d n e s t h few
-form_found x d (Do l y a b by) n t h few = do_found x d n l y a b by t h few
-form_found x d Continue n t h few = plain_found d n t _ (continue_plain n t h)
-form_found x d (Call y es) n t h few = plain_found d n t _ (call_plain x n y es t h few)
-form_found x d Return n t h few = plain_found d n t _ (return_plain n t h)
-form_found x d End n t h few = end_found d n t h
-form_found x d (BlockIf e) n t h few = block_if_found x d n e t h few
-form_found x d (ElseIf e) n t h few = else_if_found x d n e t h few
-form_found x d Else n t h few = else_found d n t h
-form_found x d EndIf n t h few = end_if_found d n t h
+form_found : (d : Dialect) (s : Stmt) (n : ℕ) (t : List ℕ) → form d s t → length t + 2 ≤ n → found d n t ≡ Some s
+form_found d (Subroutine y ds) n t h few = subroutine_found d n y ds t h few
+form_found d (Function o y ds) n t h few = function_found d n o y ds t h few
+form_found d (Declare o is) n t h few = declare_found d n o is t h few
+form_found d (Dimension is) n t h few = dimension_found d n is t h few
+form_found d (Common gs) n t h few = common_found d n gs t h few
+form_found d (Assign left right) n t h few = assign_found d n t _ (assign_read n left right t h few)
+form_found d (GoTo l) n t h few = plain_found d n t _ (go_to_plain n l t h)
+form_found d (Computed ls y) n t h few = plain_found d n t _ (computed_plain n ls y t h few)
+form_found d (ArithIf e l m k) n t h few = arith_found d n e l m k t h few
+form_found d (LogicalIf' e _ (the_carried s)) n t h few = logical_found d n e s t h few
+form_found d (Do l y a b by) n t h few = do_found d n l y a b by t h few
+form_found d Continue n t h few = plain_found d n t _ (continue_plain n t h)
+form_found d (Call y es) n t h few = plain_found d n t _ (call_plain n y es t h few)
+form_found d Return n t h few = plain_found d n t _ (return_plain n t h)
+form_found d End n t h few = end_found d n t h
+form_found d (BlockIf e) n t h few = block_if_found d n e t h few
+form_found d (ElseIf e) n t h few = else_if_found d n e t h few
+form_found d Else n t h few = else_found d n t h
+form_found d EndIf n t h few = end_if_found d n t h
 
 -- a statement that a text spells is the one that is found
-pub spelled_is_found : ExpressionsRead → (d : Dialect) (t : List ℕ) (s : Stmt) → Spells d t s → statement_of d t ≡ Some s
+pub spelled_is_found : (d : Dialect) (t : List ℕ) (s : Stmt) → Spells d t s → statement_of d t ≡ Some s
 unfolding statement_of
-spelled_is_found x d t s h =
+spelled_is_found d t s h =
     let most : length t + 2 ≤ length t + 2 = omega arith in
-    when_false (is_deep t) None (found d (length t + 2) t) h.1 ∙ form_found x d s (length t + 2) t h.0 most
+    when_false (is_deep t) None (found d (length t + 2) t) h.1 ∙ form_found d s (length t + 2) t h.0 most

@@ -17,9 +17,9 @@ use Rattle.stmt_parse.specs.Parsing.{bracketed_arguments, named, parse}
 use Rattle.stmt_parse.specs.Statements.{whole, left_at, assign}
 use Rattle.stmt_parse.proofs.Labels.{few_not_long}
 use Rattle.stmt_parse.proofs.TokensRead.{when_true, when_false, name_read}
-use Rattle.stmt_parse.proofs.Readings.{both_true}
+use Rattle.stmt_parse.proofs.ExpressionsAnswers.{both_true}
 use Rattle.stmt_parse.proofs.PartEnds.{step_to}
-use Rattle.stmt_parse.proofs.ExpressionsRead.{is_closed, ExpressionsRead}
+use Rattle.stmt_parse.proofs.ExpressionsAgree.{spelled_parsed, spelled_arguments}
 
 -- ---- where no name is read
 
@@ -101,21 +101,21 @@ word_unassigned n w r h apart closed unequal =
     (λ _. ap (λ o. o >>= right_side n) (when_false (begins (codes "(") r) _ (Some (Var w, r)) closed) ∙ no_equals n (Var w) r unequal)
 
 -- letters and digits with arguments, and no `=` behind them
-pub call_unassigned : ExpressionsRead → (n : ℕ) (w : List ℕ) (es : List Expr) (u r : List ℕ) → list_all is_name_byte w ≡ true → (arguments (row_of es) ⨾ just (codes ")")) u
+pub call_unassigned : (n : ℕ) (w : List ℕ) (es : List Expr) (u r : List ℕ) → list_all is_name_byte w ≡ true → (arguments (row_of es) ⨾ just (codes ")")) u
     → length u + 1 ≤ n → begins (codes "=") r ≡ false → assign n (w ++ (codes "(" ++ (u ++ r))) ≡ None
-call_unassigned x n w es u r h args few unequal =
+call_unassigned n w es u r h args few unequal =
     let size : length u ≤ n = omega arith in
     by_name (is_name w) n w (codes "(" ++ (u ++ r)) refl h refl
     (λ _.
-        ap (λ o. (o >>= λ es. Some (Apply w es.0, es.1)) >>= right_side n) (x.spelled_arguments es u r n n args few size)
+        ap (λ o. (o >>= λ es. Some (Apply w es.0, es.1)) >>= right_side n) (spelled_arguments es u r n n args few size)
         ∙ no_equals n (Apply w es) r unequal)
 
 -- letters and digits, and behind `=` an expression that is not all of the rest
-pub counted_unassigned : ExpressionsRead → (n : ℕ) (w : List ℕ) (e : Expr) (u r : List ℕ) → list_all is_name_byte w ≡ true → expression e u → length u + 2 ≤ n
+pub counted_unassigned : (n : ℕ) (w : List ℕ) (e : Expr) (u r : List ℕ) → list_all is_name_byte w ≡ true → expression e u → length u + 2 ≤ n
     → assign n (w ++ (codes "=" ++ (u ++ (codes "," ++ r)))) ≡ None
-counted_unassigned x n w e u r h text few =
+counted_unassigned n w e u r h text few =
     by_name (is_name w) n w (codes "=" ++ (u ++ (codes "," ++ r))) refl h refl
-    (λ _. ap (λ o. o >>= λ right. whole right >>= λ y. Some (Assign (Var w) y)) (x.spelled_parsed e u (codes "," ++ r) n text few refl))
+    (λ _. ap (λ o. o >>= λ right. whole right >>= λ y. Some (Assign (Var w) y)) (spelled_parsed e u (codes "," ++ r) n 0 text (omega arith) few refl))
 
 -- ---- labels as arguments
 
