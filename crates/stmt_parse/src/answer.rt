@@ -67,7 +67,7 @@ fn statement_of(alloc: Global, dialect: Dialect, text: &[u8]) -> Result<Stmt, La
     found(alloc, dialect, text.len() + 2, text)
 }
 
-#[tactic(auto, using(crate::proofs::StatementsAgree::found_is_spelled, crate::proofs::StatementsAgree::none_is_spelled))]
+#[tactic(auto, using(crate::proofs::StatementsAgree::none_is_spelled))]
 /// The statement that a text without blanks and in upper case spells, or the rule that the text
 /// breaks.
 pub fn statement(alloc: Global, dialect: Dialect, text: &[u8]) -> Result<Stmt, StmtRefusal>
