@@ -1,17 +1,16 @@
 -- What a logical IF carries, and what stands behind a condition, is read where it is spelled.
-use Rattle.std.proofs.Common.{◌≡◌, ℕ, ◌+◌, ◌≤◌, ◌<◌, Bool, true, false, Option, Some, None, List, [], ◌∷◌, ◌++◌, length, drop, codes, refl, sym, ap, ◌∙◌, subst, append_assoc, arith}
+use Rattle.std.proofs.Common.{◌≡◌, ℕ, ◌+◌, ◌≤◌, Bool, true, false, Some, None, List, [], ◌∷◌, ◌++◌, length, drop, codes, refl, sym, ap, ◌∙◌, append_assoc, arith}
 use Rattle.std.specs.Prelude.{◌==◌, ◌&&◌, if◌then◌else◌}
 use Rattle.std.specs.List.{list_all}
 use Rattle.std.proofs.lemmas.List.{append-nil}
 use Rattle.std.proofs.lemmas.Bool.Decides.{nat_tests}
 use Rattle.formula.specs.Atoms.{is_digit, is_letter, is_name_byte, starts}
-use Rattle.fort_syntax.specs.TreePatterns.{carried as the_carried}
 use Rattle.fort_syntax.specs.declared.dialect.Dialect.{Dialect}
 use Rattle.fort_syntax.specs.declared.expr.Expr.{Expr}
-use Rattle.fort_syntax.specs.declared.expr.Expr.TheVariants.{Const, Truth, Var, Apply', Paren', Pos', Neg', Power', Bin', Rel', Not', And', Or'}
+use Rattle.fort_syntax.specs.declared.expr.Expr.TheVariants.{Var, Apply'}
 use Rattle.fort_syntax.specs.declared.stmt.Stmt.{Stmt, LogicalIf}
 use Rattle.fort_syntax.specs.declared.stmt.Stmt.TheVariants.{Assign, GoTo, Computed, ArithIf, Continue, Call, Return}
-use Rattle.fort_syntax.specs.Spelled.{just, ◌⨾◌, is_name, name, label, expression, arguments, row_of}
+use Rattle.fort_syntax.specs.Spelled.{just, ◌⨾◌, is_name, label, expression, arguments, row_of}
 use Rattle.fort_syntax.specs.Grammar.{left_side, condition, is_carried, form}
 use Rattle.fort_syntax.specs.Misspelled.{begins}
 use Rattle.stmt_parse.specs.Tokens.{◌>>=◌, after, name_at, label_at}
@@ -35,7 +34,7 @@ condition_read n e v r h few =
     let one : length (codes ")") ≡ 1 = refl in
     ap (condition_at n) (ap (λ y. y ++ r) (h.2 ∙ ap (λ c. h.0 ++ c) h.4) ∙ append_assoc h.0 (codes ")") r)
     ∙ step_to (parse n 0 (h.0 ++ (codes ")" ++ r))) (e, codes ")" ++ r) (λ e. after (codes ")") e.1 >>= λ rest. Some (e.0, rest)) _
-        (spelled_parsed e h.0 (codes ")" ++ r) n 0 h.3 (omega arith) (omega arith) refl) refl
+    (spelled_parsed e h.0 (codes ")" ++ r) n 0 h.3 (omega arith) (omega arith) refl) refl
 
 -- a word, a condition and what is behind it
 pub record Condition (w t : List ℕ) (e : Expr) (Q : List ℕ → Type 0) : Type 0 where
@@ -77,12 +76,12 @@ labels_read e l m k r h =
     let c = behind (codes ",") p.1 p.4 in
     ap (arith_if e) (h.2 ∙ ap (λ y. h.0 ++ y) (b.1 ∙ ap (λ y. codes "," ++ y) (p.2 ∙ ap (λ y. p.0 ++ y) c.1)))
     ∙ step_to (label_at (h.0 ++ (codes "," ++ (p.0 ++ (codes "," ++ c.0))))) (l, codes "," ++ (p.0 ++ (codes "," ++ c.0)))
-        (λ l. after (codes ",") l.1 >>= λ r1. label_at r1 >>= λ m. after (codes ",") m.1 >>= λ r2. label_at r2 >>= λ k. whole k >>= λ w. Some (ArithIf e l.0 m.0 w)) _
-        (label_read l h.0 (codes "," ++ (p.0 ++ (codes "," ++ c.0))) h.3 refl)
-        (step_to (label_at (p.0 ++ (codes "," ++ c.0))) (m, codes "," ++ c.0)
-            (λ m. after (codes ",") m.1 >>= λ r2. label_at r2 >>= λ k. whole k >>= λ w. Some (ArithIf e l m.0 w)) _
-            (label_read m p.0 (codes "," ++ c.0) p.3 refl)
-            (step_to (label_at c.0) (k, []) (λ k. whole k >>= λ w. Some (ArithIf e l m w)) _ (at_end label_at c.0 k (label_read k c.0 [] c.2 refl)) refl))
+    (λ l. after (codes ",") l.1 >>= λ r1. label_at r1 >>= λ m. after (codes ",") m.1 >>= λ r2. label_at r2 >>= λ k. whole k >>= λ w. Some (ArithIf e l.0 m.0 w)) _
+    (label_read l h.0 (codes "," ++ (p.0 ++ (codes "," ++ c.0))) h.3 refl)
+    (step_to (label_at (p.0 ++ (codes "," ++ c.0))) (m, codes "," ++ c.0)
+    (λ m. after (codes ",") m.1 >>= λ r2. label_at r2 >>= λ k. whole k >>= λ w. Some (ArithIf e l m.0 w)) _
+    (label_read m p.0 (codes "," ++ c.0) p.3 refl)
+    (step_to (label_at c.0) (k, []) (λ k. whole k >>= λ w. Some (ArithIf e l m w)) _ (at_end label_at c.0 k (label_read k c.0 [] c.2 refl)) refl))
 
 -- the text of labels begins with a digit
 labels_digit : {Q : List ℕ → Type 0} (l : ℕ) (r : List ℕ) → (label l ⨾ Q) r → (starts is_digit r ≡ true) × (begins (codes "=") r ≡ false)
@@ -147,7 +146,7 @@ arith_carried n e l m k t h few =
     let size = c.size in
     ap (carried n) c.same
     ∙ ap (λ o. or_other o (carried_if n (c.inner ++ c.rest)))
-        (if_unassigned n (codes "IF") e c.inner c.rest refl c.is (omega arith) (labels_digit l c.rest c.next).1)
+    (if_unassigned n (codes "IF") e c.inner c.rest refl c.is (omega arith) (labels_digit l c.rest c.next).1)
     ∙ step_to (condition_at n (c.inner ++ c.rest)) (e, c.rest) (λ e. arith_if e.0 e.1) _ (condition_read n e c.inner c.rest c.is (omega arith)) (labels_read e l m k c.rest c.next)
 
 pub carried_read : (d : Dialect) (s : Stmt) (n : ℕ) (t : List ℕ) → is_carried s ≡ true → form d s t → length t + 2 ≤ n → carried n t ≡ Some s
@@ -187,8 +186,9 @@ pub carried_behind : (d : Dialect) (n : ℕ) (e : Expr) (s : Stmt) (r : List ℕ
 unfolding behind_condition
 carried_behind d n e s r c h few =
     let p = carried_apart d s r c h in
-    let k = carried_read d s n r c h few in
-    (p.1,
-     when_false (starts is_digit r) _ _ p.0
-     ∙ when_false (is_77 d && is_word (codes "THEN") r) _ _ (second_false (is_77 d) _ (not_then (is_word (codes "THEN") r) n r s refl k))
-     ∙ step_to (carried n r) s (λ s. Some (LogicalIf e s)) _ k refl)
+    let k = carried_read d s n r c h few in (
+      p.1,
+      when_false (starts is_digit r) _ _ p.0
+          ∙ when_false (is_77 d && is_word (codes "THEN") r) _ _ (second_false (is_77 d) _ (not_then (is_word (codes "THEN") r) n r s refl k))
+          ∙ step_to (carried n r) s (λ s. Some (LogicalIf e s)) _ k refl,
+    )

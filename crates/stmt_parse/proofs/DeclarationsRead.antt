@@ -1,6 +1,6 @@
 -- Heads and declarations that are spelled are read.
-use Rattle.std.proofs.Common.{◌≡◌, ℕ, ◌+◌, ◌≤◌, ◌<◌, Bool, true, false, Option, Some, None, List, [], ◌∷◌, ◌++◌, length, drop, codes, refl, sym, ap, ◌∙◌, arith}
-use Rattle.std.specs.Prelude.{◌&&◌, if◌then◌else◌, nat_lt}
+use Rattle.std.proofs.Common.{◌≡◌, ℕ, ◌<◌, true, Option, Some, None, List, [], ◌∷◌, ◌++◌, length, codes, refl, sym, ap, ◌∙◌, arith}
+use Rattle.std.specs.Prelude.{if◌then◌else◌, nat_lt}
 use Rattle.std.specs.List.{list_all}
 use Rattle.std.proofs.lemmas.List.{append-nil}
 use Rattle.std.proofs.lemmas.Bool.Decides.{nat_tests}
@@ -10,8 +10,8 @@ use Rattle.fort_syntax.specs.declared.dialect.Sort.{Sort}
 use Rattle.fort_syntax.specs.declared.stmt.Dim.{Dim}
 use Rattle.fort_syntax.specs.declared.stmt.Item.{Item}
 use Rattle.fort_syntax.specs.declared.stmt.Group.{Group}
-use Rattle.fort_syntax.specs.declared.stmt.Stmt.{Stmt, Subroutine, Function, Declare, Dimension, Common}
-use Rattle.fort_syntax.specs.Spelled.{just, ◌⨾◌, bracketed, name}
+use Rattle.fort_syntax.specs.declared.stmt.Stmt.{Subroutine, Function, Declare, Dimension, Common}
+use Rattle.fort_syntax.specs.Spelled.{◌⨾◌, bracketed, name}
 use Rattle.fort_syntax.specs.Grammar.{more_listed, listed, in_brackets, dim, item, array, groups}
 use Rattle.stmt_parse.specs.Tokens.{◌>>=◌, after, name_at}
 use Rattle.stmt_parse.specs.Statements.{whole, list_of, rest_of_brackets, brackets_at, item_at, groups_at, subroutine, function, declare, is_array, all_arrays, dimension_of, common}
@@ -28,8 +28,8 @@ subroutine_read n x ds t h few =
     let apart = ap (starts is_name_byte) (sym (append-nil h.1)) ∙ brackets_apart name ds h.1 [] h.4 refl in
     ap (subroutine n) h.2
     ∙ step_to (name_at (h.0 ++ h.1)) (x, h.1) (λ x. brackets_at name_at n x.1 >>= λ ds. whole ds >>= λ w. Some (Subroutine x.0 w)) _ (name_begins x h.0 h.1 h.3 apart)
-        (step_to (brackets_at name_at n h.1) (ds, []) (λ ds. whole ds >>= λ w. Some (Subroutine x w)) _
-            (at_end (brackets_at name_at n) h.1 ds (brackets_complete name_at name n (name_complete n) ds h.1 [] h.4 (omega arith) refl)) refl)
+    (step_to (brackets_at name_at n h.1) (ds, []) (λ ds. whole ds >>= λ w. Some (Subroutine x w)) _
+    (at_end (brackets_at name_at n) h.1 ds (brackets_complete name_at name n (name_complete n) ds h.1 [] h.4 (omega arith) refl)) refl)
 
 pub function_read : (n : ℕ) (o : Option Sort) (x : Name) (ds : List Name) (t : List ℕ) → (name x ⨾ bracketed (listed name ds)) t → length t < n → function n o t ≡ Some (Function o x ds)
 unfolding function
@@ -40,10 +40,10 @@ function_read n o x ds t h few =
     let behind = lengths h.1 (codes "(") p.1 text in
     ap (function n o) (h.2 ∙ ap (λ y. h.0 ++ y) text)
     ∙ step_to (name_at (h.0 ++ (codes "(" ++ p.1))) (x, codes "(" ++ p.1)
-        (λ x. after (codes "(") x.1 >>= λ rest. rest_of_brackets name_at n rest >>= λ ds. whole ds >>= λ w. Some (Function o x.0 w)) _
-        (name_begins x h.0 (codes "(" ++ p.1) h.3 refl)
-        (step_to (rest_of_brackets name_at n p.1) (ds, []) (λ ds. whole ds >>= λ w. Some (Function o x w)) _
-            (at_end (rest_of_brackets name_at n) p.1 ds (rest_complete name_at name n (name_complete n) ds p.1 [] p.4 (omega arith))) refl)
+    (λ x. after (codes "(") x.1 >>= λ rest. rest_of_brackets name_at n rest >>= λ ds. whole ds >>= λ w. Some (Function o x.0 w)) _
+    (name_begins x h.0 (codes "(" ++ p.1) h.3 refl)
+    (step_to (rest_of_brackets name_at n p.1) (ds, []) (λ ds. whole ds >>= λ w. Some (Function o x w)) _
+    (at_end (rest_of_brackets name_at n) p.1 ds (rest_complete name_at name n (name_complete n) ds p.1 [] p.4 (omega arith))) refl)
 
 items_whole : (n : ℕ) (is : List Item) (t : List ℕ) → listed item is t → length t < n → list_of (item_at n) n t ≡ Some (is, [])
 items_whole n is t h few = at_end (list_of (item_at n) n) t is (items_complete n is t [] h few refl)
@@ -81,7 +81,7 @@ unfolding dimension_of all_arrays
 dimension_read n is t h few =
     let p = arrays_items is t h in
     step_to (list_of (item_at n) n t) (is, []) (λ is. whole is >>= λ w. if list_all is_array w then Some (Dimension w) else None) _
-        (items_whole n is t p.1 few) (when_true (list_all is_array is) (Some (Dimension is)) None p.0)
+    (items_whole n is t p.1 few) (when_true (list_all is_array is) (Some (Dimension is)) None p.0)
 
 pub common_read : (n : ℕ) (gs : List Group) (t : List ℕ) → groups gs t → length t < n → common n t ≡ Some (Common gs)
 unfolding common

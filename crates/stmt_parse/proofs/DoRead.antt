@@ -1,24 +1,21 @@
 -- A DO that is spelled is read, and is no assignment.
-use Rattle.std.proofs.Common.{◌≡◌, ℕ, ◌+◌, ◌≤◌, ◌<◌, Bool, true, false, Option, Some, None, List, [], ◌∷◌, ◌++◌, length, drop, codes, refl, sym, ap, ◌∙◌, subst, append_assoc, arith}
-use Rattle.std.specs.Prelude.{◌&&◌, if◌then◌else◌}
+use Rattle.std.proofs.Common.{◌≡◌, ℕ, ◌+◌, ◌≤◌, true, false, Option, Some, None, List, [], ◌++◌, length, codes, refl, sym, ap, ◌∙◌, append_assoc, arith}
 use Rattle.std.specs.List.{list_all}
-use Rattle.std.proofs.lemmas.List.{append-nil}
 use Rattle.formula.specs.Atoms.{is_digit, is_name_byte, starts}
 use Rattle.fort_syntax.specs.declared.name.Name.{Name}
 use Rattle.fort_syntax.specs.declared.expr.Expr.{Expr, Const, Var}
 use Rattle.fort_syntax.specs.declared.stmt.Param.{Param}
 use Rattle.fort_syntax.specs.declared.stmt.Param.TheVariants as parameter
-use Rattle.fort_syntax.specs.declared.stmt.Stmt.{Stmt, Do}
+use Rattle.fort_syntax.specs.declared.stmt.Stmt.{Do}
 use Rattle.fort_syntax.specs.Spelled.{just, ◌⨾◌, name, label, expression}
 use Rattle.fort_syntax.specs.Grammar.{param, step}
-use Rattle.fort_syntax.specs.Misspelled.{begins}
 use Rattle.stmt_parse.specs.Tokens.{◌>>=◌, after, name_at, constant_at, label_at}
 use Rattle.stmt_parse.specs.Statements.{whole, assign, param_at, step_at, do_of}
 use Rattle.stmt_parse.proofs.TokensRead.{when_true, when_false, constant_read, label_read}
 use Rattle.stmt_parse.proofs.ExpressionsAnswers.{both_true}
 use Rattle.stmt_parse.proofs.ExpressionsEnds.{is_apart, no_name_byte, no_digit}
 use Rattle.stmt_parse.proofs.PartEnds.{name_no_digit, step_to, lengths, at_end}
-use Rattle.stmt_parse.proofs.ListsRead.{IsComplete, name_begins}
+use Rattle.stmt_parse.proofs.ListsRead.{name_begins}
 use Rattle.stmt_parse.proofs.ItemsRead.{digit_first}
 use Rattle.stmt_parse.proofs.Unassigned.{counted_unassigned}
 use Rattle.stmt_parse.proofs.PlainRead.{behind, all_name_bytes, all_joined, name_bytes}
@@ -36,9 +33,10 @@ step_read : (by : Option Param) (u : List ℕ) → step by u → (is_apart u ≡
 unfolding step_at
 step_read None u h = (ap is_apart h, ap step_at h)
 step_read (Some p) u h =
-    let b = behind (codes ",") u h in
-    (ap is_apart b.1,
-     ap step_at b.1 ∙ step_to (param_at b.0) (p, []) (λ p. Some (Some p.0, p.1)) _ (at_end param_at b.0 p (param_complete p b.0 [] b.2 refl)) refl)
+    let b = behind (codes ",") u h in (
+      ap is_apart b.1,
+      ap step_at b.1 ∙ step_to (param_at b.0) (p, []) (λ p. Some (Some p.0, p.1)) _ (at_end param_at b.0 p (param_complete p b.0 [] b.2 refl)) refl,
+    )
 
 -- the texts of a DO behind its first word
 abbrev pub Counts : ℕ → Name → Param → Param → Option Param → List ℕ → Type 0
@@ -92,17 +90,17 @@ do_read l x a b by t h =
     let end = step_read by p.step_text p.is_step in
     ap do_of p.same
     ∙ step_to (label_at (p.label_text ++ (p.name_text ++ (codes "=" ++ first)))) (l, p.name_text ++ (codes "=" ++ first))
-        (λ l. name_at l.1 >>= λ x. after (codes "=") x.1 >>= λ r1. param_at r1 >>= λ a. after (codes ",") a.1 >>= λ r2. param_at r2 >>= λ b. step_at b.1 >>= λ by. whole by >>= λ w. Some (Do l.0 x.0 a.0 b.0 w)) _
-        (label_read l p.label_text (p.name_text ++ (codes "=" ++ first)) p.is_label (name_behind x p.name_text (codes "=" ++ first) p.is_name))
-        (step_to (name_at (p.name_text ++ (codes "=" ++ first))) (x, codes "=" ++ first)
-            (λ x. after (codes "=") x.1 >>= λ r1. param_at r1 >>= λ a. after (codes ",") a.1 >>= λ r2. param_at r2 >>= λ b. step_at b.1 >>= λ by. whole by >>= λ w. Some (Do l x.0 a.0 b.0 w)) _
-            (name_begins x p.name_text (codes "=" ++ first) p.is_name refl)
-            (step_to (param_at first) (a, codes "," ++ last)
-                (λ a. after (codes ",") a.1 >>= λ r2. param_at r2 >>= λ b. step_at b.1 >>= λ by. whole by >>= λ w. Some (Do l x a.0 b.0 w)) _
-                (param_complete a p.first (codes "," ++ last) p.is_first refl)
-                (step_to (param_at last) (b, p.step_text) (λ b. step_at b.1 >>= λ by. whole by >>= λ w. Some (Do l x a b.0 w)) _
-                    (param_complete b p.last p.step_text p.is_last end.0)
-                    (step_to (step_at p.step_text) (by, []) (λ by. whole by >>= λ w. Some (Do l x a b w)) _ end.1 refl))))
+    (λ l. name_at l.1 >>= λ x. after (codes "=") x.1 >>= λ r1. param_at r1 >>= λ a. after (codes ",") a.1 >>= λ r2. param_at r2 >>= λ b. step_at b.1 >>= λ by. whole by >>= λ w. Some (Do l.0 x.0 a.0 b.0 w)) _
+    (label_read l p.label_text (p.name_text ++ (codes "=" ++ first)) p.is_label (name_behind x p.name_text (codes "=" ++ first) p.is_name))
+    (step_to (name_at (p.name_text ++ (codes "=" ++ first))) (x, codes "=" ++ first)
+    (λ x. after (codes "=") x.1 >>= λ r1. param_at r1 >>= λ a. after (codes ",") a.1 >>= λ r2. param_at r2 >>= λ b. step_at b.1 >>= λ by. whole by >>= λ w. Some (Do l x.0 a.0 b.0 w)) _
+    (name_begins x p.name_text (codes "=" ++ first) p.is_name refl)
+    (step_to (param_at first) (a, codes "," ++ last)
+    (λ a. after (codes ",") a.1 >>= λ r2. param_at r2 >>= λ b. step_at b.1 >>= λ by. whole by >>= λ w. Some (Do l x a.0 b.0 w)) _
+    (param_complete a p.first (codes "," ++ last) p.is_first refl)
+    (step_to (param_at last) (b, p.step_text) (λ b. step_at b.1 >>= λ by. whole by >>= λ w. Some (Do l x a b.0 w)) _
+    (param_complete b p.last p.step_text p.is_last end.0)
+    (step_to (step_at p.step_text) (by, []) (λ by. whole by >>= λ w. Some (Do l x a b w)) _ end.1 refl))))
 
 -- a parameter as an expression
 param_expression : (p : Param) (u : List ℕ) → param p u → (e : Expr) × expression e u
@@ -121,6 +119,12 @@ first_fits t a b c f r h =
     let one : length (codes "=") ≡ 1 = refl in
     omega arith
 
+-- the first word, the label and the name are letters and digits
+counted_bytes : (l : ℕ) (x : Name) (u v : List ℕ) → label l u → name x v → list_all is_name_byte (codes "DO" ++ (u ++ v)) ≡ true
+counted_bytes l x u v h k =
+    all_joined is_name_byte (codes "DO") (u ++ v) refl
+    (all_joined is_name_byte u v (all_name_bytes u (both_true (starts is_digit u) _ h.0).1) (name_bytes x v k))
+
 pub do_unassigned : (n l : ℕ) (x : Name) (a b : Param) (by : Option Param) (t : List ℕ) → Counts l x a b by t → length t + 1 ≤ n
     → assign n (codes "DO" ++ t) ≡ None
 do_unassigned n l x a b by t h few =
@@ -128,8 +132,6 @@ do_unassigned n l x a b by t h few =
     let e = param_expression a p.first p.is_first in
     let last = p.last ++ p.step_text in
     let size = first_fits t p.label_text p.name_text [] p.first (codes "," ++ last) p.same in
-    let bytes : list_all is_name_byte (codes "DO" ++ (p.label_text ++ p.name_text)) ≡ true =
-        all_joined is_name_byte (codes "DO") (p.label_text ++ p.name_text) refl
-            (all_joined is_name_byte p.label_text p.name_text (all_name_bytes p.label_text (both_true _ _ p.is_label.0).1) (name_bytes x p.name_text p.is_name)) in
     ap (assign n) (ap (λ y. codes "DO" ++ y) p.same ∙ behind_do p.label_text p.name_text (codes "=" ++ (p.first ++ (codes "," ++ last))))
-    ∙ counted_unassigned n (codes "DO" ++ (p.label_text ++ p.name_text)) e.0 p.first last bytes e.1 (omega arith)
+    ∙ counted_unassigned n (codes "DO" ++ (p.label_text ++ p.name_text)) e.0 p.first last
+    (counted_bytes l x p.label_text p.name_text p.is_label p.is_name) e.1 (omega arith)

@@ -1,16 +1,14 @@
 -- Items, blocks and groups that are spelled are read.
-use Rattle.std.proofs.Common.{◌≡◌, ℕ, zero, suc, ◌+◌, ◌≤◌, ◌<◌, Bool, true, false, Some, None, List, [], ◌∷◌, ◌++◌, length, drop, codes, refl, sym, ap, ◌∙◌, append_assoc, arith}
-use Rattle.std.specs.Prelude.{◌&&◌, if◌then◌else◌}
+use Rattle.std.proofs.Common.{◌≡◌, ℕ, zero, suc, ◌+◌, ◌<◌, true, false, Some, List, [], ◌∷◌, ◌++◌, length, codes, refl, sym, ap, ◌∙◌, append_assoc, arith}
 use Rattle.std.proofs.lemmas.List.{append-nil}
 use Rattle.formula.specs.Atoms.{is_digit, is_digits, is_name_byte, starts}
 use Rattle.fort_syntax.specs.declared.name.Name.{Name}
-use Rattle.fort_syntax.specs.declared.stmt.Dim.{Dim}
 use Rattle.fort_syntax.specs.declared.stmt.Dim.TheVariants as dimension
 use Rattle.fort_syntax.specs.declared.stmt.Item.{Item}
 use Rattle.fort_syntax.specs.declared.stmt.BlockName.{BlockName}
 use Rattle.fort_syntax.specs.declared.stmt.BlockName.TheVariants as block
 use Rattle.fort_syntax.specs.declared.stmt.Group.{Group}
-use Rattle.fort_syntax.specs.Spelled.{is_name, name, constant}
+use Rattle.fort_syntax.specs.Spelled.{is_name}
 use Rattle.fort_syntax.specs.Grammar.{listed, dim, item, slashed, first_block, more_groups, groups}
 use Rattle.fort_syntax.specs.Misspelled.{begins}
 use Rattle.stmt_parse.specs.Tokens.{◌>>=◌, after, name_at, constant_at}
@@ -18,7 +16,7 @@ use Rattle.stmt_parse.specs.Statements.{list_of, brackets_at, dim_at, item_at, s
 use Rattle.stmt_parse.proofs.ExpressionsAnswers.{both_true}
 use Rattle.stmt_parse.proofs.TokensRead.{when_true, when_false, name_read, constant_read}
 use Rattle.stmt_parse.proofs.ExpressionsEnds.{no_name_byte, no_digit}
-use Rattle.stmt_parse.proofs.PartEnds.{list_ends, list_apart, name_apart, name_no_digit, step_to, lengths}
+use Rattle.stmt_parse.proofs.PartEnds.{list_ends, name_apart, name_no_digit, step_to, lengths}
 use Rattle.stmt_parse.proofs.ListsRead.{IsComplete, name_begins, more_ends, list_complete, brackets_complete, brackets_apart}
 
 pub digit_first : (u r : List ℕ) → is_digits u ≡ true → starts is_digit (u ++ r) ≡ true
@@ -40,9 +38,9 @@ item_complete n i u r h few e =
     let size = lengths u h.0 h.1 h.2 in
     ap (item_at n) (ap (λ y. y ++ r) h.2 ∙ append_assoc h.0 h.1 r)
     ∙ step_to (name_at (h.0 ++ (h.1 ++ r))) (i.name, h.1 ++ r) (λ x. brackets_at dim_at n x.1 >>= λ ds. Some (record { name = x.0; dims = ds.0 }, ds.1)) _
-        (name_begins i.name h.0 (h.1 ++ r) h.3 (brackets_apart dim i.dims h.1 r h.4 e))
-        (step_to (brackets_at dim_at n (h.1 ++ r)) (i.dims, r) (λ ds. Some (record { name = i.name; dims = ds.0 }, ds.1)) _
-            (brackets_complete dim_at dim n (dim_complete n) i.dims h.1 r h.4 (omega arith) e) refl)
+    (name_begins i.name h.0 (h.1 ++ r) h.3 (brackets_apart dim i.dims h.1 r h.4 e))
+    (step_to (brackets_at dim_at n (h.1 ++ r)) (i.dims, r) (λ ds. Some (record { name = i.name; dims = ds.0 }, ds.1)) _
+    (brackets_complete dim_at dim n (dim_complete n) i.dims h.1 r h.4 (omega arith) e) refl)
 
 pub items_complete : (n : ℕ) (is : List Item) (u r : List ℕ) → listed item is u → length u < n → list_ends r ≡ true → list_of (item_at n) n (u ++ r) ≡ Some (is, r)
 items_complete n is u r h few e = list_complete (item_at n) item n (item_complete n) is u r h few e
@@ -79,13 +77,14 @@ slashed_complete block.Bare a v h = absurd h
 slashed_complete block.Slashes a v h = (codes "/", h, refl)
 slashed_complete (block.Named x) a v h =
     let p = h.4 in
-    let text : h.1 ++ v ≡ x ++ (codes "/" ++ v) = ap (λ y. y ++ v) (p.2 ∙ (λ i. p.3.0 i ++ p.4 i)) ∙ append_assoc x (codes "/") v in
-    (h.1,
-     h.2 ∙ ap (λ c. c ++ h.1) h.3,
-     ap slashed_at text
-     ∙ when_false (begins (codes "/") (x ++ (codes "/" ++ v))) _ _ (name_apart 47 [] x (codes "/" ++ v) refl p.3.1)
-     ∙ step_to (name_at (x ++ (codes "/" ++ v))) (x, codes "/" ++ v) (λ x. after (codes "/") x.1 >>= λ rest. Some (block.Named x.0, rest)) _
-         (name_read x (codes "/" ++ v) p.3.1 refl) refl)
+    let text : h.1 ++ v ≡ x ++ (codes "/" ++ v) = ap (λ y. y ++ v) (p.2 ∙ (λ i. p.3.0 i ++ p.4 i)) ∙ append_assoc x (codes "/") v in (
+      h.1,
+      h.2 ∙ ap (λ c. c ++ h.1) h.3,
+      ap slashed_at text
+          ∙ when_false (begins (codes "/") (x ++ (codes "/" ++ v))) _ _ (name_apart 47 [] x (codes "/" ++ v) refl p.3.1)
+          ∙ step_to (name_at (x ++ (codes "/" ++ v))) (x, codes "/" ++ v) (λ x. after (codes "/") x.1 >>= λ rest. Some (block.Named x.0, rest)) _
+          (name_read x (codes "/" ++ v) p.3.1 refl) refl,
+    )
 
 behind_complete : (n : ℕ) (g : Group) (u r : List ℕ) → listed item g.items u → length u < n → list_ends r ≡ true → group_behind n g.block (u ++ r) ≡ Some (g, r)
 unfolding group_behind
@@ -118,11 +117,11 @@ more_groups_complete n (suc m) gs (g ∷ hs) u h few small =
     let text = group_cut u h.0 h.1 s.0 p.0 p.1 h.2 s.1 p.2 in
     let size = group_lengths u s.0 p.0 p.1 text in
     let read : slashed_group n (s.0 ++ (p.0 ++ p.1)) ≡ Some (g, p.1) =
-        step_to (slashed_at (s.0 ++ (p.0 ++ p.1))) (g.block, p.0 ++ p.1) (λ b. group_behind n b.0 b.1) _ s.2
-            (behind_complete n g p.0 p.1 p.3 (omega arith) (groups_end hs p.1 p.4)) in
+    step_to (slashed_at (s.0 ++ (p.0 ++ p.1))) (g.block, p.0 ++ p.1) (λ b. group_behind n b.0 b.1) _ s.2
+    (behind_complete n g p.0 p.1 p.3 (omega arith) (groups_end hs p.1 p.4)) in
     ap (more_groups_at n (suc m) gs) text
     ∙ step_to (slashed_group n (s.0 ++ (p.0 ++ p.1))) (g, p.1) (λ g. more_groups_at n m (gs ++ g.0 ∷ []) g.1) _ read
-        (more_groups_complete n m (gs ++ g ∷ []) hs p.1 p.4 (omega arith) (omega arith))
+    (more_groups_complete n m (gs ++ g ∷ []) hs p.1 p.4 (omega arith) (omega arith))
     ∙ ap (λ l. Some (l, [])) (append_assoc gs (g ∷ []) hs)
 
 slash_first : (b : BlockName) (a v : List ℕ) → Slash b a v → first_block_at (a ++ v) ≡ Some (b, v)
@@ -148,7 +147,7 @@ groups_complete n (g ∷ gs) u h few =
     let behind = lengths h.1 p.0 p.1 p.2 in
     ap (groups_at n) (h.2 ∙ ap (λ y. h.0 ++ y) p.2)
     ∙ step_to (first_block_at (h.0 ++ (p.0 ++ p.1))) (g.block, p.0 ++ p.1) (λ b. group_behind n b.0 b.1 >>= λ g. more_groups_at n n (g.0 ∷ []) g.1) _
-        (first_complete g.block g.items h.0 p.0 p.1 h.3 p.3 ends)
-        (step_to (group_behind n g.block (p.0 ++ p.1)) (g, p.1) (λ g. more_groups_at n n (g.0 ∷ []) g.1) _
-            (behind_complete n g p.0 p.1 p.3 (omega arith) ends)
-            (more_groups_complete n n (g ∷ []) gs p.1 p.4 (omega arith) (omega arith)))
+    (first_complete g.block g.items h.0 p.0 p.1 h.3 p.3 ends)
+    (step_to (group_behind n g.block (p.0 ++ p.1)) (g, p.1) (λ g. more_groups_at n n (g.0 ∷ []) g.1) _
+    (behind_complete n g p.0 p.1 p.3 (omega arith) ends)
+    (more_groups_complete n n (g ∷ []) gs p.1 p.4 (omega arith) (omega arith)))

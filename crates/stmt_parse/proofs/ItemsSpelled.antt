@@ -1,17 +1,15 @@
 -- The item, the block or the groups that are read are spelled by the text before what is left.
-use Rattle.std.proofs.Common.{◌≡◌, ℕ, zero, suc, true, Some, None, List, [], ◌∷◌, ◌++◌, drop, codes, inl, inr, refl, sym, ap, ◌∙◌, subst, append_assoc}
+use Rattle.std.proofs.Common.{◌≡◌, ℕ, zero, suc, true, Some, List, [], ◌∷◌, ◌++◌, drop, codes, inl, inr, refl, sym, ap, ◌∙◌, subst, append_assoc}
 use Rattle.std.proofs.lemmas.List.{append-nil}
 use Rattle.formula.specs.Atoms.{is_digit, starts}
-use Rattle.fort_syntax.specs.declared.stmt.Dim.{Dim}
 use Rattle.fort_syntax.specs.declared.stmt.Dim.TheVariants as dimension
-use Rattle.fort_syntax.specs.declared.stmt.Item.{Item}
 use Rattle.fort_syntax.specs.declared.stmt.BlockName.{BlockName}
 use Rattle.fort_syntax.specs.declared.stmt.BlockName.TheVariants as block
 use Rattle.fort_syntax.specs.declared.stmt.Group.{Group}
-use Rattle.fort_syntax.specs.Spelled.{Texts, just, ◌⨾◌, name, constant}
+use Rattle.fort_syntax.specs.Spelled.{Texts, ◌⨾◌}
 use Rattle.fort_syntax.specs.Grammar.{listed, dim, item, slashed, first_block, more_groups, groups}
 use Rattle.fort_syntax.specs.Misspelled.{begins}
-use Rattle.stmt_parse.specs.Tokens.{Reading, ◌>>=◌, after, name_at, constant_at}
+use Rattle.stmt_parse.specs.Tokens.{◌>>=◌, after, name_at, constant_at}
 use Rattle.stmt_parse.specs.Statements.{list_of, brackets_at, dim_at, item_at, slashed_at, first_block_at, group_behind, slashed_group, more_groups_at, groups_at}
 use Rattle.std.proofs.lemmas.Option.{same_Some}
 use Rattle.stmt_parse.proofs.ExpressionsAnswers.{Begun, first_step, by_test, begun, followed}
@@ -22,12 +20,13 @@ use Rattle.stmt_parse.proofs.ListsSpelled.{list_spelled, brackets_spelled}
 pub dim_spelled : IsSound dim_at dim
 unfolding dim_at
 dim_spelled t z h = elim (by_test (starts is_digit t) (constant_at t >>= λ c. Some (dimension.Fixed c.0, c.1)) (name_at t >>= λ x. Some (dimension.Named x.0, x.1)) (Some z) h) [
-    inl p ↦
+  | inl p ↦
       let c = first_step (constant_at t) (λ c. Some (dimension.Fixed c.0, c.1)) z p.1 in
       subst (λ y. Begun (dim y.0) t y.1) (same_Some (dimension.Fixed c.0.0, c.0.1) z c.2) (constant_begun t c.0 c.1)
   | inr p ↦
       let x = first_step (name_at t) (λ x. Some (dimension.Named x.0, x.1)) z p.1 in
-      subst (λ y. Begun (dim y.0) t y.1) (same_Some (dimension.Named x.0.0, x.0.1) z x.2) (name_begun t x.0 x.1) ]
+      subst (λ y. Begun (dim y.0) t y.1) (same_Some (dimension.Named x.0.0, x.0.1) z x.2) (name_begun t x.0 x.1)
+]
 
 pub item_spelled : (n : ℕ) → IsSound (item_at n) item
 unfolding item_at
@@ -35,7 +34,7 @@ item_spelled n t z h =
     let x = first_step (name_at t) _ z h in
     let ds = first_step (brackets_at dim_at n x.0.1) _ z x.2 in
     subst (λ y. Begun (item y.0) t y.1) (same_Some (record { name = x.0.0; dims = ds.0.0 }, ds.0.1) z ds.2)
-        (followed _ _ t x.0.1 ds.0.1 (name_begun t x.0 x.1) (brackets_spelled dim_at dim dim_spelled n x.0.1 ds.0 ds.1))
+    (followed _ _ t x.0.1 ds.0.1 (name_begun t x.0 x.1) (brackets_spelled dim_at dim dim_spelled n x.0.1 ds.0 ds.1))
 
 pub items_spelled : (n : ℕ) → IsSound (list_of (item_at n) n) (listed item)
 items_spelled n = list_spelled (item_at n) item (item_spelled n) n
@@ -47,13 +46,14 @@ slash_begun t r b h p = (codes "/" ++ p.0, begun (codes "/") t h ∙ ap (λ x. c
 slashed_spelled : (t : List ℕ) (z : BlockName × List ℕ) → slashed_at t ≡ Some z → Begun (λ x. slashed z.0 (codes "/" ++ x)) t z.1
 unfolding slashed_at
 slashed_spelled t z h = elim (by_test (begins (codes "/") t) (Some (block.Slashes, drop 1 t)) (name_at t >>= λ x. after (codes "/") x.1 >>= λ rest. Some (block.Named x.0, rest)) (Some z) h) [
-    inl p ↦ subst (λ y. Begun (λ x. slashed y.0 (codes "/" ++ x)) t y.1) (same_Some (block.Slashes, drop 1 t) z p.1) (codes "/", begun (codes "/") t p.0, refl)
+  | inl p ↦ subst (λ y. Begun (λ x. slashed y.0 (codes "/" ++ x)) t y.1) (same_Some (block.Slashes, drop 1 t) z p.1) (codes "/", begun (codes "/") t p.0, refl)
   | inr p ↦
       let x = first_step (name_at t) (λ x. after (codes "/") x.1 >>= λ rest. Some (block.Named x.0, rest)) z p.1 in
       let rest = first_step (after (codes "/") x.0.1) (λ rest. Some (block.Named x.0.0, rest)) z x.2 in
       let b = followed _ _ t x.0.1 rest.0 (name_begun t x.0 x.1) (word_begun (codes "/") x.0.1 rest.0 rest.1) in
       subst (λ y. Begun (λ x. slashed y.0 (codes "/" ++ x)) t y.1) (same_Some (block.Named x.0.0, rest.0) z rest.2)
-          (b.0, b.1, (codes "/", b.0, refl, refl, b.2)) ]
+      (b.0, b.1, (codes "/", b.0, refl, refl, b.2))
+]
 
 -- a block that is spelled in slashes may stand first
 may_stand_first : (b : BlockName) (x : List ℕ) → slashed b x → first_block b x
@@ -64,15 +64,16 @@ may_stand_first (block.Named y) x h = h
 first_spelled : IsSound first_block_at first_block
 unfolding first_block_at
 first_spelled t z h = elim (by_test (begins (codes "/") t) (slashed_at (drop 1 t)) (Some (block.Bare, t)) (Some z) h) [
-    inl p ↦ let b = slash_begun t z.1 z.0 p.0 (slashed_spelled (drop 1 t) z p.1) in (b.0, b.1, may_stand_first z.0 b.0 b.2)
-  | inr p ↦ subst (λ y. Begun (first_block y.0) t y.1) (same_Some (block.Bare, t) z p.1) ([], refl, refl) ]
+  | inl p ↦ let b = slash_begun t z.1 z.0 p.0 (slashed_spelled (drop 1 t) z p.1) in (b.0, b.1, may_stand_first z.0 b.0 b.2)
+  | inr p ↦ subst (λ y. Begun (first_block y.0) t y.1) (same_Some (block.Bare, t) z p.1) ([], refl, refl)
+]
 
 behind_spelled : (n : ℕ) (b : BlockName) (t : List ℕ) (z : Group × List ℕ) → group_behind n b t ≡ Some z → (z.0.block ≡ b) × Begun (listed item z.0.items) t z.1
 unfolding group_behind
 behind_spelled n b t z h =
     let is = first_step (list_of (item_at n) n t) _ z h in
     subst (λ y. (y.0.block ≡ b) × Begun (listed item y.0.items) t y.1) (same_Some (record { block = b; items = is.0.0 }, is.0.1) z is.2)
-        (refl, items_spelled n t is.0 is.1)
+    (refl, items_spelled n t is.0 is.1)
 
 slashed_group_spelled : (n : ℕ) (t : List ℕ) (z : Group × List ℕ) → begins (codes "/") t ≡ true → slashed_group n (drop 1 t) ≡ Some z
     → Begun (slashed z.0.block ⨾ listed item z.0.items) t z.1
@@ -102,10 +103,11 @@ more_groups_spelled : (n m : ℕ) (gs : List Group) (t : List ℕ) (z : List Gro
 more_groups_spelled n zero gs t z h = absurd cc
 more_groups_spelled n (suc m) gs t z h =
     elim (by_test (begins (codes "/") t) (slashed_group n (drop 1 t) >>= λ g. more_groups_at n m (gs ++ g.0 ∷ []) g.1) (Some (gs, t)) (Some z) h) [
-      inl p ↦
-        let g = first_step (slashed_group n (drop 1 t)) (λ g. more_groups_at n m (gs ++ g.0 ∷ []) g.1) z p.1 in
-        one_group gs t g.0 z (slashed_group_spelled n t g.0 p.0 g.1) (more_groups_spelled n m (gs ++ g.0.0 ∷ []) g.0.1 z g.2)
-    | inr p ↦ subst (More gs t) (same_Some (gs, t) z p.1) ([], sym (append-nil gs), ([], refl, refl)) ]
+      | inl p ↦
+          let g = first_step (slashed_group n (drop 1 t)) (λ g. more_groups_at n m (gs ++ g.0 ∷ []) g.1) z p.1 in
+          one_group gs t g.0 z (slashed_group_spelled n t g.0 p.0 g.1) (more_groups_spelled n m (gs ++ g.0.0 ∷ []) g.0.1 z g.2)
+      | inr p ↦ subst (More gs t) (same_Some (gs, t) z p.1) ([], sym (append-nil gs), ([], refl, refl))
+    ]
 
 pub groups_spelled : (n : ℕ) → IsSound (groups_at n) groups
 unfolding groups_at

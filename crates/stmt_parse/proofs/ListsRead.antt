@@ -1,14 +1,13 @@
 -- A list that is spelled is read, whatever follows that does not go on with it.
-use Rattle.std.proofs.Common.{◌≡◌, ℕ, zero, suc, ◌+◌, ◌≤◌, ◌<◌, Bool, true, false, Some, None, List, [], ◌∷◌, ◌++◌, length, drop, codes, refl, sym, ap, ◌∙◌, append_assoc, arith}
-use Rattle.std.specs.Prelude.{if◌then◌else◌}
+use Rattle.std.proofs.Common.{◌≡◌, ℕ, zero, suc, ◌+◌, ◌<◌, true, false, Some, List, [], ◌∷◌, ◌++◌, length, codes, refl, sym, ap, ◌∙◌, append_assoc, arith}
 use Rattle.std.proofs.lemmas.List.{append-nil}
 use Rattle.formula.specs.Atoms.{is_name_byte, starts}
 use Rattle.fort_syntax.specs.Spelled.{Texts, just, ◌⨾◌, name, label}
 use Rattle.fort_syntax.specs.Grammar.{more_listed, listed, in_brackets}
 use Rattle.fort_syntax.specs.Misspelled.{begins}
-use Rattle.stmt_parse.specs.Tokens.{Reading, ◌>>=◌, after, name_at, label_at}
+use Rattle.stmt_parse.specs.Tokens.{◌>>=◌, after, name_at, label_at}
 use Rattle.stmt_parse.specs.Statements.{Reader, more_of, list_of, rest_of_brackets, brackets_at}
-use Rattle.stmt_parse.proofs.TokensRead.{when_true, when_false, name_read, label_read}
+use Rattle.stmt_parse.proofs.TokensRead.{when_false, name_read, label_read}
 use Rattle.stmt_parse.proofs.ExpressionsEnds.{is_apart, no_name_byte, no_digit, no_bracket}
 use Rattle.stmt_parse.proofs.PartEnds.{list_ends, list_apart, no_comma, step_to, lengths}
 
@@ -51,8 +50,8 @@ more_complete read P n complete (suc m) xs (z ∷ zs) u r h few small e =
     let size = comma_lengths u h.0 h.1 b.0 b.1 h.2 h.3 b.2 in
     ap (more_of read (suc m) xs) (comma_cut u h.0 h.1 b.0 b.1 r h.2 h.3 b.2)
     ∙ step_to (read (b.0 ++ (b.1 ++ r))) (z, b.1 ++ r) (λ x. more_of read m (xs ++ x.0 ∷ []) x.1) _
-        (complete z b.0 (b.1 ++ r) b.3 (omega arith) (more_ends P zs b.1 r b.4 e))
-        (more_complete read P n complete m (xs ++ z ∷ []) zs b.1 r b.4 (omega arith) (omega arith) e)
+    (complete z b.0 (b.1 ++ r) b.3 (omega arith) (more_ends P zs b.1 r b.4 e))
+    (more_complete read P n complete m (xs ++ z ∷ []) zs b.1 r b.4 (omega arith) (omega arith) e)
     ∙ ap (λ l. Some (l, r)) (append_assoc xs (z ∷ []) zs)
 
 pub list_complete : {A : Type 0} (read : Reader A) (P : A → Texts) (n : ℕ) → IsComplete n read P
@@ -63,8 +62,8 @@ list_complete read P n complete (x ∷ xs) u r h few e =
     let size = lengths u h.0 h.1 h.2 in
     ap (list_of read n) (ap (λ y. y ++ r) h.2 ∙ append_assoc h.0 h.1 r)
     ∙ step_to (read (h.0 ++ (h.1 ++ r))) (x, h.1 ++ r) (λ y. more_of read n (y.0 ∷ []) y.1) _
-        (complete x h.0 (h.1 ++ r) h.3 (omega arith) (more_ends P xs h.1 r h.4 e))
-        (more_complete read P n complete n (x ∷ []) xs h.1 r h.4 (omega arith) (omega arith) e)
+    (complete x h.0 (h.1 ++ r) h.3 (omega arith) (more_ends P xs h.1 r h.4 e))
+    (more_complete read P n complete n (x ∷ []) xs h.1 r h.4 (omega arith) (omega arith) e)
 
 pub rest_complete : {A : Type 0} (read : Reader A) (P : A → Texts) (n : ℕ) → IsComplete n read P
     → (xs : List A) (u r : List ℕ) → (listed P xs ⨾ just (codes ")")) u → length u < n → rest_of_brackets read n (u ++ r) ≡ Some (xs, r)
@@ -73,8 +72,8 @@ rest_complete read P n complete xs u r h few =
     let size = lengths u h.0 h.1 h.2 in
     ap (rest_of_brackets read n) (ap (λ y. y ++ r) (h.2 ∙ ap (λ c. h.0 ++ c) h.4) ∙ append_assoc h.0 (codes ")") r)
     ∙ step_to (list_of read n (h.0 ++ (codes ")" ++ r))) (xs, codes ")" ++ r) (λ ys. after (codes ")") ys.1 >>= λ rest. Some (ys.0, rest)) _
-        (list_complete read P n complete xs h.0 (codes ")" ++ r) h.3 (omega arith) refl)
-        refl
+    (list_complete read P n complete xs h.0 (codes ")" ++ r) h.3 (omega arith) refl)
+    refl
 
 pub brackets_complete : {A : Type 0} (read : Reader A) (P : A → Texts) (n : ℕ) → IsComplete n read P
     → (xs : List A) (u r : List ℕ) → in_brackets P xs u → length u < n → is_apart r ≡ true → brackets_at read n (u ++ r) ≡ Some (xs, r)

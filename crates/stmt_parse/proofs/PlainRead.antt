@@ -1,20 +1,20 @@
 -- Statements that a logical IF may carry, but IFs, are read where they are spelled.
-use Rattle.std.proofs.Common.{◌≡◌, ℕ, suc, ◌+◌, ◌≤◌, ◌<◌, Bool, true, false, Option, Some, None, List, [], ◌∷◌, ◌++◌, length, drop, map, codes, refl, sym, ap, ◌∙◌, subst, append_assoc, arith}
-use Rattle.std.specs.Prelude.{◌==◌, ◌&&◌, ◌||◌, if◌then◌else◌}
+use Rattle.std.proofs.Common.{◌≡◌, ℕ, ◌+◌, ◌≤◌, ◌<◌, Bool, true, false, Some, None, List, [], ◌∷◌, ◌++◌, length, map, codes, refl, sym, ap, ◌∙◌, subst, append_assoc, arith}
+use Rattle.std.specs.Prelude.{◌==◌}
 use Rattle.std.specs.List.{list_all}
 use Rattle.std.proofs.lemmas.List.{append-nil}
 use Rattle.std.proofs.lemmas.Bool.Decides.{nat_tests}
-use Rattle.formula.specs.Atoms.{is_digit, is_letter, is_name_byte, is_digits, starts}
+use Rattle.formula.specs.Atoms.{is_digit, is_name_byte, is_digits, starts}
 use Rattle.fort_syntax.specs.declared.name.Name.{Name}
 use Rattle.fort_syntax.specs.declared.expr.Expr.{Expr, Const}
 use Rattle.fort_syntax.specs.declared.stmt.Stmt.{Stmt, Assign, GoTo, Computed, Continue, Call, Return}
-use Rattle.fort_syntax.specs.Spelled.{Texts, just, ◌⨾◌, bracketed, is_name, name, label, expression}
+use Rattle.fort_syntax.specs.Spelled.{Texts, just, ◌⨾◌, bracketed, name, label, expression}
 use Rattle.fort_syntax.specs.Grammar.{listed, left_side, actuals}
 use Rattle.fort_syntax.specs.Misspelled.{begins}
 use Rattle.stmt_parse.specs.Tokens.{◌>>=◌, after, name_at, label_at}
 use Rattle.stmt_parse.specs.Parsing.{bracketed_arguments, parse}
 use Rattle.stmt_parse.specs.Statements.{whole, rest_of_brackets, left_at, assign, go_to, computed, actuals_at, call, jump, plain}
-use Rattle.stmt_parse.proofs.TokensRead.{when_true, when_false, label_read}
+use Rattle.stmt_parse.proofs.TokensRead.{when_false, label_read}
 use Rattle.stmt_parse.proofs.ExpressionsAnswers.{both_true}
 use Rattle.stmt_parse.proofs.PartsParsed.{and_true}
 use Rattle.stmt_parse.proofs.PartEnds.{differs, step_to, lengths, at_end}
@@ -35,9 +35,9 @@ assign_read n left right t h few =
     let rest = lengths h.1 (codes "=") b.0 b.1 in
     ap (assign n) (h.2 ∙ ap (λ y. h.0 ++ y) b.1)
     ∙ step_to (left_at n (h.0 ++ (codes "=" ++ b.0))) (left, codes "=" ++ b.0) (λ left. after (codes "=") left.1 >>= λ rest. parse n 0 rest >>= λ right. whole right >>= λ w. Some (Assign left.0 w)) _
-        (spelled_named left h.0 (codes "=" ++ b.0) n n h.3 (omega arith) (omega arith) refl)
-        (step_to (parse n 0 b.0) (right, []) (λ right. whole right >>= λ w. Some (Assign left w)) _
-            (at_end (parse n 0) b.0 right (spelled_parsed right b.0 [] n 0 b.2 (omega arith) (omega arith) refl)) refl)
+    (spelled_named left h.0 (codes "=" ++ b.0) n n h.3 (omega arith) (omega arith) refl)
+    (step_to (parse n 0 b.0) (right, []) (λ right. whole right >>= λ w. Some (Assign left w)) _
+    (at_end (parse n 0) b.0 right (spelled_parsed right b.0 [] n 0 b.2 (omega arith) (omega arith) refl)) refl)
 
 -- a statement that is no assignment and no IF is read
 pub record IsPlain (n : ℕ) (t : List ℕ) (s : Stmt) : Type 0 where
@@ -93,9 +93,9 @@ computed_read : (n : ℕ) (ls : List ℕ) (x : Name) (v y : List ℕ) → (liste
 unfolding computed
 computed_read n ls x v y h k few =
     step_to (rest_of_brackets label_at n (v ++ (codes "," ++ y))) (ls, codes "," ++ y)
-        (λ ls. after (codes ",") ls.1 >>= λ rest. name_at rest >>= λ x. whole x >>= λ w. Some (Computed ls.0 w)) _
-        (rest_complete label_at label n (label_complete n) ls v (codes "," ++ y) h few)
-        (step_to (name_at y) (x, []) (λ x. whole x >>= λ w. Some (Computed ls w)) _ (at_end name_at y x (name_begins x y [] k refl)) refl)
+    (λ ls. after (codes ",") ls.1 >>= λ rest. name_at rest >>= λ x. whole x >>= λ w. Some (Computed ls.0 w)) _
+    (rest_complete label_at label n (label_complete n) ls v (codes "," ++ y) h few)
+    (step_to (name_at y) (x, []) (λ x. whole x >>= λ w. Some (Computed ls w)) _ (at_end name_at y x (name_begins x y [] k refl)) refl)
 
 computed_word : (n : ℕ) (ls : List ℕ) (x : Name) (v y : List ℕ) → (listed label ls ⨾ just (codes ")")) v → name x y → length v + 1 ≤ n
     → IsPlain n (codes "GOTO" ++ (codes "(" ++ (v ++ (codes "," ++ y)))) (Computed ls x)
@@ -126,7 +126,7 @@ call_read : (n : ℕ) (x : Name) (es : List Expr) (a v : List ℕ) → name x a 
 unfolding call
 call_read n x es a v h apart k =
     step_to (name_at (a ++ v)) (x, v) (λ x. actuals_at n x.1 >>= λ es. whole es >>= λ w. Some (Call x.0 w)) _ (name_begins x a v h apart)
-        (step_to (actuals_at n v) (es, []) (λ es. whole es >>= λ w. Some (Call x w)) _ k refl)
+    (step_to (actuals_at n v) (es, []) (λ es. whole es >>= λ w. Some (Call x w)) _ k refl)
 
 called_bytes : (x a : List ℕ) → name x a → list_all is_name_byte (codes "CALL" ++ a) ≡ true
 called_bytes x a h = all_joined is_name_byte (codes "CALL") a refl (name_bytes x a h)
@@ -148,7 +148,7 @@ call_word n x (e ∷ es) a v h k few =
           ∙ call_unassigned n (codes "CALL" ++ a) (e ∷ es) b.0 [] (called_bytes x a h) b.2 (omega arith) refl;
       read =
           call_read n x (e ∷ es) a (codes "(" ++ b.0) h refl
-              (at_end (bracketed_arguments (parse n) n) b.0 (e ∷ es) (spelled_arguments (e ∷ es) b.0 [] n n b.2 (omega arith) (omega arith)));
+          (at_end (bracketed_arguments (parse n) n) b.0 (e ∷ es) (spelled_arguments (e ∷ es) b.0 [] n n b.2 (omega arith) (omega arith)));
       no_if = refl;
     }
 

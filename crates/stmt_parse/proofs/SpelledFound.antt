@@ -1,9 +1,9 @@
 -- The statement that a text spells is found.
-use Rattle.std.proofs.Common.{◌≡◌, ℕ, ◌+◌, ◌≤◌, ◌<◌, Bool, true, false, Option, Some, None, List, [], ◌∷◌, ◌++◌, length, drop, codes, refl, sym, ap, ◌∙◌, subst, append_assoc, arith}
-use Rattle.std.specs.Prelude.{◌==◌, ◌&&◌, if◌then◌else◌}
+use Rattle.std.proofs.Common.{◌≡◌, ℕ, ◌+◌, ◌≤◌, Bool, true, false, Option, Some, None, List, [], ◌∷◌, ◌++◌, length, drop, codes, refl, sym, ap, ◌∙◌, subst, append_assoc, arith}
+use Rattle.std.specs.Prelude.{◌==◌, if◌then◌else◌}
 use Rattle.std.proofs.lemmas.List.{append-nil}
 use Rattle.std.proofs.lemmas.Bool.Decides.{nat_tests}
-use Rattle.formula.specs.Atoms.{is_name_byte, starts}
+use Rattle.formula.specs.Atoms.{is_name_byte}
 use Rattle.fort_syntax.specs.TreePatterns.{carried as the_carried}
 use Rattle.fort_syntax.specs.declared.name.Name.{Name}
 use Rattle.fort_syntax.specs.declared.dialect.Dialect.{Dialect}
@@ -18,12 +18,12 @@ use Rattle.fort_syntax.specs.declared.stmt.BlockName.TheVariants as block
 use Rattle.fort_syntax.specs.declared.stmt.Param.{Param}
 use Rattle.fort_syntax.specs.declared.stmt.Stmt.{Stmt}
 use Rattle.fort_syntax.specs.declared.stmt.Stmt.TheVariants.{Subroutine, Function, Declare, Dimension, Common, Assign, GoTo, Computed, ArithIf, LogicalIf', Do, Continue, Call, Return, End, BlockIf, ElseIf, Else, EndIf}
-use Rattle.fort_syntax.specs.Spelled.{just, ◌⨾◌, bracketed, is_name, name, expression}
-use Rattle.fort_syntax.specs.Grammar.{listed, in_brackets, item, array, first_block, groups, sort, optional_sort, condition, form, is_deep, Spells}
+use Rattle.fort_syntax.specs.Spelled.{just, ◌⨾◌, is_name, expression}
+use Rattle.fort_syntax.specs.Grammar.{listed, item, first_block, groups, form, is_deep, Spells}
 use Rattle.fort_syntax.specs.Misspelled.{begins}
-use Rattle.stmt_parse.specs.Tokens.{◌>>=◌, name_at}
+use Rattle.stmt_parse.specs.Tokens.{name_at}
 use Rattle.stmt_parse.specs.Statements.{or_other, assign, function, declare, plain, head, typed_head, logical_head, declaration, untyped_declaration, other, condition_at, behind_condition, is_word, if_of, else_if, block_part, by_word, found, statement_of}
-use Rattle.stmt_parse.proofs.TokensRead.{when_true, when_false, name_read}
+use Rattle.stmt_parse.proofs.TokensRead.{when_false, name_read}
 use Rattle.stmt_parse.proofs.ExpressionsAnswers.{both_true, begun}
 use Rattle.stmt_parse.proofs.ExecutableSpelled.{logical_tree}
 use Rattle.stmt_parse.proofs.PartsParsed.{and_true}
@@ -33,7 +33,7 @@ use Rattle.stmt_parse.proofs.DeclarationsRead.{subroutine_read, function_read, d
 use Rattle.stmt_parse.proofs.Unassigned.{name_missing, long_unassigned, word_unassigned}
 use Rattle.stmt_parse.proofs.PlainRead.{IsPlain, behind, all_joined, assign_read, go_to_plain, computed_plain, call_plain, continue_plain, return_plain}
 use Rattle.stmt_parse.proofs.ConditionsRead.{Condition, condition_cut, condition_read, if_unassigned, labels_behind, carried_behind}
-use Rattle.stmt_parse.proofs.DoRead.{Counts, do_read, do_unassigned}
+use Rattle.stmt_parse.proofs.DoRead.{do_read, do_unassigned}
 
 assign_found : (d : Dialect) (n : ℕ) (t : List ℕ) (s : Stmt) → assign n t ≡ Some s → found d n t ≡ Some s
 unfolding found
@@ -60,7 +60,7 @@ subroutine_found d n x ds t h few =
     let size = shorter (codes "SUBROUTINE") t b.0 b.1 in
     ap (found d n) b.1
     ∙ by_word_found d n (codes "SUBROUTINE" ++ b.0) _ (long_unassigned n (codes "SUBROUTINE") b.0 refl (omega arith))
-        (ap (λ o. or_other o (or_other (declaration n (codes "SUBROUTINE" ++ b.0)) (other d n (codes "SUBROUTINE" ++ b.0)))) (subroutine_read n x ds b.0 b.2 (omega arith)))
+    (ap (λ o. or_other o (or_other (declaration n (codes "SUBROUTINE" ++ b.0)) (other d n (codes "SUBROUTINE" ++ b.0)))) (subroutine_read n x ds b.0 b.2 (omega arith)))
 
 function_found : (d : Dialect) (n : ℕ) (o : Option Sort) (x : Name) (ds : List Name) (t : List ℕ) → form d (Function o x ds) t → length t + 2 ≤ n → found d n t ≡ Some (Function o x ds)
 unfolding by_word plain head typed_head logical_head
@@ -69,19 +69,19 @@ function_found d n None x ds t h few =
     let size = shorter (codes "FUNCTION") t b.0 b.1 in
     ap (found d n) b.1
     ∙ by_word_found d n (codes "FUNCTION" ++ b.0) _ (long_unassigned n (codes "FUNCTION") b.0 refl (omega arith))
-        (ap (λ o. or_other o (or_other (declaration n (codes "FUNCTION" ++ b.0)) (other d n (codes "FUNCTION" ++ b.0)))) (function_read n None x ds b.0 b.2 (omega arith)))
+    (ap (λ o. or_other o (or_other (declaration n (codes "FUNCTION" ++ b.0)) (other d n (codes "FUNCTION" ++ b.0)))) (function_read n None x ds b.0 b.2 (omega arith)))
 function_found d n (Some Integer) x ds t h few =
     let b = behind (codes "INTEGERFUNCTION") t h in
     let size = shorter (codes "INTEGERFUNCTION") t b.0 b.1 in
     ap (found d n) b.1
     ∙ by_word_found d n (codes "INTEGERFUNCTION" ++ b.0) _ (long_unassigned n (codes "INTEGERFUNCTION") b.0 refl (omega arith))
-        (ap (λ o. or_other o (or_other (declaration n (codes "INTEGERFUNCTION" ++ b.0)) (other d n (codes "INTEGERFUNCTION" ++ b.0)))) (function_read n (Some Integer) x ds b.0 b.2 (omega arith)))
+    (ap (λ o. or_other o (or_other (declaration n (codes "INTEGERFUNCTION" ++ b.0)) (other d n (codes "INTEGERFUNCTION" ++ b.0)))) (function_read n (Some Integer) x ds b.0 b.2 (omega arith)))
 function_found d n (Some Logical) x ds t h few =
     let b = behind (codes "LOGICALFUNCTION") t h in
     let size = shorter (codes "LOGICALFUNCTION") t b.0 b.1 in
     ap (found d n) b.1
     ∙ by_word_found d n (codes "LOGICALFUNCTION" ++ b.0) _ (long_unassigned n (codes "LOGICALFUNCTION") b.0 refl (omega arith))
-        (ap (λ o. or_other o (or_other (declaration n (codes "LOGICALFUNCTION" ++ b.0)) (other d n (codes "LOGICALFUNCTION" ++ b.0)))) (function_read n (Some Logical) x ds b.0 b.2 (omega arith)))
+    (ap (λ o. or_other o (or_other (declaration n (codes "LOGICALFUNCTION" ++ b.0)) (other d n (codes "LOGICALFUNCTION" ++ b.0)))) (function_read n (Some Logical) x ds b.0 b.2 (omega arith)))
 
 -- ---- declarations
 
@@ -112,15 +112,15 @@ declare_found d n Integer is t h few =
     let size = shorter (codes "INTEGER") t b.0 b.1 in
     ap (found d n) b.1
     ∙ by_word_found d n (codes "INTEGER" ++ b.0) _ (long_unassigned n (codes "INTEGER") b.0 refl (omega arith))
-        (ap (λ o. or_other o (or_other (declare n Integer b.0) (other d n (codes "INTEGER" ++ b.0)))) (integer_head n b.0 (items_apart is b.0 b.2))
-         ∙ ap (λ o. or_other o (other d n (codes "INTEGER" ++ b.0))) (declare_read n Integer is b.0 b.2 (omega arith)))
+    (ap (λ o. or_other o (or_other (declare n Integer b.0) (other d n (codes "INTEGER" ++ b.0)))) (integer_head n b.0 (items_apart is b.0 b.2))
+    ∙ ap (λ o. or_other o (other d n (codes "INTEGER" ++ b.0))) (declare_read n Integer is b.0 b.2 (omega arith)))
 declare_found d n Logical is t h few =
     let b = behind (codes "LOGICAL") t h in
     let size = shorter (codes "LOGICAL") t b.0 b.1 in
     ap (found d n) b.1
     ∙ by_word_found d n (codes "LOGICAL" ++ b.0) _ (long_unassigned n (codes "LOGICAL") b.0 refl (omega arith))
-        (ap (λ o. or_other o (or_other (declare n Logical b.0) (other d n (codes "LOGICAL" ++ b.0)))) (logical_head_none n b.0 (items_apart is b.0 b.2))
-         ∙ ap (λ o. or_other o (other d n (codes "LOGICAL" ++ b.0))) (declare_read n Logical is b.0 b.2 (omega arith)))
+    (ap (λ o. or_other o (or_other (declare n Logical b.0) (other d n (codes "LOGICAL" ++ b.0)))) (logical_head_none n b.0 (items_apart is b.0 b.2))
+    ∙ ap (λ o. or_other o (other d n (codes "LOGICAL" ++ b.0))) (declare_read n Logical is b.0 b.2 (omega arith)))
 
 dimension_found : (d : Dialect) (n : ℕ) (is : List Item) (t : List ℕ) → form d (Dimension is) t → length t + 2 ≤ n → found d n t ≡ Some (Dimension is)
 unfolding by_word plain head typed_head logical_head declaration untyped_declaration
@@ -129,7 +129,7 @@ dimension_found d n is t h few =
     let size = shorter (codes "DIMENSION") t b.0 b.1 in
     ap (found d n) b.1
     ∙ by_word_found d n (codes "DIMENSION" ++ b.0) _ (long_unassigned n (codes "DIMENSION") b.0 refl (omega arith))
-        (ap (λ o. or_other o (other d n (codes "DIMENSION" ++ b.0))) (dimension_read n is b.0 b.2 (omega arith)))
+    (ap (λ o. or_other o (other d n (codes "DIMENSION" ++ b.0))) (dimension_read n is b.0 b.2 (omega arith)))
 
 -- a name's first byte
 first_byte : (x : List ℕ) → is_name x ≡ true → (c : ℕ) × (y : List ℕ) × (x ≡ c ∷ y) × (is_name_byte c ≡ true)
@@ -147,7 +147,7 @@ common_unassigned n block.Bare is u a v z h first items =
     let p = subst Named (append-nil v) (items_begin is v [] items refl) in
     let c = first_byte p.first p.is in
     let text : u ≡ c.0 ∷ (c.1 ++ (p.rest ++ z)) =
-        h ∙ (λ i. first i ++ (p.same i ++ z)) ∙ append_assoc p.first p.rest z ∙ ap (λ x. x ++ (p.rest ++ z)) c.2 in
+    h ∙ (λ i. first i ++ (p.same i ++ z)) ∙ append_assoc p.first p.rest z ∙ ap (λ x. x ++ (p.rest ++ z)) c.2 in
     ap (λ u. assign n (codes "COMMON" ++ u)) text ∙ seven_unassigned n c.0 (c.1 ++ (p.rest ++ z)) c.3
 common_unassigned n block.Slashes is u a v z h first items = slash_unassigned n u (codes "/" ++ (v ++ z)) (h ∙ ap (λ y. y ++ (v ++ z)) first)
 common_unassigned n (block.Named x) is u a v z h first items =
@@ -167,7 +167,7 @@ common_found d n gs t h few =
     let size = shorter (codes "COMMON") t b.0 b.1 in
     ap (found d n) b.1
     ∙ by_word_found d n (codes "COMMON" ++ b.0) _ (groups_unassigned n gs b.0 b.2)
-        (ap (λ o. or_other o (other d n (codes "COMMON" ++ b.0))) (common_read n gs b.0 b.2 (omega arith)))
+    (ap (λ o. or_other o (other d n (codes "COMMON" ++ b.0))) (common_read n gs b.0 b.2 (omega arith)))
 
 -- ---- IF
 
@@ -178,7 +178,7 @@ if_found d n e t c few unequal =
     let size = c.size in
     ap (found d n) c.same
     ∙ by_word_found d n (codes "IF" ++ (codes "(" ++ (c.inner ++ c.rest))) _ (if_unassigned n (codes "IF") e c.inner c.rest refl c.is (omega arith) unequal)
-        (step_to (condition_at n (c.inner ++ c.rest)) (e, c.rest) (λ e. behind_condition d n e.0 e.1) _ (condition_read n e c.inner c.rest c.is (omega arith)) refl)
+    (step_to (condition_at n (c.inner ++ c.rest)) (e, c.rest) (λ e. behind_condition d n e.0 e.1) _ (condition_read n e c.inner c.rest c.is (omega arith)) refl)
 
 arith_found : (d : Dialect) (n : ℕ) (e : Expr) (l m k : ℕ) (t : List ℕ) → form d (ArithIf e l m k) t → length t + 2 ≤ n → found d n t ≡ Some (ArithIf e l m k)
 arith_found d n e l m k t h few =
@@ -210,7 +210,7 @@ else_if_read : (n : ℕ) (e : Expr) (v r : List ℕ) → (expression e ⨾ just 
 unfolding else_if
 else_if_read n e v r h k few =
     step_to (condition_at n (v ++ r)) (e, r) (λ e. if is_word (codes "THEN") e.1 then Some (ElseIf e.0) else None) _ (condition_read n e v r h few)
-        (ap (λ y. if is_word (codes "THEN") y then Some (ElseIf e) else None) k)
+    (ap (λ y. if is_word (codes "THEN") y then Some (ElseIf e) else None) k)
 
 longer : (y : List ℕ) → (length (codes "ELSEIF(" ++ y) == 4) ≡ false
 longer y = grind (arith, nat_tests)
@@ -227,8 +227,8 @@ else_if_found SeventySeven n e t h few =
     let size = c.size in
     ap (found SeventySeven n) c.same
     ∙ by_word_found SeventySeven n (codes "ELSEIF" ++ (codes "(" ++ (c.inner ++ c.rest))) _
-        (if_unassigned n (codes "ELSEIF") e c.inner c.rest refl c.is (omega arith) (ap (begins (codes "=")) c.next))
-        (else_if_part n (c.inner ++ c.rest) ∙ else_if_read n e c.inner c.rest c.is c.next (omega arith))
+    (if_unassigned n (codes "ELSEIF") e c.inner c.rest refl c.is (omega arith) (ap (begins (codes "=")) c.next))
+    (else_if_part n (c.inner ++ c.rest) ∙ else_if_read n e c.inner c.rest c.is c.next (omega arith))
 
 else_found : (d : Dialect) (n : ℕ) (t : List ℕ) → form d Else t → found d n t ≡ Some Else
 unfolding by_word plain head typed_head logical_head declaration untyped_declaration other block_part

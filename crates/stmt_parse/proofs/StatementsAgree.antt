@@ -1,5 +1,5 @@
 -- The statement that is found and the statements that the grammar gives a text agree.
-use Rattle.std.proofs.Common.{◌≡◌, Some, None, Err, List, ℕ, refl, sym, ◌∙◌}
+use Rattle.std.proofs.Common.{◌≡◌, None, List, ℕ, sym, ◌∙◌}
 use Rattle.std.proofs.lemmas.Option.{none-some, same_Some}
 use Rattle.fort_syntax.specs.declared.dialect.Dialect.{Dialect}
 use Rattle.fort_syntax.specs.declared.stmt.Stmt.{Stmt}

@@ -1,5 +1,5 @@
 -- The token that is read is spelled by the text before what is left.
-use Rattle.std.proofs.Common.{◌≡◌, ℕ, zero, suc, ◌≤◌, Bool, true, false, Some, List, [], ◌∷◌, length, take, drop, refl, sym, subst, arith}
+use Rattle.std.proofs.Common.{◌≡◌, ℕ, zero, suc, ◌≤◌, false, List, [], ◌∷◌, length, take, drop, refl, sym, subst, arith}
 use Rattle.std.specs.Prelude.{◌==◌, nat_lt}
 use Rattle.std.proofs.lemmas.List.{take-append-drop}
 use Rattle.std.proofs.lemmas.Option.{same_Some}
@@ -38,4 +38,4 @@ label_begun t z h =
     let least = few n t in
     let most = not_over n q.0 in
     subst (λ y. Begun (label y.0) t y.1) (same_Some (spelled (take n t), drop n t) z o.1)
-        (take n t, sym (take-append-drop n t), (p.0, (let e : length (take n t) ≤ 5 = omega arith in e), refl, some_left (spelled (take n t)) o.0))
+    (take n t, sym (take-append-drop n t), (p.0, (let e : length (take n t) ≤ 5 = omega arith in e), refl, some_left (spelled (take n t)) o.0))

@@ -1,24 +1,22 @@
 -- Texts that begin as no assignment does.
-use Rattle.std.proofs.Common.{◌≡◌, ℕ, zero, suc, ◌+◌, ◌≤◌, ◌<◌, Bool, true, false, Option, Some, None, List, [], ◌∷◌, ◌++◌, length, take, drop, map, codes, refl, sym, ap, ◌∙◌, append_assoc, arith}
-use Rattle.std.specs.Prelude.{◌&&◌, if◌then◌else◌, nat_le}
+use Rattle.std.proofs.Common.{◌≡◌, ℕ, suc, ◌+◌, ◌≤◌, ◌<◌, Bool, true, false, Option, Some, None, List, [], ◌∷◌, ◌++◌, length, take, map, codes, refl, ap, ◌∙◌, arith}
+use Rattle.std.specs.Prelude.{◌&&◌, nat_le}
 use Rattle.std.specs.List.{list_all}
-use Rattle.std.proofs.lemmas.List.{length-append, append-nil}
+use Rattle.std.proofs.lemmas.List.{length-append}
 use Rattle.std.proofs.lemmas.Bool.Decides.{nat_tests}
 use Rattle.std.proofs.Math.Seq.{take-append_seam}
 use Rattle.formula.specs.Atoms.{is_letter, is_name_byte, starts}
-use Rattle.fort_syntax.specs.declared.name.Name.{Name}
 use Rattle.fort_syntax.specs.declared.expr.Expr.{Expr, Const, Var, Apply}
 use Rattle.fort_syntax.specs.declared.stmt.Stmt.{Stmt, Assign}
 use Rattle.fort_syntax.specs.Spelled.{just, ◌⨾◌, is_name, label, expression, arguments, more_arguments, row_of}
 use Rattle.fort_syntax.specs.Grammar.{more_listed, listed}
 use Rattle.fort_syntax.specs.Misspelled.{begins}
 use Rattle.stmt_parse.specs.Tokens.{◌>>=◌, after, run_length, name_of_length, name_at}
-use Rattle.stmt_parse.specs.Parsing.{bracketed_arguments, named, parse}
+use Rattle.stmt_parse.specs.Parsing.{named, parse}
 use Rattle.stmt_parse.specs.Statements.{whole, left_at, assign}
 use Rattle.stmt_parse.proofs.Labels.{few_not_long}
 use Rattle.stmt_parse.proofs.TokensRead.{when_true, when_false, name_read}
 use Rattle.stmt_parse.proofs.ExpressionsAnswers.{both_true}
-use Rattle.stmt_parse.proofs.PartEnds.{step_to}
 use Rattle.stmt_parse.proofs.ExpressionsAgree.{spelled_parsed, spelled_arguments}
 
 -- ---- where no name is read
@@ -107,8 +105,8 @@ call_unassigned n w es u r h args few unequal =
     let size : length u ≤ n = omega arith in
     by_name (is_name w) n w (codes "(" ++ (u ++ r)) refl h refl
     (λ _.
-        ap (λ o. (o >>= λ es. Some (Apply w es.0, es.1)) >>= right_side n) (spelled_arguments es u r n n args few size)
-        ∙ no_equals n (Apply w es) r unequal)
+    ap (λ o. (o >>= λ es. Some (Apply w es.0, es.1)) >>= right_side n) (spelled_arguments es u r n n args few size)
+    ∙ no_equals n (Apply w es) r unequal)
 
 -- letters and digits, and behind `=` an expression that is not all of the rest
 pub counted_unassigned : (n : ℕ) (w : List ℕ) (e : Expr) (u r : List ℕ) → list_all is_name_byte w ≡ true → expression e u → length u + 2 ≤ n
