@@ -27,13 +27,15 @@ use Rattle.stmt_parse.proofs.PlainRead.{IsPlain, behind, digits_apart, assign_re
 
 -- ---- conditions
 
-pub condition_read : (n : ℕ) (e : Expr) (v r : List ℕ) → (expression e ⨾ just (codes ")")) v → length v + 1 ≤ n → condition_at n (v ++ r) ≡ Some (e, r)
+pub condition_read : (n : ℕ) (e : Expr) (v r : List ℕ) → (expression e ⨾ just (codes ")")) v → length v + 1 ≤ n
+    → condition_at n (v ++ r) ≡ Some (e, r)
 unfolding condition_at
 condition_read n e v r h few =
     let size = lengths v h.0 (codes ")") (h.2 ∙ ap (λ c. h.0 ++ c) h.4) in
     let one : length (codes ")") ≡ 1 = refl in
     ap (condition_at n) (ap (λ y. y ++ r) (h.2 ∙ ap (λ c. h.0 ++ c) h.4) ∙ append_assoc h.0 (codes ")") r)
-    ∙ step_to (parse n 0 (h.0 ++ (codes ")" ++ r))) (e, codes ")" ++ r) (λ e. after (codes ")") e.1 >>= λ rest. Some (e.0, rest)) _
+    ∙ step_to (parse n 0 (h.0 ++ (codes ")" ++ r))) (e, codes ")" ++ r) (λ e. after (codes ")") e.1
+    >>= λ rest. Some (e.0, rest)) _
     (spelled_parsed e h.0 (codes ")" ++ r) n 0 h.3 (omega arith) (omega arith) refl) refl
 
 -- a word, a condition and what is behind it
@@ -58,34 +60,45 @@ condition_cut w t e h =
     record { inner = b.0; rest = p.1; same = a.1 ∙ ap (λ y. w ++ y) text; is = b.2; next = p.4; size = omega arith }
 
 -- a condition as the one argument in brackets
-one_argument : (e : Expr) (v : List ℕ) → (expression e ⨾ just (codes ")")) v → (arguments (row_of (e ∷ [])) ⨾ just (codes ")")) v
+one_argument : (e : Expr) (v : List ℕ) → (expression e ⨾ just (codes ")")) v
+    → (arguments (row_of (e ∷ [])) ⨾ just (codes ")")) v
 one_argument e v h = (h.0, h.1, h.2, (h.0, [], sym (append-nil h.0), h.3, refl), h.4)
 
 -- a word with a condition, and no `=` behind it
-pub if_unassigned : (n : ℕ) (w : List ℕ) (e : Expr) (v r : List ℕ) → list_all is_name_byte w ≡ true → (expression e ⨾ just (codes ")")) v → length v + 1 ≤ n
+pub if_unassigned : (n : ℕ) (w : List ℕ) (e : Expr) (v r : List ℕ) → list_all is_name_byte w ≡ true
+    → (expression e ⨾ just (codes ")")) v → length v + 1 ≤ n
     → begins (codes "=") r ≡ false → assign n (w ++ (codes "(" ++ (v ++ r))) ≡ None
 if_unassigned n w e v r h k few unequal = call_unassigned n w (e ∷ []) v r h (one_argument e v k) few unequal
 
 -- ---- three labels
 
-labels_read : (e : Expr) (l m k : ℕ) (r : List ℕ) → (label l ⨾ just (codes ",") ⨾ label m ⨾ just (codes ",") ⨾ label k) r → arith_if e r ≡ Some (ArithIf e l m k)
+labels_read : (e : Expr) (l m k : ℕ) (r : List ℕ)
+    → (label l ⨾ just (codes ",") ⨾ label m ⨾ just (codes ",") ⨾ label k) r → arith_if e r ≡ Some (ArithIf e l m k)
 unfolding arith_if
 labels_read e l m k r h =
     let b = behind (codes ",") h.1 h.4 in
     let p = b.2 in
     let c = behind (codes ",") p.1 p.4 in
     ap (arith_if e) (h.2 ∙ ap (λ y. h.0 ++ y) (b.1 ∙ ap (λ y. codes "," ++ y) (p.2 ∙ ap (λ y. p.0 ++ y) c.1)))
-    ∙ step_to (label_at (h.0 ++ (codes "," ++ (p.0 ++ (codes "," ++ c.0))))) (l, codes "," ++ (p.0 ++ (codes "," ++ c.0)))
-    (λ l. after (codes ",") l.1 >>= λ r1. label_at r1 >>= λ m. after (codes ",") m.1 >>= λ r2. label_at r2 >>= λ k. whole k >>= λ w. Some (ArithIf e l.0 m.0 w)) _
+    ∙ step_to (label_at (h.0 ++ (codes "," ++ (p.0 ++ (codes "," ++ c.0)))))
+    (l, codes "," ++ (p.0 ++ (codes "," ++ c.0)))
+    (λ l. after (codes ",") l.1 >>= λ r1. label_at r1 >>= λ m. after (codes ",") m.1 >>= λ r2. label_at r2
+    >>= λ k. whole k >>= λ w. Some (ArithIf e l.0 m.0 w)) _
     (label_read l h.0 (codes "," ++ (p.0 ++ (codes "," ++ c.0))) h.3 refl)
     (step_to (label_at (p.0 ++ (codes "," ++ c.0))) (m, codes "," ++ c.0)
     (λ m. after (codes ",") m.1 >>= λ r2. label_at r2 >>= λ k. whole k >>= λ w. Some (ArithIf e l m.0 w)) _
     (label_read m p.0 (codes "," ++ c.0) p.3 refl)
-    (step_to (label_at c.0) (k, []) (λ k. whole k >>= λ w. Some (ArithIf e l m w)) _ (at_end label_at c.0 k (label_read k c.0 [] c.2 refl)) refl))
+    (step_to (label_at c.0) (k, []) (λ k. whole k
+    >>= λ w. Some (ArithIf e l m w)) _ (at_end label_at c.0 k (label_read k c.0 [] c.2 refl)) refl))
 
 -- the text of labels begins with a digit
-labels_digit : {Q : List ℕ → Type 0} (l : ℕ) (r : List ℕ) → (label l ⨾ Q) r → (starts is_digit r ≡ true) × (begins (codes "=") r ≡ false)
-labels_digit l r h = (ap (starts is_digit) h.2 ∙ digit_first h.0 h.1 h.3.0, ap (begins (codes "=")) h.2 ∙ digits_apart 61 h.0 h.1 refl h.3.0)
+labels_digit : {Q : List ℕ → Type 0} (l : ℕ) (r : List ℕ) → (label l ⨾ Q) r
+    → (starts is_digit r ≡ true) × (begins (codes "=") r ≡ false)
+labels_digit l r h = (
+  ap (starts is_digit) h.2 ∙ digit_first h.0 h.1 h.3.0,
+  ap (begins (codes "=")) h.2
+      ∙ digits_apart 61 h.0 h.1 refl h.3.0,
+)
 
 -- ---- what a logical IF carries
 
@@ -103,10 +116,12 @@ name_letter (b ∷ x) r h = (both_true _ _ (both_true _ _ h).0).0
 left_letter : (e : Expr) (u r : List ℕ) → left_side e u → starts is_letter (u ++ r) ≡ true
 left_letter (Var x) u r h = ap (λ y. starts is_letter (y ++ r)) h.0 ∙ name_letter x r h.1
 left_letter (Apply' x m args) u r h =
-    ap (starts is_letter) (ap (λ y. y ++ r) h.2 ∙ append_assoc h.0 h.1 r) ∙ ap (λ y. starts is_letter (y ++ (h.1 ++ r))) h.3.0 ∙ name_letter x (h.1 ++ r) h.3.1
+    ap (starts is_letter) (ap (λ y. y ++ r) h.2 ∙ append_assoc h.0 h.1 r)
+    ∙ ap (λ y. starts is_letter (y ++ (h.1 ++ r))) h.3.0 ∙ name_letter x (h.1 ++ r) h.3.1
 left_letter _ u r h = absurd h
 
-word_letter : {Q : List ℕ → Type 0} (w t : List ℕ) → (just w ⨾ Q) t → starts is_letter (w ++ []) ≡ true → starts is_letter t ≡ true
+word_letter : {Q : List ℕ → Type 0} (w t : List ℕ) → (just w ⨾ Q) t → starts is_letter (w ++ []) ≡ true
+    → starts is_letter t ≡ true
 word_letter [] t h k = absurd cc
 word_letter (b ∷ w) t h k = ap (starts is_letter) (behind (b ∷ w) t h).1 ∙ k
 
@@ -120,7 +135,8 @@ carried_letter d Continue t c h = ap (starts is_letter) h
 carried_letter d Return t c h = ap (starts is_letter) h
 carried_letter d _ t c h = absurd cc
 
-pub carried_apart : (d : Dialect) (s : Stmt) (t : List ℕ) → is_carried s ≡ true → form d s t → (starts is_digit t ≡ false) × (begins (codes "=") t ≡ false)
+pub carried_apart : (d : Dialect) (s : Stmt) (t : List ℕ) → is_carried s ≡ true → form d s t
+    → (starts is_digit t ≡ false) × (begins (codes "=") t ≡ false)
 carried_apart d s t c h = begins_apart t (carried_letter d s t c h)
 
 assign_carried : (n : ℕ) (t : List ℕ) (s : Stmt) → assign n t ≡ Some s → carried n t ≡ Some s
@@ -138,7 +154,8 @@ plain_carried n t s p =
 abbrev pub LabelsBehind : ℕ → ℕ → ℕ → List ℕ → Type 0
 LabelsBehind l m k = label l ⨾ just (codes ",") ⨾ label m ⨾ just (codes ",") ⨾ label k
 
-arith_carried : (n : ℕ) (e : Expr) (l m k : ℕ) (t : List ℕ) → (just (codes "IF") ⨾ condition e ⨾ LabelsBehind l m k) t → length t + 2 ≤ n
+arith_carried : (n : ℕ) (e : Expr) (l m k : ℕ) (t : List ℕ) → (just (codes "IF") ⨾ condition e ⨾ LabelsBehind l m k) t
+    → length t + 2 ≤ n
     → carried n t ≡ Some (ArithIf e l m k)
 unfolding carried carried_if
 arith_carried n e l m k t h few =
@@ -147,9 +164,11 @@ arith_carried n e l m k t h few =
     ap (carried n) c.same
     ∙ ap (λ o. or_other o (carried_if n (c.inner ++ c.rest)))
     (if_unassigned n (codes "IF") e c.inner c.rest refl c.is (omega arith) (labels_digit l c.rest c.next).1)
-    ∙ step_to (condition_at n (c.inner ++ c.rest)) (e, c.rest) (λ e. arith_if e.0 e.1) _ (condition_read n e c.inner c.rest c.is (omega arith)) (labels_read e l m k c.rest c.next)
+    ∙ step_to (condition_at n (c.inner ++ c.rest)) (e, c.rest) (λ e. arith_if e.0 e.1) _
+    (condition_read n e c.inner c.rest c.is (omega arith)) (labels_read e l m k c.rest c.next)
 
-pub carried_read : (d : Dialect) (s : Stmt) (n : ℕ) (t : List ℕ) → is_carried s ≡ true → form d s t → length t + 2 ≤ n → carried n t ≡ Some s
+pub carried_read : (d : Dialect) (s : Stmt) (n : ℕ) (t : List ℕ) → is_carried s ≡ true → form d s t → length t + 2 ≤ n
+    → carried n t ≡ Some s
 carried_read d (Assign left right) n t c h few = assign_carried n t _ (assign_read n left right t h few)
 carried_read d (GoTo l) n t c h few = plain_carried n t _ (go_to_plain n l t h)
 carried_read d (Computed ls y) n t c h few = plain_carried n t _ (computed_plain n ls y t h few)
@@ -175,13 +194,15 @@ then_not_carried n = refl
 
 not_then : (b : Bool) (n : ℕ) (t : List ℕ) (s : Stmt) → is_word (codes "THEN") t ≡ b → carried n t ≡ Some s → b ≡ false
 not_then false n t s h k = refl
-not_then true n t s h k = absurd (let bad : None ≡ Some s = sym (then_not_carried n) ∙ ap (carried n) (sym (word_so (codes "THEN") t h)) ∙ k in cc)
+not_then true n t s h k = absurd (let bad : None ≡ Some s = sym (then_not_carried n)
+    ∙ ap (carried n) (sym (word_so (codes "THEN") t h)) ∙ k in cc)
 
 second_false : (x y : Bool) → y ≡ false → (x && y) ≡ false
 second_false true y h = h
 second_false false y h = refl
 
-pub carried_behind : (d : Dialect) (n : ℕ) (e : Expr) (s : Stmt) (r : List ℕ) → is_carried s ≡ true → form d s r → length r + 2 ≤ n
+pub carried_behind : (d : Dialect) (n : ℕ) (e : Expr) (s : Stmt) (r : List ℕ) → is_carried s ≡ true → form d s r
+    → length r + 2 ≤ n
     → (begins (codes "=") r ≡ false) × (behind_condition d n e r ≡ Some (LogicalIf e s))
 unfolding behind_condition
 carried_behind d n e s r c h few =
@@ -189,6 +210,7 @@ carried_behind d n e s r c h few =
     let k = carried_read d s n r c h few in (
       p.1,
       when_false (starts is_digit r) _ _ p.0
-          ∙ when_false (is_77 d && is_word (codes "THEN") r) _ _ (second_false (is_77 d) _ (not_then (is_word (codes "THEN") r) n r s refl k))
+          ∙ when_false (is_77 d && is_word (codes "THEN") r) _ _
+          (second_false (is_77 d) _ (not_then (is_word (codes "THEN") r) n r s refl k))
           ∙ step_to (carried n r) s (λ s. Some (LogicalIf e s)) _ k refl,
     )

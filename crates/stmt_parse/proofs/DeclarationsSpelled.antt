@@ -20,7 +20,8 @@ use Rattle.stmt_parse.proofs.TokensSpelled.{name_begun}
 use Rattle.stmt_parse.proofs.ListsSpelled.{rest_spelled, brackets_spelled}
 use Rattle.stmt_parse.proofs.ItemsSpelled.{items_spelled, groups_spelled}
 
-subroutine_spelled : (d : Dialect) (n : ℕ) (t : List ℕ) (s : Stmt) → subroutine n t ≡ Some s → form d s (codes "SUBROUTINE" ++ t)
+subroutine_spelled : (d : Dialect) (n : ℕ) (t : List ℕ) (s : Stmt) → subroutine n t ≡ Some s
+    → form d s (codes "SUBROUTINE" ++ t)
 unfolding subroutine
 subroutine_spelled d n t s h =
     let x = first_step (name_at t) _ s h in
@@ -31,7 +32,8 @@ subroutine_spelled d n t s h =
     (first_of_all t x.0.1 (name_begun t x.0 x.1)
     (ended (in_brackets name) x.0.1 ds.0 w.0 w.1 (brackets_spelled name_at name name_begun n x.0.1 ds.0 ds.1))))
 
-function_spelled : (d : Dialect) (n : ℕ) (o : Option Sort) (t : List ℕ) (s : Stmt) → function n o t ≡ Some s → form d s ((optional_sort o ++ codes "FUNCTION") ++ t)
+function_spelled : (d : Dialect) (n : ℕ) (o : Option Sort) (t : List ℕ) (s : Stmt) → function n o t ≡ Some s
+    → form d s ((optional_sort o ++ codes "FUNCTION") ++ t)
 unfolding function
 function_spelled d n o t s h =
     let x = first_step (name_at t) _ s h in
@@ -42,9 +44,11 @@ function_spelled d n o t s h =
     (word_and_rest (optional_sort o ++ codes "FUNCTION") t
     (first_of_all t x.0.1 (name_begun t x.0 x.1)
     (word_then (codes "(") x.0.1 r.0 r.1
-    (ended (λ l. listed name l ⨾ just (codes ")")) r.0 ds.0 w.0 w.1 (rest_spelled name_at name name_begun n r.0 ds.0 ds.1)))))
+    (ended (λ l. listed name l ⨾ just (codes ")")) r.0 ds.0 w.0 w.1
+    (rest_spelled name_at name name_begun n r.0 ds.0 ds.1)))))
 
-declare_spelled : (d : Dialect) (n : ℕ) (o : Sort) (t : List ℕ) (s : Stmt) → declare n o t ≡ Some s → form d s (sort o ++ t)
+declare_spelled : (d : Dialect) (n : ℕ) (o : Sort) (t : List ℕ) (s : Stmt) → declare n o t ≡ Some s
+    → form d s (sort o ++ t)
 unfolding declare
 declare_spelled d n o t s h =
     let is = first_step (list_of (item_at n) n t) _ s h in
@@ -61,7 +65,8 @@ filled (d ∷ ds) x h p = p
 array_so : (i : Item) (x : List ℕ) → is_array i ≡ true → item i x → array i x
 array_so i x h p = (p.0, p.1, p.2, p.3, filled i.dims p.1 h p.4)
 
-more_arrays : (is : List Item) (x : List ℕ) → list_all is_array is ≡ true → more_listed item is x → more_listed array is x
+more_arrays : (is : List Item) (x : List ℕ) → list_all is_array is ≡ true → more_listed item is x
+    → more_listed array is x
 more_arrays [] x h p = p
 more_arrays (i ∷ is) x h p =
     let q = both_true (is_array i) _ h in
@@ -70,16 +75,19 @@ more_arrays (i ∷ is) x h p =
 
 arrays_so : (is : List Item) (x : List ℕ) → list_all is_array is ≡ true → listed item is x → listed array is x
 arrays_so [] x h p = p
-arrays_so (i ∷ is) x h p = let q = both_true (is_array i) _ h in (p.0, p.1, p.2, array_so i p.0 q.0 p.3, more_arrays is p.1 q.1 p.4)
+arrays_so (i ∷ is) x h p = let q = both_true (is_array i) _ h in
+    (p.0, p.1, p.2, array_so i p.0 q.0 p.3, more_arrays is p.1 q.1 p.4)
 
-dimension_spelled : (d : Dialect) (n : ℕ) (t : List ℕ) (s : Stmt) → dimension_of n t ≡ Some s → form d s (codes "DIMENSION" ++ t)
+dimension_spelled : (d : Dialect) (n : ℕ) (t : List ℕ) (s : Stmt) → dimension_of n t ≡ Some s
+    → form d s (codes "DIMENSION" ++ t)
 unfolding dimension_of all_arrays
 dimension_spelled d n t s h =
     let is = first_step (list_of (item_at n) n t) _ s h in
     let w = first_step (whole is.0) _ s is.2 in
     let p = when_passed (list_all is_array w.0) (Some (Dimension w.0)) s w.2 in
     subst (λ y. form d y (codes "DIMENSION" ++ t)) (same_Some (Dimension w.0) s p.1)
-    (word_and_rest (codes "DIMENSION") t (arrays_so w.0 t p.0 (ended (listed item) t is.0 w.0 w.1 (items_spelled n t is.0 is.1))))
+    (word_and_rest (codes "DIMENSION") t
+    (arrays_so w.0 t p.0 (ended (listed item) t is.0 w.0 w.1 (items_spelled n t is.0 is.1))))
 
 common_spelled : (d : Dialect) (n : ℕ) (t : List ℕ) (s : Stmt) → common n t ≡ Some s → form d s (codes "COMMON" ++ t)
 unfolding common
@@ -92,7 +100,8 @@ common_spelled d n t s h =
 -- ---- by the first word
 
 -- the statement of a text that begins with a word
-pub behind_word : (d : Dialect) (w t : List ℕ) (s : Stmt) → begins w t ≡ true → form d s (w ++ drop (length w) t) → form d s t
+pub behind_word : (d : Dialect) (w t : List ℕ) (s : Stmt) → begins w t ≡ true → form d s (w ++ drop (length w) t)
+    → form d s t
 behind_word d w t s h p = subst (form d s) (sym (begun w t h)) p
 
 logical_head_spelled : (d : Dialect) (n : ℕ) (t : List ℕ) (s : Stmt) → logical_head n t ≡ Some s → form d s t
@@ -108,7 +117,8 @@ typed_head_spelled d n t s h = elim (by_test (begins (codes "INTEGERFUNCTION") t
   | inr p ↦ logical_head_spelled d n t s p.1
 ]
 
-function_head_spelled : (d : Dialect) (n : ℕ) (t : List ℕ) (s : Stmt) → (if begins (codes "FUNCTION") t then function n None (drop 8 t) else typed_head n t) ≡ Some s → form d s t
+function_head_spelled : (d : Dialect) (n : ℕ) (t : List ℕ) (s : Stmt)
+    → (if begins (codes "FUNCTION") t then function n None (drop 8 t) else typed_head n t) ≡ Some s → form d s t
 function_head_spelled d n t s h = elim (by_test (begins (codes "FUNCTION") t) _ _ (Some s) h) [
   | inl p ↦ behind_word d (codes "FUNCTION") t s p.0 (function_spelled d n None (drop 8 t) s p.1)
   | inr p ↦ typed_head_spelled d n t s p.1
@@ -130,7 +140,9 @@ untyped_spelled d n t s h = elim (by_test (begins (codes "DIMENSION") t) _ _ (So
       behind_word d (codes "COMMON") t s q.0 (common_spelled d n (drop 6 t) s q.1)
 ]
 
-logical_spelled : (d : Dialect) (n : ℕ) (t : List ℕ) (s : Stmt) → (if begins (codes "LOGICAL") t then declare n Logical (drop 7 t) else untyped_declaration n t) ≡ Some s → form d s t
+logical_spelled : (d : Dialect) (n : ℕ) (t : List ℕ) (s : Stmt)
+    → (if begins (codes "LOGICAL") t then declare n Logical (drop 7 t) else untyped_declaration n t) ≡ Some s
+    → form d s t
 logical_spelled d n t s h = elim (by_test (begins (codes "LOGICAL") t) _ _ (Some s) h) [
   | inl p ↦ behind_word d (codes "LOGICAL") t s p.0 (declare_spelled d n Logical (drop 7 t) s p.1)
   | inr p ↦ untyped_spelled d n t s p.1

@@ -24,10 +24,12 @@ param_complete : (p : Param) (u r : List ℕ) → param p u → is_apart r ≡ t
 unfolding param_at
 param_complete (parameter.Fixed c) u r h e =
     when_true (starts is_digit (u ++ r)) _ _ (digit_first u r h.0)
-    ∙ step_to (constant_at (u ++ r)) (c, r) (λ c. Some (parameter.Fixed c.0, c.1)) _ (constant_read c u r h (no_digit r e)) refl
+    ∙ step_to (constant_at (u ++ r)) (c, r) (λ c. Some (parameter.Fixed c.0, c.1)) _
+    (constant_read c u r h (no_digit r e)) refl
 param_complete (parameter.Named x) u r h e =
     when_false (starts is_digit (u ++ r)) _ _ (ap (λ y. starts is_digit (y ++ r)) h.0 ∙ name_no_digit x r h.1)
-    ∙ step_to (name_at (u ++ r)) (x, r) (λ x. Some (parameter.Named x.0, x.1)) _ (name_begins x u r h (no_name_byte r e)) refl
+    ∙ step_to (name_at (u ++ r)) (x, r) (λ x. Some (parameter.Named x.0, x.1)) _
+    (name_begins x u r h (no_name_byte r e)) refl
 
 step_read : (by : Option Param) (u : List ℕ) → step by u → (is_apart u ≡ true) × (step_at u ≡ Some (by, []))
 unfolding step_at
@@ -35,7 +37,8 @@ step_read None u h = (ap is_apart h, ap step_at h)
 step_read (Some p) u h =
     let b = behind (codes ",") u h in (
       ap is_apart b.1,
-      ap step_at b.1 ∙ step_to (param_at b.0) (p, []) (λ p. Some (Some p.0, p.1)) _ (at_end param_at b.0 p (param_complete p b.0 [] b.2 refl)) refl,
+      ap step_at b.1 ∙ step_to (param_at b.0) (p, []) (λ p. Some (Some p.0, p.1)) _
+          (at_end param_at b.0 p (param_complete p b.0 [] b.2 refl)) refl,
     )
 
 -- the texts of a DO behind its first word
@@ -70,7 +73,8 @@ parts l x a b by t h =
       last = s.0;
       step_text = s.1;
       same =
-          h.2 ∙ ap (λ y. h.0 ++ y) (n.2 ∙ ap (λ y. n.0 ++ y) (p.1 ∙ ap (λ y. codes "=" ++ y) (q.2 ∙ ap (λ y. q.0 ++ y) (r.1 ∙ ap (λ y. codes "," ++ y) s.2))));
+          h.2 ∙ ap (λ y. h.0 ++ y) (n.2 ∙ ap (λ y. n.0 ++ y) (p.1
+          ∙ ap (λ y. codes "=" ++ y) (q.2 ∙ ap (λ y. q.0 ++ y) (r.1 ∙ ap (λ y. codes "," ++ y) s.2))));
       is_label = h.3;
       is_name = n.3;
       is_first = q.3;
@@ -81,7 +85,8 @@ parts l x a b by t h =
 name_behind : (x u r : List ℕ) → name x u → starts is_digit (u ++ r) ≡ false
 name_behind x u r h = ap (λ y. starts is_digit (y ++ r)) h.0 ∙ name_no_digit x r h.1
 
-pub do_read : (l : ℕ) (x : Name) (a b : Param) (by : Option Param) (t : List ℕ) → Counts l x a b by t → do_of t ≡ Some (Do l x a b by)
+pub do_read : (l : ℕ) (x : Name) (a b : Param) (by : Option Param) (t : List ℕ) → Counts l x a b by t
+    → do_of t ≡ Some (Do l x a b by)
 unfolding do_of
 do_read l x a b by t h =
     let p = parts l x a b by t h in
@@ -89,14 +94,19 @@ do_read l x a b by t h =
     let first = p.first ++ (codes "," ++ last) in
     let end = step_read by p.step_text p.is_step in
     ap do_of p.same
-    ∙ step_to (label_at (p.label_text ++ (p.name_text ++ (codes "=" ++ first)))) (l, p.name_text ++ (codes "=" ++ first))
-    (λ l. name_at l.1 >>= λ x. after (codes "=") x.1 >>= λ r1. param_at r1 >>= λ a. after (codes ",") a.1 >>= λ r2. param_at r2 >>= λ b. step_at b.1 >>= λ by. whole by >>= λ w. Some (Do l.0 x.0 a.0 b.0 w)) _
-    (label_read l p.label_text (p.name_text ++ (codes "=" ++ first)) p.is_label (name_behind x p.name_text (codes "=" ++ first) p.is_name))
+    ∙ step_to (label_at (p.label_text ++ (p.name_text ++ (codes "=" ++ first))))
+    (l, p.name_text ++ (codes "=" ++ first))
+    (λ l. name_at l.1 >>= λ x. after (codes "=") x.1 >>= λ r1. param_at r1 >>= λ a. after (codes ",") a.1
+    >>= λ r2. param_at r2 >>= λ b. step_at b.1 >>= λ by. whole by >>= λ w. Some (Do l.0 x.0 a.0 b.0 w)) _
+    (label_read l p.label_text (p.name_text ++ (codes "=" ++ first)) p.is_label
+    (name_behind x p.name_text (codes "=" ++ first) p.is_name))
     (step_to (name_at (p.name_text ++ (codes "=" ++ first))) (x, codes "=" ++ first)
-    (λ x. after (codes "=") x.1 >>= λ r1. param_at r1 >>= λ a. after (codes ",") a.1 >>= λ r2. param_at r2 >>= λ b. step_at b.1 >>= λ by. whole by >>= λ w. Some (Do l x.0 a.0 b.0 w)) _
+    (λ x. after (codes "=") x.1 >>= λ r1. param_at r1 >>= λ a. after (codes ",") a.1 >>= λ r2. param_at r2
+    >>= λ b. step_at b.1 >>= λ by. whole by >>= λ w. Some (Do l x.0 a.0 b.0 w)) _
     (name_begins x p.name_text (codes "=" ++ first) p.is_name refl)
     (step_to (param_at first) (a, codes "," ++ last)
-    (λ a. after (codes ",") a.1 >>= λ r2. param_at r2 >>= λ b. step_at b.1 >>= λ by. whole by >>= λ w. Some (Do l x a.0 b.0 w)) _
+    (λ a. after (codes ",") a.1 >>= λ r2. param_at r2 >>= λ b. step_at b.1 >>= λ by. whole by
+    >>= λ w. Some (Do l x a.0 b.0 w)) _
     (param_complete a p.first (codes "," ++ last) p.is_first refl)
     (step_to (param_at last) (b, p.step_text) (λ b. step_at b.1 >>= λ by. whole by >>= λ w. Some (Do l x a b.0 w)) _
     (param_complete b p.last p.step_text p.is_last end.0)
@@ -120,18 +130,21 @@ first_fits t a b c f r h =
     omega arith
 
 -- the first word, the label and the name are letters and digits
-counted_bytes : (l : ℕ) (x : Name) (u v : List ℕ) → label l u → name x v → list_all is_name_byte (codes "DO" ++ (u ++ v)) ≡ true
+counted_bytes : (l : ℕ) (x : Name) (u v : List ℕ) → label l u → name x v
+    → list_all is_name_byte (codes "DO" ++ (u ++ v)) ≡ true
 counted_bytes l x u v h k =
     all_joined is_name_byte (codes "DO") (u ++ v) refl
     (all_joined is_name_byte u v (all_name_bytes u (both_true (starts is_digit u) _ h.0).1) (name_bytes x v k))
 
-pub do_unassigned : (n l : ℕ) (x : Name) (a b : Param) (by : Option Param) (t : List ℕ) → Counts l x a b by t → length t + 1 ≤ n
+pub do_unassigned : (n l : ℕ) (x : Name) (a b : Param) (by : Option Param) (t : List ℕ) → Counts l x a b by t
+    → length t + 1 ≤ n
     → assign n (codes "DO" ++ t) ≡ None
 do_unassigned n l x a b by t h few =
     let p = parts l x a b by t h in
     let e = param_expression a p.first p.is_first in
     let last = p.last ++ p.step_text in
     let size = first_fits t p.label_text p.name_text [] p.first (codes "," ++ last) p.same in
-    ap (assign n) (ap (λ y. codes "DO" ++ y) p.same ∙ behind_do p.label_text p.name_text (codes "=" ++ (p.first ++ (codes "," ++ last))))
+    ap (assign n) (ap (λ y. codes "DO" ++ y) p.same
+    ∙ behind_do p.label_text p.name_text (codes "=" ++ (p.first ++ (codes "," ++ last))))
     ∙ counted_unassigned n (codes "DO" ++ (p.label_text ++ p.name_text)) e.0 p.first last
     (counted_bytes l x p.label_text p.name_text p.is_label p.is_name) e.1 (omega arith)

@@ -70,7 +70,8 @@ go_to_spelled d t s h =
 opened : {P : Texts} (t r : List ℕ) → Begun P t r → Begun (λ x. (just (codes "(") ⨾ P) x) (codes "(" ++ t) r
 opened t r b = (codes "(" ++ b.0, ap (λ x. codes "(" ++ x) b.1, (codes "(", b.0, refl, refl, b.2))
 
-computed_spelled : (d : Dialect) (n : ℕ) (t : List ℕ) (s : Stmt) → computed n t ≡ Some s → IsCarriedForm d s (codes "GOTO(" ++ t)
+computed_spelled : (d : Dialect) (n : ℕ) (t : List ℕ) (s : Stmt) → computed n t ≡ Some s
+    → IsCarriedForm d s (codes "GOTO(" ++ t)
 unfolding computed
 computed_spelled d n t s h =
     let ls = first_step (rest_of_brackets label_at n t) _ s h in
@@ -80,18 +81,21 @@ computed_spelled d n t s h =
     subst (λ y. IsCarriedForm d y (codes "GOTO(" ++ t)) (same_Some (Computed ls.0.0 w.0) s w.2) (
       refl,
       word_and_rest (codes "GOTO") (codes "(" ++ t)
-          (first_of_all (codes "(" ++ t) ls.0.1 (opened t ls.0.1 (rest_spelled label_at label label_begun n t ls.0 ls.1))
+          (first_of_all (codes "(" ++ t) ls.0.1
+          (opened t ls.0.1 (rest_spelled label_at label label_begun n t ls.0 ls.1))
           (word_then (codes ",") ls.0.1 r.0 r.1 (ended name r.0 x.0 w.0 w.1 (name_begun r.0 x.0 x.1)))),
     )
 
 jump_spelled : (d : Dialect) (n : ℕ) (t : List ℕ) (s : Stmt) → jump n t ≡ Some s → IsCarriedForm d s (codes "GOTO" ++ t)
 unfolding jump
 jump_spelled d n t s h = elim (by_test (begins (codes "(") t) _ _ (Some s) h) [
-  | inl p ↦ subst (λ y. IsCarriedForm d s (codes "GOTO" ++ y)) (sym (begun (codes "(") t p.0)) (computed_spelled d n (drop 1 t) s p.1)
+  | inl p ↦ subst (λ y. IsCarriedForm d s (codes "GOTO" ++ y)) (sym (begun (codes "(") t p.0))
+      (computed_spelled d n (drop 1 t) s p.1)
   | inr p ↦ go_to_spelled d t s p.1
 ]
 
-some_actuals : (es : List Expr) (x : List ℕ) → (just (codes "(") ⨾ arguments (row_of es) ⨾ just (codes ")")) x → actuals es x
+some_actuals : (es : List Expr) (x : List ℕ) → (just (codes "(") ⨾ arguments (row_of es) ⨾ just (codes ")")) x
+    → actuals es x
 some_actuals [] x p = absurd (p.4).3
 some_actuals (e ∷ es) x p = p
 
@@ -99,7 +103,8 @@ actuals_spelled : (n : ℕ) → IsSound (actuals_at n) actuals
 unfolding actuals_at
 actuals_spelled n t z h = elim (by_test (begins (codes "(") t) _ (Some ([], t)) (Some z) h) [
   | inl p ↦
-      let b = followed _ _ t (drop 1 t) z.1 (codes "(", begun (codes "(") t p.0, refl) (arguments_spelled n n (drop 1 t) z.0 z.1 p.1) in
+      let b = followed _ _ t (drop 1 t) z.1 (codes "(", begun (codes "(") t p.0, refl)
+      (arguments_spelled n n (drop 1 t) z.0 z.1 p.1) in
       (b.0, b.1, some_actuals z.0 b.0 b.2)
   | inr p ↦ subst (λ y. Begun (actuals y.0) t y.1) (same_Some ([], t) z p.1) ([], refl, refl)
 ]
@@ -113,17 +118,22 @@ call_spelled d n t s h =
     subst (λ y. IsCarriedForm d y (codes "CALL" ++ t)) (same_Some (Call f.0.0 w.0) s w.2) (
       refl,
       word_and_rest (codes "CALL") t
-          (first_of_all t f.0.1 (name_begun t f.0 f.1) (ended actuals f.0.1 es.0 w.0 w.1 (actuals_spelled n f.0.1 es.0 es.1))),
+          (first_of_all t f.0.1 (name_begun t f.0 f.1)
+          (ended actuals f.0.1 es.0 w.0 w.1 (actuals_spelled n f.0.1 es.0 es.1))),
     )
 
-carried_word : (d : Dialect) (w t : List ℕ) (y s : Stmt) → is_word w t ≡ true → Some y ≡ Some s → IsCarriedForm d y w → IsCarriedForm d s t
-carried_word d w t y s h same p = subst (λ u. IsCarriedForm d u t) (same_Some y s same) (subst (IsCarriedForm d y) (sym (word_so w t h)) p)
+carried_word : (d : Dialect) (w t : List ℕ) (y s : Stmt) → is_word w t ≡ true → Some y ≡ Some s → IsCarriedForm d y w
+    → IsCarriedForm d s t
+carried_word d w t y s h same p = subst (λ u. IsCarriedForm d u t) (same_Some y s same)
+    (subst (IsCarriedForm d y) (sym (word_so w t h)) p)
 
-carried_behind : (d : Dialect) (w t : List ℕ) (s : Stmt) → begins w t ≡ true → IsCarriedForm d s (w ++ drop (length w) t) → IsCarriedForm d s t
+carried_behind : (d : Dialect) (w t : List ℕ) (s : Stmt) → begins w t ≡ true
+    → IsCarriedForm d s (w ++ drop (length w) t) → IsCarriedForm d s t
 carried_behind d w t s h p = subst (IsCarriedForm d s) (sym (begun w t h)) p
 
 words_spelled : (d : Dialect) (t : List ℕ) (s : Stmt)
-    → (if is_word (codes "CONTINUE") t then Some Continue else if is_word (codes "RETURN") t then Some Return else None) ≡ Some s → IsCarriedForm d s t
+    → (if is_word (codes "CONTINUE") t then Some Continue else if is_word (codes "RETURN") t then Some Return
+    else None) ≡ Some s → IsCarriedForm d s t
 words_spelled d t s h = elim (by_test (is_word (codes "CONTINUE") t) (Some Continue) _ (Some s) h) [
   | inl p ↦ carried_word d (codes "CONTINUE") t Continue s p.0 p.1 (refl, refl)
   | inr p ↦
@@ -133,7 +143,8 @@ words_spelled d t s h = elim (by_test (is_word (codes "CONTINUE") t) (Some Conti
 
 call_or_word : (d : Dialect) (n : ℕ) (t : List ℕ) (s : Stmt)
     → (if begins (codes "CALL") t then call n (drop 4 t)
-    else if is_word (codes "CONTINUE") t then Some Continue else if is_word (codes "RETURN") t then Some Return else None) ≡ Some s
+    else if is_word (codes "CONTINUE") t then Some Continue else if is_word (codes "RETURN") t then Some Return
+    else None) ≡ Some s
     → IsCarriedForm d s t
 call_or_word d n t s h = elim (by_test (begins (codes "CALL") t) (call n (drop 4 t)) _ (Some s) h) [
   | inl p ↦ carried_behind d (codes "CALL") t s p.0 (call_spelled d n (drop 4 t) s p.1)
@@ -149,7 +160,8 @@ plain_spelled d n t s h = elim (by_test (begins (codes "GOTO") t) (jump n (drop 
 
 -- ---- conditions
 
-condition_spelled : (n : ℕ) (t : List ℕ) (z : Expr × List ℕ) → condition_at n t ≡ Some z → Begun (condition z.0) (codes "(" ++ t) z.1
+condition_spelled : (n : ℕ) (t : List ℕ) (z : Expr × List ℕ) → condition_at n t ≡ Some z
+    → Begun (condition z.0) (codes "(" ++ t) z.1
 unfolding condition_at
 condition_spelled n t z h =
     let e = first_step (parse n 0 t) _ z h in
@@ -157,7 +169,8 @@ condition_spelled n t z h =
     subst (λ y. Begun (condition y.0) (codes "(" ++ t) y.1) (same_Some (e.0.0, r.0) z r.2)
     (opened t r.0 (followed _ _ t e.0.1 r.0 (whole_spelled n t e.0.0 e.0.1 e.1) (word_begun (codes ")") e.0.1 r.0 r.1)))
 
-three_labels : (d : Dialect) (e : Expr) (t u : List ℕ) (s : Stmt) → arith_if e t ≡ Some s → Begun (condition e) u t → IsCarriedForm d s (codes "IF" ++ u)
+three_labels : (d : Dialect) (e : Expr) (t u : List ℕ) (s : Stmt) → arith_if e t ≡ Some s → Begun (condition e) u t
+    → IsCarriedForm d s (codes "IF" ++ u)
 unfolding arith_if
 three_labels d e t u s h c =
     let l = first_step (label_at t) _ s h in
@@ -176,7 +189,8 @@ three_labels d e t u s h c =
           (word_then (codes ",") m.0.1 r2.0 r2.1 (ended label r2.0 k.0 w.0 w.1 (label_begun r2.0 k.0 k.1))))))),
     )
 
-carried_if_spelled : (d : Dialect) (n : ℕ) (t : List ℕ) (s : Stmt) → carried_if n t ≡ Some s → IsCarriedForm d s (codes "IF(" ++ t)
+carried_if_spelled : (d : Dialect) (n : ℕ) (t : List ℕ) (s : Stmt) → carried_if n t ≡ Some s
+    → IsCarriedForm d s (codes "IF(" ++ t)
 unfolding carried_if
 carried_if_spelled d n t s h =
     let e = first_step (condition_at n t) _ s h in
@@ -201,21 +215,25 @@ only_77 : (d : Dialect) (P : Texts) (t : List ℕ) → is_77 d ≡ true → P t 
 only_77 CommonForms P t h p = absurd cc
 only_77 SeventySeven P t h p = p
 
-then_spelled : (d : Dialect) (e : Expr) (t u : List ℕ) (s : Stmt) → (is_77 d && is_word (codes "THEN") t) ≡ true → Some (BlockIf e) ≡ Some s → Begun (condition e) u t
+then_spelled : (d : Dialect) (e : Expr) (t u : List ℕ) (s : Stmt) → (is_77 d && is_word (codes "THEN") t) ≡ true
+    → Some (BlockIf e) ≡ Some s → Begun (condition e) u t
     → form d s (codes "IF" ++ u)
 then_spelled d e t u s h same c =
     let p = both_true (is_77 d) _ h in
     subst (λ y. form d y (codes "IF" ++ u)) (same_Some (BlockIf e) s same)
-    (only_77 d _ (codes "IF" ++ u) p.0 (word_and_rest (codes "IF") u (first_of_all u t c (word_so (codes "THEN") t p.1))))
+    (only_77 d _ (codes "IF" ++ u) p.0
+    (word_and_rest (codes "IF") u (first_of_all u t c (word_so (codes "THEN") t p.1))))
 
-carrying_spelled : (d : Dialect) (n : ℕ) (e : Expr) (t u : List ℕ) (s : Stmt) → (carried n t >>= λ y. Some (LogicalIf e y)) ≡ Some s → Begun (condition e) u t
+carrying_spelled : (d : Dialect) (n : ℕ) (e : Expr) (t u : List ℕ) (s : Stmt)
+    → (carried n t >>= λ y. Some (LogicalIf e y)) ≡ Some s → Begun (condition e) u t
     → form d s (codes "IF" ++ u)
 carrying_spelled d n e t u s h c =
     let y = first_step (carried n t) (λ y. Some (LogicalIf e y)) s h in
     subst (λ y. form d y (codes "IF" ++ u)) (sym (logical_tree e y.0) ∙ same_Some (LogicalIf e y.0) s y.2)
     (word_and_rest (codes "IF") u (first_of_all u t c (carried_spelled d n t y.0 y.1)))
 
-behind_condition_spelled : (d : Dialect) (n : ℕ) (e : Expr) (t u : List ℕ) (s : Stmt) → behind_condition d n e t ≡ Some s → Begun (condition e) u t
+behind_condition_spelled : (d : Dialect) (n : ℕ) (e : Expr) (t u : List ℕ) (s : Stmt)
+    → behind_condition d n e t ≡ Some s → Begun (condition e) u t
     → form d s (codes "IF" ++ u)
 unfolding behind_condition
 behind_condition_spelled d n e t u s h c = elim (by_test (starts is_digit t) (arith_if e t) _ (Some s) h) [
@@ -232,7 +250,8 @@ if_spelled d n t s h =
     let e = first_step (condition_at n t) _ s h in
     behind_condition_spelled d n e.0.0 e.0.1 (codes "(" ++ t) s e.2 (condition_spelled n t e.0 e.1)
 
-else_if_spelled : (d : Dialect) (n : ℕ) (t : List ℕ) (s : Stmt) → is_77 d ≡ true → else_if n t ≡ Some s → form d s (codes "ELSEIF(" ++ t)
+else_if_spelled : (d : Dialect) (n : ℕ) (t : List ℕ) (s : Stmt) → is_77 d ≡ true → else_if n t ≡ Some s
+    → form d s (codes "ELSEIF(" ++ t)
 unfolding else_if
 else_if_spelled d n t s h7 h =
     let e = first_step (condition_at n t) _ s h in
@@ -242,15 +261,19 @@ else_if_spelled d n t s h7 h =
     (word_and_rest (codes "ELSEIF") (codes "(" ++ t)
     (first_of_all (codes "(" ++ t) e.0.1 (condition_spelled n t e.0 e.1) (word_so (codes "THEN") e.0.1 p.0))))
 
-word_spelled : (d : Dialect) (w t : List ℕ) (y s : Stmt) → is_word w t ≡ true → Some y ≡ Some s → form d y w → form d s t
-word_spelled d w t y s h same p = subst (λ u. form d u t) (same_Some y s same) (subst (form d y) (sym (word_so w t h)) p)
+word_spelled : (d : Dialect) (w t : List ℕ) (y s : Stmt) → is_word w t ≡ true → Some y ≡ Some s → form d y w
+    → form d s t
+word_spelled d w t y s h same p = subst (λ u. form d u t) (same_Some y s same)
+    (subst (form d y) (sym (word_so w t h)) p)
 
-block_part_spelled : (d : Dialect) (n : ℕ) (t : List ℕ) (s : Stmt) → is_77 d ≡ true → block_part n t ≡ Some s → form d s t
+block_part_spelled : (d : Dialect) (n : ℕ) (t : List ℕ) (s : Stmt) → is_77 d ≡ true → block_part n t ≡ Some s
+    → form d s t
 unfolding block_part
 block_part_spelled d n t s h7 h = elim (by_test (is_word (codes "ELSE") t) (Some Else) _ (Some s) h) [
   | inl p ↦ word_spelled d (codes "ELSE") t Else s p.0 p.1 (only_77 d (just (codes "ELSE")) (codes "ELSE") h7 refl)
   | inr p ↦ elim (by_test (is_word (codes "ENDIF") t) (Some EndIf) _ (Some s) p.1) [
-    | inl q ↦ word_spelled d (codes "ENDIF") t EndIf s q.0 q.1 (only_77 d (just (codes "ENDIF")) (codes "ENDIF") h7 refl)
+    | inl q ↦ word_spelled d (codes "ENDIF") t EndIf s q.0 q.1
+        (only_77 d (just (codes "ENDIF")) (codes "ENDIF") h7 refl)
     | inr q ↦
         let r = when_passed (begins (codes "ELSEIF(") t) (else_if n (drop 7 t)) s q.1 in
         behind_word d (codes "ELSEIF(") t s r.0 (else_if_spelled d n (drop 7 t) s h7 r.1)
@@ -261,24 +284,26 @@ block_part_spelled d n t s h7 h = elim (by_test (is_word (codes "ELSE") t) (Some
 
 param_spelled : IsSound param_at param
 unfolding param_at
-param_spelled t z h = elim (by_test (starts is_digit t) (constant_at t >>= λ c. Some (parameter.Fixed c.0, c.1)) (name_at t >>= λ x. Some (parameter.Named x.0, x.1)) (Some z) h) [
-  | inl p ↦
-      let c = first_step (constant_at t) (λ c. Some (parameter.Fixed c.0, c.1)) z p.1 in
-      subst (λ y. Begun (param y.0) t y.1) (same_Some (parameter.Fixed c.0.0, c.0.1) z c.2) (constant_begun t c.0 c.1)
-  | inr p ↦
-      let x = first_step (name_at t) (λ x. Some (parameter.Named x.0, x.1)) z p.1 in
-      subst (λ y. Begun (param y.0) t y.1) (same_Some (parameter.Named x.0.0, x.0.1) z x.2) (name_begun t x.0 x.1)
-]
+param_spelled t z h = elim (by_test (starts is_digit t) (constant_at t
+    >>= λ c. Some (parameter.Fixed c.0, c.1)) (name_at t >>= λ x. Some (parameter.Named x.0, x.1)) (Some z) h) [
+      | inl p ↦
+          let c = first_step (constant_at t) (λ c. Some (parameter.Fixed c.0, c.1)) z p.1 in
+          subst (λ y. Begun (param y.0) t y.1) (same_Some (parameter.Fixed c.0.0, c.0.1) z c.2) (constant_begun t c.0 c.1)
+      | inr p ↦
+          let x = first_step (name_at t) (λ x. Some (parameter.Named x.0, x.1)) z p.1 in
+          subst (λ y. Begun (param y.0) t y.1) (same_Some (parameter.Named x.0.0, x.0.1) z x.2) (name_begun t x.0 x.1)
+    ]
 
 step_spelled : IsSound step_at step
 unfolding step_at
-step_spelled t z h = elim (by_test (begins (codes ",") t) (param_at (drop 1 t) >>= λ p. Some (Some p.0, p.1)) (Some (None, t)) (Some z) h) [
-  | inl p ↦
-      let q = first_step (param_at (drop 1 t)) (λ p. Some (Some p.0, p.1)) z p.1 in
-      subst (λ y. Begun (step y.0) t y.1) (same_Some (Some q.0.0, q.0.1) z q.2)
-      (followed _ _ t (drop 1 t) q.0.1 (codes ",", begun (codes ",") t p.0, refl) (param_spelled (drop 1 t) q.0 q.1))
-  | inr p ↦ subst (λ y. Begun (step y.0) t y.1) (same_Some (None, t) z p.1) ([], refl, refl)
-]
+step_spelled t z h = elim (by_test (begins (codes ",") t) (param_at (drop 1 t)
+    >>= λ p. Some (Some p.0, p.1)) (Some (None, t)) (Some z) h) [
+      | inl p ↦
+          let q = first_step (param_at (drop 1 t)) (λ p. Some (Some p.0, p.1)) z p.1 in
+          subst (λ y. Begun (step y.0) t y.1) (same_Some (Some q.0.0, q.0.1) z q.2)
+          (followed _ _ t (drop 1 t) q.0.1 (codes ",", begun (codes ",") t p.0, refl) (param_spelled (drop 1 t) q.0 q.1))
+      | inr p ↦ subst (λ y. Begun (step y.0) t y.1) (same_Some (None, t) z p.1) ([], refl, refl)
+    ]
 
 do_spelled : (d : Dialect) (t : List ℕ) (s : Stmt) → do_of t ≡ Some s → form d s (codes "DO" ++ t)
 unfolding do_of

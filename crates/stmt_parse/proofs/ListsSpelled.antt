@@ -19,20 +19,24 @@ one_more : {A : Type 0} (P : A → Texts) (xs : List A) (t : List ℕ) (x : A ×
 one_more P xs t x z comma first more = (
   x.0 ∷ more.0,
   more.1 ∙ append_assoc xs (x.0 ∷ []) more.0,
-  followed _ _ t (drop 1 t) z.1 (codes ",", begun (codes ",") t comma, refl) (followed _ _ (drop 1 t) x.1 z.1 first more.2),
+  followed _ _ t (drop 1 t) z.1 (codes ",", begun (codes ",") t comma, refl)
+      (followed _ _ (drop 1 t) x.1 z.1 first more.2),
 )
 
-no_more : {A : Type 0} (P : A → Texts) (xs : List A) (t : List ℕ) (z : List A × List ℕ) → Some (xs, t) ≡ Some z → More P xs t z
+no_more : {A : Type 0} (P : A → Texts) (xs : List A) (t : List ℕ) (z : List A × List ℕ) → Some (xs, t) ≡ Some z
+    → More P xs t z
 no_more P xs t z h = subst (More P xs t) (same_Some (xs, t) z h) ([], sym (append-nil xs), ([], refl, refl))
 
 more_spelled : {A : Type 0} (read : Reader A) (P : A → Texts) → IsSound read P
     → (n : ℕ) (xs : List A) (t : List ℕ) (z : List A × List ℕ) → more_of read n xs t ≡ Some z → More P xs t z
 more_spelled read P sound zero xs t z h = absurd cc
 more_spelled read P sound (suc n) xs t z h =
-    elim (by_test (begins (codes ",") t) (read (drop 1 t) >>= λ x. more_of read n (xs ++ x.0 ∷ []) x.1) (Some (xs, t)) (Some z) h) [
+    elim (by_test (begins (codes ",") t) (read (drop 1 t)
+    >>= λ x. more_of read n (xs ++ x.0 ∷ []) x.1) (Some (xs, t)) (Some z) h) [
       | inl p ↦
           let x = first_step (read (drop 1 t)) (λ x. more_of read n (xs ++ x.0 ∷ []) x.1) z p.1 in
-          one_more P xs t x.0 z p.0 (sound (drop 1 t) x.0 x.1) (more_spelled read P sound n (xs ++ x.0.0 ∷ []) x.0.1 z x.2)
+          one_more P xs t x.0 z p.0 (sound (drop 1 t) x.0 x.1)
+          (more_spelled read P sound n (xs ++ x.0.0 ∷ []) x.0.1 z x.2)
       | inr p ↦ no_more P xs t z p.1
     ]
 
@@ -45,15 +49,18 @@ list_spelled read P sound n t z h =
     subst (λ l. Begun (listed P l) t z.1) (sym m.1) (followed _ _ t x.0.1 z.1 (sound t x.0 x.1) m.2)
 
 pub rest_spelled : {A : Type 0} (read : Reader A) (P : A → Texts) → IsSound read P
-    → (n : ℕ) (t : List ℕ) (z : List A × List ℕ) → rest_of_brackets read n t ≡ Some z → Begun (listed P z.0 ⨾ just (codes ")")) t z.1
+    → (n : ℕ) (t : List ℕ) (z : List A × List ℕ) → rest_of_brackets read n t ≡ Some z
+    → Begun (listed P z.0 ⨾ just (codes ")")) t z.1
 unfolding rest_of_brackets
 rest_spelled read P sound n t z h =
     let xs = first_step (list_of read n t) (λ xs. after (codes ")") xs.1 >>= λ rest. Some (xs.0, rest)) z h in
     let rest = first_step (after (codes ")") xs.0.1) (λ rest. Some (xs.0.0, rest)) z xs.2 in
     subst (λ y. Begun (listed P y.0 ⨾ just (codes ")")) t y.1) (same_Some (xs.0.0, rest.0) z rest.2)
-    (followed _ _ t xs.0.1 rest.0 (list_spelled read P sound n t xs.0 xs.1) (word_begun (codes ")") xs.0.1 rest.0 rest.1))
+    (followed _ _ t xs.0.1 rest.0 (list_spelled read P sound n t xs.0 xs.1)
+    (word_begun (codes ")") xs.0.1 rest.0 rest.1))
 
-in_both : {A : Type 0} (P : A → Texts) (xs : List A) (t r : List ℕ) → begins (codes "(") t ≡ true → Begun (listed P xs ⨾ just (codes ")")) (drop 1 t) r → Begun (in_brackets P xs) t r
+in_both : {A : Type 0} (P : A → Texts) (xs : List A) (t r : List ℕ) → begins (codes "(") t ≡ true
+    → Begun (listed P xs ⨾ just (codes ")")) (drop 1 t) r → Begun (in_brackets P xs) t r
 in_both P [] t r opened b = absurd (b.2).3
 in_both P (x ∷ xs) t r opened b = followed _ _ t (drop 1 t) r (codes "(", begun (codes "(") t opened, refl) b
 

@@ -49,7 +49,8 @@ name_no_digit (b ∷ x) r k = no_letter b (both_true _ _ (both_true _ _ k).0).0
 
 -- ---- steps
 
-pub step_to : {A B : Type 0} (m : Option A) (x : A) (next : A → Option B) (y : Option B) → m ≡ Some x → next x ≡ y → (m >>= next) ≡ y
+pub step_to : {A B : Type 0} (m : Option A) (x : A) (next : A → Option B) (y : Option B) → m ≡ Some x → next x ≡ y
+    → (m >>= next) ≡ y
 step_to m x next y h k = ap (λ o. o >>= next) h ∙ k
 
 pub lengths : (t a v : List ℕ) → t ≡ a ++ v → length t ≡ length a + length v

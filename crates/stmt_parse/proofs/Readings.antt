@@ -34,7 +34,8 @@ pub word_so : (w t : List ℕ) → is_word w t ≡ true → t ≡ w
 word_so w t h =
     let p = both_true (begins w t) _ h in
     let e = begun w t p.0 in
-    e ∙ ap (λ r. w ++ r) (none_behind w (drop (length w) t) (sym (ap length e) ∙ same_length (length t) (length w) p.1)) ∙ append-nil w
+    e ∙ ap (λ r. w ++ r) (none_behind w (drop (length w) t) (sym (ap length e)
+    ∙ same_length (length t) (length w) p.1)) ∙ append-nil w
 
 -- ---- texts one behind another
 
@@ -46,7 +47,8 @@ last P t [] x w h b = subst (λ y. P y t) (same_Some x w h) (subst (P x) (sym (b
 last P t (c ∷ r) x w h b = absurd (none-some w h)
 
 -- what was read is the whole text
-pub ended : {A : Type 0} (P : A → Texts) (t : List ℕ) (z : A × List ℕ) (w : A) → whole z ≡ Some w → Begun (P z.0) t z.1 → P w t
+pub ended : {A : Type 0} (P : A → Texts) (t : List ℕ) (z : A × List ℕ) (w : A) → whole z ≡ Some w → Begun (P z.0) t z.1
+    → P w t
 ended P t z w h b = last P t z.1 z.0 w h b
 
 -- a text is put together

@@ -37,5 +37,8 @@ label_begun t z h =
     let o = when_refused (spelled (take n t) == 0) _ z q.1 in
     let least = few n t in
     let most = not_over n q.0 in
-    subst (λ y. Begun (label y.0) t y.1) (same_Some (spelled (take n t), drop n t) z o.1)
-    (take n t, sym (take-append-drop n t), (p.0, (let e : length (take n t) ≤ 5 = omega arith in e), refl, some_left (spelled (take n t)) o.0))
+    subst (λ y. Begun (label y.0) t y.1) (same_Some (spelled (take n t), drop n t) z o.1) (
+      take n t,
+      sym (take-append-drop n t),
+      (p.0, (let e : length (take n t) ≤ 5 = omega arith in e), refl, some_left (spelled (take n t)) o.0),
+    )

@@ -39,7 +39,8 @@ second_false true y h = h
 second_false false y h = refl
 
 long_no_name : (x : List ℕ) → 6 < length x → is_name x ≡ false
-long_no_name x h = second_false (starts is_letter x && list_all is_name_byte x) (nat_le (length x) 6) (grind (arith, nat_tests))
+long_no_name x h = second_false (starts is_letter x && list_all is_name_byte x) (nat_le (length x) 6)
+    (grind (arith, nat_tests))
 
 -- more than six letters and digits are no name
 pub name_missing : (w r : List ℕ) → list_all is_name_byte w ≡ true → 6 < length w → name_at (w ++ r) ≡ None
@@ -48,14 +49,16 @@ name_missing w r h long =
     let k = run_length is_name_byte r in
     let size = length-append w (take k r) in
     ap (λ n. name_of_length n (w ++ r)) (run_more is_name_byte w r h)
-    ∙ when_false (is_name (take (length w + k) (w ++ r))) _ None (ap is_name (take_more k w r) ∙ long_no_name (w ++ take k r) (omega arith))
+    ∙ when_false (is_name (take (length w + k) (w ++ r))) _ None (ap is_name (take_more k w r)
+    ∙ long_no_name (w ++ take k r) (omega arith))
 
 run_none : (p : ℕ → Bool) (r : List ℕ) → starts p r ≡ false → run_length p r ≡ 0
 run_none p [] h = refl
 run_none p (b ∷ r) h = when_false (p b) _ _ h
 
 -- what is no name is not read as one
-name_refused : (w r : List ℕ) → list_all is_name_byte w ≡ true → starts is_name_byte r ≡ false → is_name w ≡ false → name_at (w ++ r) ≡ None
+name_refused : (w r : List ℕ) → list_all is_name_byte w ≡ true → starts is_name_byte r ≡ false → is_name w ≡ false
+    → name_at (w ++ r) ≡ None
 unfolding name_at
 name_refused w r h apart unlike =
     let none = run_none is_name_byte r apart in
@@ -70,7 +73,8 @@ none_then m next h = ap (λ o. o >>= next) h
 
 -- what stands behind the left side of an assignment
 abbrev right_side : ℕ → Expr × List ℕ → Option Stmt
-right_side n left = after (codes "=") left.1 >>= λ rest. parse n 0 rest >>= λ right. whole right >>= λ w. Some (Assign left.0 w)
+right_side n left = after (codes "=") left.1 >>= λ rest. parse n 0 rest >>= λ right. whole right
+    >>= λ w. Some (Assign left.0 w)
 
 unnamed : (n : ℕ) (t : List ℕ) → name_at t ≡ None → assign n t ≡ None
 unfolding assign left_at
@@ -79,11 +83,14 @@ unnamed n t h = none_then (left_at n t) (right_side n) (none_then (name_at t) (�
 pub long_unassigned : (n : ℕ) (w r : List ℕ) → list_all is_name_byte w ≡ true → 6 < length w → assign n (w ++ r) ≡ None
 long_unassigned n w r h long = unnamed n (w ++ r) (name_missing w r h long)
 
-behind_name : (n : ℕ) (w r : List ℕ) → is_name w ≡ true → starts is_name_byte r ≡ false → (named (parse n) n w r >>= right_side n) ≡ None → assign n (w ++ r) ≡ None
+behind_name : (n : ℕ) (w r : List ℕ) → is_name w ≡ true → starts is_name_byte r ≡ false
+    → (named (parse n) n w r >>= right_side n) ≡ None → assign n (w ++ r) ≡ None
 unfolding assign left_at
-behind_name n w r h apart k = ap (λ o. (o >>= λ x. named (parse n) n x.0 x.1) >>= right_side n) (name_read w r h apart) ∙ k
+behind_name n w r h apart k = ap (λ o. (o >>= λ x. named (parse n) n x.0 x.1)
+    >>= right_side n) (name_read w r h apart) ∙ k
 
-by_name : (b : Bool) (n : ℕ) (w r : List ℕ) → is_name w ≡ b → list_all is_name_byte w ≡ true → starts is_name_byte r ≡ false
+by_name : (b : Bool) (n : ℕ) (w r : List ℕ) → is_name w ≡ b → list_all is_name_byte w ≡ true
+    → starts is_name_byte r ≡ false
     → (is_name w ≡ true → (named (parse n) n w r >>= right_side n) ≡ None) → assign n (w ++ r) ≡ None
 by_name true n w r e h apart k = behind_name n w r e apart (k e)
 by_name false n w r e h apart k = unnamed n (w ++ r) (name_refused w r h apart e)
@@ -92,14 +99,17 @@ no_equals : (n : ℕ) (e : Expr) (r : List ℕ) → begins (codes "=") r ≡ fal
 no_equals n e r h = none_then (after (codes "=") r) _ (when_false (begins (codes "=") r) _ None h)
 
 -- letters and digits alone, with neither a bracket nor `=` behind them
-pub word_unassigned : (n : ℕ) (w r : List ℕ) → list_all is_name_byte w ≡ true → starts is_name_byte r ≡ false → begins (codes "(") r ≡ false → begins (codes "=") r ≡ false
+pub word_unassigned : (n : ℕ) (w r : List ℕ) → list_all is_name_byte w ≡ true → starts is_name_byte r ≡ false
+    → begins (codes "(") r ≡ false → begins (codes "=") r ≡ false
     → assign n (w ++ r) ≡ None
 word_unassigned n w r h apart closed unequal =
     by_name (is_name w) n w r refl h apart
-    (λ _. ap (λ o. o >>= right_side n) (when_false (begins (codes "(") r) _ (Some (Var w, r)) closed) ∙ no_equals n (Var w) r unequal)
+    (λ _. ap (λ o. o >>= right_side n) (when_false (begins (codes "(") r) _ (Some (Var w, r)) closed)
+    ∙ no_equals n (Var w) r unequal)
 
 -- letters and digits with arguments, and no `=` behind them
-pub call_unassigned : (n : ℕ) (w : List ℕ) (es : List Expr) (u r : List ℕ) → list_all is_name_byte w ≡ true → (arguments (row_of es) ⨾ just (codes ")")) u
+pub call_unassigned : (n : ℕ) (w : List ℕ) (es : List Expr) (u r : List ℕ) → list_all is_name_byte w ≡ true
+    → (arguments (row_of es) ⨾ just (codes ")")) u
     → length u + 1 ≤ n → begins (codes "=") r ≡ false → assign n (w ++ (codes "(" ++ (u ++ r))) ≡ None
 call_unassigned n w es u r h args few unequal =
     let size : length u ≤ n = omega arith in
@@ -109,11 +119,13 @@ call_unassigned n w es u r h args few unequal =
     ∙ no_equals n (Apply w es) r unequal)
 
 -- letters and digits, and behind `=` an expression that is not all of the rest
-pub counted_unassigned : (n : ℕ) (w : List ℕ) (e : Expr) (u r : List ℕ) → list_all is_name_byte w ≡ true → expression e u → length u + 2 ≤ n
+pub counted_unassigned : (n : ℕ) (w : List ℕ) (e : Expr) (u r : List ℕ) → list_all is_name_byte w ≡ true
+    → expression e u → length u + 2 ≤ n
     → assign n (w ++ (codes "=" ++ (u ++ (codes "," ++ r)))) ≡ None
 counted_unassigned n w e u r h text few =
     by_name (is_name w) n w (codes "=" ++ (u ++ (codes "," ++ r))) refl h refl
-    (λ _. ap (λ o. o >>= λ right. whole right >>= λ y. Some (Assign (Var w) y)) (spelled_parsed e u (codes "," ++ r) n 0 text (omega arith) few refl))
+    (λ _. ap (λ o. o >>= λ right. whole right
+    >>= λ y. Some (Assign (Var w) y)) (spelled_parsed e u (codes "," ++ r) n 0 text (omega arith) few refl))
 
 -- ---- labels as arguments
 
@@ -122,7 +134,8 @@ label_expression l u h = (h.0, few_not_long u h.1, h.2)
 
 more_labels : (ls : List ℕ) (u : List ℕ) → more_listed label ls u → more_arguments (row_of (map Const ls)) u
 more_labels [] u h = h
-more_labels (l ∷ ls) u h = let p = h.4 in (h.0, h.1, h.2, h.3, (p.0, p.1, p.2, label_expression l p.0 p.3, more_labels ls p.1 p.4))
+more_labels (l ∷ ls) u h = let p = h.4 in
+    (h.0, h.1, h.2, h.3, (p.0, p.1, p.2, label_expression l p.0 p.3, more_labels ls p.1 p.4))
 
 pub labels_arguments : (ls : List ℕ) (u : List ℕ) → listed label ls u → arguments (row_of (map Const ls)) u
 labels_arguments [] u h = h
