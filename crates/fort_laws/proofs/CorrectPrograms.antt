@@ -1,25 +1,17 @@
 -- Programs whose conditions are valid are totally correct, also on lazy processors.
-use Rattle.std.proofs.Common.{◌≡◌, ℕ, ◌+◌, Bool, true, false, ◌&&◌, List, [], ◌∷◌, Some, slice_get, refl, sym, ap, ◌∙◌, subst}
+use Rattle.std.proofs.Common.{◌≡◌, ◌+◌, Bool, true, false, ◌&&◌, List, [], ◌∷◌, refl, sym, ap, ◌∙◌, subst}
 use Rattle.std.specs.List.{list_all}
 use Rattle.formula.specs.declared.value.Cell.{Cell}
 use Rattle.fort_syntax.specs.declared.dialect.Sort.{Sort}
 use Rattle.fort_syntax.specs.declared.dialect.Sort.TheVariants.{Integer, Logical}
 use Rattle.fort_syntax.specs.declared.unit.Unit.{Unit as Routine}
-use Rattle.fort_model.specs.Calls.{Calls}
-use Rattle.fort_model.specs.Conditions.{Condition, IsExact, AreValid}
-use Rattle.fort_model.specs.Correct.{EndsWell}
-use Rattle.fort_model.specs.Fits.{IsApart, Fits, has_sort}
+use Rattle.fort_model.specs.Fits.{Fits, has_sort}
 use Rattle.fort_model.specs.Outcome.{Ended}
-use Rattle.fort_model.specs.Processor.{Processor, MeetsBound}
-use Rattle.fort_model.specs.Program.{Program}
-use Rattle.fort_model.specs.Rules.{KeepsRules}
+use Rattle.fort_model.specs.Processor.{Processor}
 use Rattle.fort_model.specs.Run.{run}
-use Rattle.fort_model.specs.Smashes.{HoldsSmashed}
 use Rattle.fort_model.specs.Storage.{Storage, Environment, contents}
 use Rattle.fort_laws.specs.CorrectPrograms.{ProgramsAreCorrect}
-use Rattle.fort_laws.specs.Declared.{AreDeclared}
 use Rattle.fort_laws.specs.Lazy.{lazy_one}
-use Rattle.fort_laws.specs.StrictPrograms.{CallIsDeclared, IsReady}
 use Rattle.fort_laws.proofs.LazyRuns.{lazy_runs_follow_strict_ones}
 use Rattle.fort_laws.proofs.Near.{known}
 use Rattle.fort_laws.proofs.RulesKept.{rules_make_sound, rules_pass_smashed_alone}

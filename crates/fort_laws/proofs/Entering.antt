@@ -1,5 +1,5 @@
 -- A unit that is entered: what its names stand for on a walk is what their cells hold, and what is taken at the entry is true.
-use Rattle.std.proofs.Common.{◌≡◌, ℕ, zero, suc, ◌+◌, ◌-◌, ◌<◌, ◌≤◌, ◌⊎◌, inl, inr, Bool, true, false, cond, not, ◌&&◌, ℤ, pos, neg_ℤ, List, [], ◌∷◌, ◌++◌, map, sum, length, replicate, Option, Some, None, slice_get, refl, sym, ap, ◌∙◌, subst, arith, get_or-append-add}
+use Rattle.std.proofs.Common.{◌≡◌, ℕ, zero, suc, ◌+◌, ◌-◌, ◌<◌, ◌≤◌, ◌⊎◌, inl, inr, Bool, true, false, cond, not, ℤ, pos, neg_ℤ, List, [], ◌∷◌, ◌++◌, sum, length, replicate, Option, Some, None, refl, sym, ap, ◌∙◌, subst, arith, get_or-append-add}
 use Rattle.std.specs.List.{list_all, list_any}
 use Rattle.std.specs.Prelude.{int_le}
 use Rattle.formula.specs.declared.function.BuiltIn.TheVariants.{Defined}
@@ -18,16 +18,15 @@ use Rattle.fort_syntax.specs.declared.unit.Role.TheVariants.{Dummy, InCommon, Ow
 use Rattle.fort_syntax.specs.declared.unit.Unit.{Unit as Routine}
 use Rattle.fort_model.specs.Cells.{num, is_defined}
 use Rattle.fort_model.specs.Correct.{held_in, held_by, held_as, names_hold, IsMet}
-use Rattle.fort_model.specs.Events.{Event, takes}
-use Rattle.fort_model.specs.Fits.{IsVisible, IsApart, HasShape, Fits, is_good_dim, is_positive, has_sort}
+use Rattle.fort_model.specs.Events.{takes}
+use Rattle.fort_model.specs.Fits.{IsApart, Fits, is_good_dim, is_positive, has_sort}
 use Rattle.fort_model.specs.Fitting.{FitsUnit, is_visible_role, no_entry}
 use Rattle.fort_model.specs.Lists.{IsAmong}
-use Rattle.fort_model.specs.Names.{same_name, data_name, dims_in, dims_of, is_own}
+use Rattle.fort_model.specs.Names.{same_name, data_name, dims_in, is_own}
 use Rattle.fort_model.specs.Places.{dim_values, stretch}
 use Rattle.fort_model.specs.Processor.{Processor, MeetsBound}
 use Rattle.fort_model.specs.Program.{Program, notes_of, has_role, commons}
 use Rattle.fort_model.specs.Run.{own_sizes}
-use Rattle.fort_model.specs.Seen.{Named}
 use Rattle.fort_model.specs.Storage.{Storage, Extent, Environment, load, contents}
 use Rattle.fort_model.specs.Symbols.{Symbol, LeastInteger, GreatestInteger, AtEntry, AtStart, ByCall}
 use Rattle.fort_model.specs.Walk.{is_dim, is_some_dim, dim_dummies, dim_facts, entry_symbol, at_entry, entry_facts, bound_facts}
@@ -49,7 +48,6 @@ use Rattle.fort_laws.proofs.FrameEnter.{SameOrNot, same, other, same_or_not, own
 use Rattle.fort_laws.proofs.FrameParts.{one_cell}
 use Rattle.fort_laws.proofs.FrameSeats.{clash, found}
 use Rattle.fort_laws.proofs.InRange.{at_most}
-use Rattle.fort_laws.proofs.Near.{known}
 use Rattle.fort_laws.proofs.Small.{both_parts, filter_passes, some_passes}
 
 -- ---- cells

@@ -1,5 +1,5 @@
 -- Terms of notes that fit a unit are worth the same, where the names that they may name stand for the same.
-use Rattle.std.proofs.Common.{◌≡◌, Bool, true, false, ◌&&◌, ◌||◌, cond, List, [], ◌∷◌, ℕ, map, refl, sym, ap, ◌∙◌}
+use Rattle.std.proofs.Common.{◌≡◌, Bool, true, false, ◌||◌, cond, List, [], ◌∷◌, ℕ, map, refl, sym, ap, ◌∙◌}
 use Rattle.std.specs.List.{list_all}
 use Rattle.std.specs.Prelude.{codes}
 use Rattle.formula.specs.Atoms.{same_bytes}
@@ -11,7 +11,7 @@ use Rattle.fort_syntax.specs.declared.name.Name.{Name}
 use Rattle.fort_syntax.specs.declared.unit.Role.{Role}
 use Rattle.fort_syntax.specs.declared.unit.Unit.{Unit as Routine}
 use Rattle.fort_model.specs.Correct.{bounds_of}
-use Rattle.fort_model.specs.Fitting.{names_pass, row_names_pass, is_bound, may_name}
+use Rattle.fort_model.specs.Fitting.{names_pass, row_names_pass, may_name}
 use Rattle.fort_model.specs.Names.{data_name}
 use Rattle.fort_model.specs.Processor.{Processor}
 use Rattle.fort_model.specs.Program.{has_role}

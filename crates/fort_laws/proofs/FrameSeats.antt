@@ -45,7 +45,7 @@ same_self x = pick (same_or_not x x)
 pub same_is : (x y : Name) → x ≡ y → same_name x y ≡ true
 same_is x y e = subst (λ (z : Name). same_name x z ≡ true) e (same_self x)
 
-found_in : (ds : List DataName) (d : DataName) → ((e : DataName) → IsAmong e ds → e.name ≡ d.name → e ≡ d) → IsAmong d ds → data_name_in ds d.name ≡ Some d
+pub found_in : (ds : List DataName) (d : DataName) → ((e : DataName) → IsAmong e ds → e.name ≡ d.name → e ≡ d) → IsAmong d ds → data_name_in ds d.name ≡ Some d
 found_in [] d one m = absurd (cc)
 found_in (e ∷ ds) d one m = by_name (same_or_not e.name d.name) m (λ r. found_in ds d (λ f k q. one f (suc k.0, k.1) q) r)
   where

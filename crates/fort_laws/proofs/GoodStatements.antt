@@ -1,5 +1,5 @@
 -- Typed statements are good: what they write may be written, where smashed names lie apart.
-use Rattle.std.proofs.Common.{◌≡◌, ℕ, zero, suc, Bool, true, false, ◌⊎◌, inl, inr, List, [], ◌∷◌, Option, Some, None, slice_get, cond, nat_lt, refl, sym, ap, ◌∙◌, subst}
+use Rattle.std.proofs.Common.{◌≡◌, ℕ, suc, Bool, true, false, List, [], ◌∷◌, Some, slice_get, refl, sym, ◌∙◌, subst}
 use Rattle.fort_syntax.specs.declared.name.Name.{Name}
 use Rattle.fort_syntax.specs.declared.dialect.Sort.{Sort}
 use Rattle.fort_syntax.specs.declared.expr.Expr.{Expr}
@@ -12,9 +12,9 @@ use Rattle.fort_syntax.specs.declared.unit.DataName.{DataName}
 use Rattle.fort_syntax.specs.declared.unit.Line.{Line}
 use Rattle.fort_syntax.specs.declared.unit.Unit.{Unit as Routine}
 use Rattle.fort_model.specs.Fits.{IsIn}
-use Rattle.fort_model.specs.Flow.{target, Loop, loops_at, around, loops_around}
+use Rattle.fort_model.specs.Flow.{target, Loop, loops_at, loops_around}
 use Rattle.fort_model.specs.Lists.{IsAmong}
-use Rattle.fort_model.specs.Names.{same_name, data_name, is_function}
+use Rattle.fort_model.specs.Names.{same_name, is_function}
 use Rattle.fort_model.specs.Smashes.{Smashes, sets, set_by, set_name}
 use Rattle.fort_model.specs.Storage.{Environment}
 use Rattle.fort_model.specs.Trees.{carried}

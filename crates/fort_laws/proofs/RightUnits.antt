@@ -1,5 +1,5 @@
 -- A unit whose paths are safe ends well, where the units that it calls do.
-use Rattle.std.proofs.Common.{◌≡◌, ℕ, suc, ◌+◌, ◌<◌, ◌≤◌, ◌⊎◌, inl, inr, Bool, true, false, cond, not, ◌&&◌, List, [], ◌∷◌, map, length, take, Option, Some, None, slice_get, refl, sym, ap, ◌∙◌, subst, arith, get_or-take}
+use Rattle.std.proofs.Common.{◌≡◌, ℕ, suc, ◌+◌, Bool, true, false, cond, not, List, [], ◌∷◌, length, take, Option, Some, None, slice_get, refl, sym, ap, ◌∙◌, subst, arith, get_or-take}
 use Rattle.std.specs.List.{list_all}
 use Rattle.std.specs.Prelude.{is_some}
 use Rattle.formula.specs.declared.value.Cell.{Cell}
@@ -22,7 +22,7 @@ use Rattle.fort_model.specs.Fitting.{FitsUnit, is_visible_role, is_bound, has_en
 use Rattle.fort_model.specs.Lists.{IsAmong}
 use Rattle.fort_model.specs.Names.{data_name, is_function, is_own}
 use Rattle.fort_model.specs.Outcome.{Outcome, Ended, and_then}
-use Rattle.fort_model.specs.Processor.{Processor, MeetsBound}
+use Rattle.fort_model.specs.Processor.{Processor}
 use Rattle.fort_model.specs.Program.{Program, notes_of, has_role, is_local}
 use Rattle.fort_model.specs.Run.{run, own_value, leave}
 use Rattle.fort_model.specs.Storage.{Storage, Environment, load}
@@ -31,7 +31,6 @@ use Rattle.fort_laws.specs.CallLaw.{at_home, HasNames, HoldsName, EndsRight}
 use Rattle.fort_laws.specs.Frame.{IsSoundUnit}
 use Rattle.fort_laws.specs.Matches.{AllTrue}
 use Rattle.fort_laws.specs.UnitLaw.{SafeUnitsAreRight}
-use Rattle.fort_laws.specs.Unfolded.{run_from}
 use Rattle.fort_laws.specs.WholeRuns.{ComesToEnd}
 use Rattle.fort_laws.specs.Ways.{EndsByReturn}
 use Rattle.fort_laws.proofs.CallEntry.{SameCells, held_same, alike_same}
@@ -40,7 +39,7 @@ use Rattle.fort_laws.proofs.CallStood.{stood_named, stood_sorted, stood_size}
 use Rattle.fort_laws.proofs.Entering.{own, begun, begun_placed, entry_values, w, entry_is, entry_stood, entry_true}
 use Rattle.fort_laws.proofs.FittingNotes.{fit_notes}
 use Rattle.fort_laws.proofs.FrameEnter.{visible_env}
-use Rattle.fort_laws.proofs.FrameSeats.{clash, found}
+use Rattle.fort_laws.proofs.FrameSeats.{clash}
 use Rattle.fort_laws.proofs.SafeUnits.{safe_units_end}
 use Rattle.fort_laws.proofs.Small.{both_hold, both_parts}
 use Rattle.fort_laws.proofs.Unfolding.{runs_unfold}
@@ -141,10 +140,11 @@ module _ (program : Program) (p : Processor) (i : ℕ) (u : Routine) (sound : Is
       let o = names.own d.0 d.1 d.3 in
       let same : d.0.sort ≡ q = same_some d.0.sort q (sym o.1 ∙ e) in
       let one = (stood_size program.units i u sound p here r.after r.now r.stood d.0 d.1).0 in
-      let z : (here d.0.name).first + 0 ≡ (here d.0.name).first = omega arith in
-      (sym (ap value.is_defined (ap r.now (sym d.2) ∙ own_ends d.0 d.1 d.3)) ∙ r.value some returns f,
-      ap (has_sort p q) (is_result f ∙ (ap (λ (x : Name). load r.after (here x).first) (sym d.2) ∙ ap (load r.after) (sym z)))
-      ∙ subst (λ (s : Sort). has_sort p s (load r.after ((here d.0.name).first + 0)) ≡ true) same (stood_sorted program.units i u sound p here r.after r.now r.stood d.0 d.1 0 one))
+      let z : (here d.0.name).first + 0 ≡ (here d.0.name).first = omega arith in (
+        sym (ap value.is_defined (ap r.now (sym d.2) ∙ own_ends d.0 d.1 d.3)) ∙ r.value some returns f,
+        ap (has_sort p q) (is_result f ∙ (ap (λ (x : Name). load r.after (here x).first) (sym d.2) ∙ ap (load r.after) (sym z)))
+            ∙ subst (λ (s : Sort). has_sort p s (load r.after ((here d.0.name).first + 0)) ≡ true) same (stood_sorted program.units i u sound p here r.after r.now r.stood d.0 d.1 0 one),
+      )
     where
       same_some : (a b : Sort) → Some a ≡ Some b → a ≡ b
       same_some a b h = cc

@@ -1,17 +1,16 @@
 -- What a program that keeps the rules gives for the runs of its units.
-use Rattle.std.proofs.Common.{◌≡◌, ℕ, Bool, true, false, not, ◌&&◌, ◌||◌, cond, List, [], ◌∷◌, length, Option, Some, None, slice_get, zero, suc, refl, sym, ap, ◌∙◌, subst, arith}
+use Rattle.std.proofs.Common.{◌≡◌, ℕ, Bool, true, false, not, ◌||◌, cond, List, [], ◌∷◌, length, Some, None, slice_get, zero, suc, refl, sym, ap, ◌∙◌, subst, arith}
 use Rattle.std.specs.Prelude.{◌==◌, nat_lt}
 use Rattle.fort_syntax.specs.declared.rule.Rule.TheVariants.{FallsOffEnd, UncutCycle, ClockLength, Recursion}
 use Rattle.fort_syntax.specs.declared.unit.Line.{Line}
 use Rattle.fort_syntax.specs.declared.unit.Unit.{Unit as Routine}
-use Rattle.fort_model.specs.Calls.{Calls, Reaches, directly, through}
+use Rattle.fort_model.specs.Calls.{Reaches, directly, through}
 use Rattle.fort_model.specs.Lists.{IsAmong}
 use Rattle.fort_model.specs.Paths.{AtAssert, cut_at, Edge, Uncut, one, more}
 use Rattle.fort_model.specs.Program.{Program, Assertion, notes_of, assertion_at}
 use Rattle.fort_model.specs.Rules.{KeepsRules, is_bad_clock, bad_clocks, all_clocks, off_end}
 use Rattle.fort_laws.specs.Ways.{IsCutUp}
 use Rattle.fort_laws.proofs.FewSymbols.{numbered, assert_is}
-use Rattle.fort_laws.proofs.FrameSeats.{clash}
 use Rattle.fort_laws.proofs.Near.{known}
 use Rattle.fort_laws.proofs.RulesKept.{more_among}
 

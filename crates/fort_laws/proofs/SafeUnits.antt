@@ -1,5 +1,5 @@
 -- Units of a program end, where the units that they call end well.
-use Rattle.std.proofs.Common.{◌≡◌, ℕ, ◌≤◌, List, [], ◌∷◌, suc, Some, slice_get, refl, sym, subst}
+use Rattle.std.proofs.Common.{ℕ, ◌≤◌, List, [], ◌∷◌, suc, refl, subst}
 use Rattle.formula.specs.declared.value.Value.{Value}
 use Rattle.fort_syntax.specs.declared.name.Name.{Name}
 use Rattle.fort_syntax.specs.declared.stmt.Dim.{Dim}
@@ -7,7 +7,6 @@ use Rattle.fort_syntax.specs.declared.stmt.Dim.TheVariants.{Fixed, Named as Adju
 use Rattle.fort_syntax.specs.declared.unit.DataName.{DataName}
 use Rattle.fort_syntax.specs.declared.unit.Unit.{Unit as Routine}
 use Rattle.fort_model.specs.Lists.{IsAmong}
-use Rattle.fort_model.specs.Names.{data_name}
 use Rattle.fort_model.specs.Processor.{Processor}
 use Rattle.fort_model.specs.Seen.{Named}
 use Rattle.fort_model.specs.Storage.{Storage, Environment}
@@ -35,8 +34,11 @@ module _ (units : List Routine) (i : ℕ) (u : Routine) (sound : IsSoundUnit uni
   scalars d m (Fixed n ∷ ds) among = scalars d m ds (λ x k. among x (suc k.0, k.1))
   scalars d m (Adjustable x ∷ ds) among =
       let a = sound.adjustables d x m (among x (0, refl)) in (
-        (a.has.its, found units i u sound a.has.its a.has.among x a.has.name,
-        subst (λ (z : Name). 1 ≤ (env z).size) a.has.name (stood_size units i u sound p env st now stood a.has.its a.has.among).0),
+        (
+          a.has.its,
+          found units i u sound a.has.its a.has.among x a.has.name,
+          subst (λ (z : Name). 1 ≤ (env z).size) a.has.name (stood_size units i u sound p env st now stood a.has.its a.has.among).0,
+        ),
         scalars d m ds (λ y k. among y (suc k.0, k.1)),
       )
 

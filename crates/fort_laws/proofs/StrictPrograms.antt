@@ -1,5 +1,5 @@
 -- Programs whose conditions are valid are right on strict processors.
-use Rattle.std.proofs.Common.{◌≡◌, ℕ, ◌+◌, false, List, Some, slice_get, refl}
+use Rattle.std.proofs.Common.{◌≡◌, ℕ, ◌+◌, false, List, Some, slice_get}
 use Rattle.fort_syntax.specs.declared.unit.Unit.{Unit as Routine}
 use Rattle.fort_model.specs.Calls.{Calls}
 use Rattle.fort_model.specs.Conditions.{Condition, IsExact, AreValid}

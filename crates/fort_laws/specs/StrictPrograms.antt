@@ -1,5 +1,5 @@
 -- Soundness on strict processors: valid conditions make programs right.
-use Rattle.std.specs.Prelude.{ℕ, ◌≡◌, ◌≢◌, false, List, Some, None, slice_get}
+use Rattle.std.specs.Prelude.{ℕ, ◌≡◌, ◌≢◌, false, List, Some, slice_get}
 use Rattle.formula.specs.declared.value.Cell.TheVariants as cell
 use Rattle.fort_syntax.specs.declared.unit.DataName.{DataName}
 use Rattle.fort_syntax.specs.declared.unit.Line.{Line}
