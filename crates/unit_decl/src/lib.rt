@@ -4,6 +4,7 @@
 mod blocks;
 mod common_rules;
 mod common_table;
+mod deck_faults;
 mod deck_names;
 mod deck_order;
 mod deck_types;
@@ -32,6 +33,7 @@ mod used;
 mod uses;
 
 pub use blocks::block_fault;
+pub use deck_faults::first_fault;
 pub use deck_names::deck_name_fault;
 pub use deck_order::{deck_block_fault, deck_order_fault};
 pub use deck_types::deck_type_fault;
