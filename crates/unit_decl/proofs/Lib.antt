@@ -20,3 +20,4 @@ pub mod UseSteps
 pub mod OnceNames
 pub mod UnitMade
 pub mod NotePlaces
+pub mod EntriesRead

@@ -52,16 +52,17 @@ open_first (line ∷ lines) h = ap pred h
 
 begun_are : (lines : List Line) → begun false lines ≡ length (segments lines)
 begun_are [] = refl
-begun_are (line ∷ lines) = by (class_of line.stmt)
+begun_are (line ∷ lines) = by (class_of line.stmt) (begun_are lines)
   where
-    inner : suc (begun true lines) ≡ length (put_before line (segments lines))
-    inner = ap suc (open_first lines (begun_are lines)) ∙ in_one line (segments lines)
+    inner : begun false lines ≡ length (segments lines) → suc (begun true lines) ≡ length (put_before line (segments lines))
+    inner h = ap suc (open_first lines h) ∙ in_one line (segments lines)
 
-    by : (class : Class) → suc (begun (not (is_ending class)) lines) ≡ length (begun_with class line (segments lines))
-    by Heading = inner
-    by Declaring = inner
-    by Performing = inner
-    by Ending = ap suc (begun_are lines)
+    by : (class : Class) → begun false lines ≡ length (segments lines)
+        → suc (begun (not (is_ending class)) lines) ≡ length (begun_with class line (segments lines))
+    by Heading h = inner h
+    by Declaring h = inner h
+    by Performing h = inner h
+    by Ending h = ap suc h
 
 -- ---- executable statements
 

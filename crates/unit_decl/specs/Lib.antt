@@ -16,3 +16,4 @@ pub mod Roles
 pub mod UnitParts
 pub mod Decks
 pub mod Readings
+pub mod Stub

@@ -1,5 +1,5 @@
 -- Reading the entries of a deck one by one.
-use Rattle.std.specs.Prelude.{ℕ, suc, ◌≡◌, not, Bool, true, false, cond, List, [], ◌∷◌, ◌++◌, map}
+use Rattle.std.specs.Prelude.{ℕ, zero, suc, ◌≡◌, not, Bool, true, false, cond, List, [], ◌∷◌, ◌++◌, map}
 use Rattle.fort_syntax.specs.Units.{Piece, stated, remarked, class_of, is_performing, is_ending}
 use Rattle.fort_syntax.specs.declared.cards.Entry.{Entry}
 use Rattle.fort_syntax.specs.declared.cards.Entry.TheVariants.{Statement, Note}
@@ -32,7 +32,7 @@ passed class s = record {
 
 -- outside the units: 0 before the first, else 1
 abbrev pub line_outside : ℕ → ℕ
-line_outside 0 = 0
+line_outside zero = 0
 line_outside (suc n) = 1
 
 abbrev pub placed_at : Spot → ℕ → List ℕ → Placed

@@ -74,16 +74,23 @@ fn is_executable(line: &Line) -> bool
     line.stmt.class() == Class::Performing
 }
 
+/// Adds a statement behind some.
+pub(crate) fn push_whole(all: &mut Vec<Line>, line: Line) -> Result<(), NoMemory>
+    ensures { OnOk result (all.new.items ≡ all.old.items ++ line ∷ []) }
+{
+    match all.push(line) {
+        Ok(()) => Ok(()),
+        Err(_) => Err(NoMemory),
+    }
+}
+
 fn push_line(alloc: Global, all: &mut Vec<Line>, line: &Line) -> Result<(), NoMemory>
     ensures { OnOk result (all.new.items ≡ all.old.items ++ line.now ∷ []) }
 {
     let Ok(copy) = line.copied(alloc) else {
         return Err(NoMemory);
     };
-    let Ok(()) = all.push(copy) else {
-        return Err(NoMemory);
-    };
-    Ok(())
+    push_whole(all, copy)
 }
 
 /// The executable statements of a unit.
