@@ -17,15 +17,6 @@ use Rattle.unit_decl.specs.Readings.{top, passed, placed_at, notes_at, pieces_of
 use Rattle.unit_decl.specs.declared.spot.Spot.{Spot}
 use Rattle.unit_decl.proofs.NotePlaces.{notes_are}
 
--- before the first entry
-pub nothing_read : (d : Dialect) (all : List Entry) (lines : List Line) (notes : List Placed) (spot : Spot)
-    → lines ≡ [] → notes ≡ [] → spot ≡ top → HasRead d all all lines notes spot
-nothing_read d all lines notes spot l n s = record {
-  pieces = λ more h. subst (λ ls. AreReadAs d all (pieces_of all (ls ++ more))) (sym l) h;
-  placed = λ more. (λ i. n i ++ notes_at (s i) (pieces_of all more)) ∙ ap (λ ls. notes_at top (pieces_of all (ls ++ more))) (sym l);
-  faults = λ fault h. h;
-}
-
 -- behind one more statement
 pub statement_read : (d : Dialect) (all left : List Entry) (card label : ℕ) (text : List ℕ) (line : Line)
     (lines lines' : List Line) (notes notes' : List Placed) (spot spot' : Spot)
@@ -58,11 +49,6 @@ note_read d all left card text lines lines' notes notes' spot spot' l n s read =
           ∙ ap (λ ls. notes_at top (pieces_of all (ls ++ more))) (sym l);
       faults = λ fault h. read.faults fault (inr ((remarked card text, (refl, refl)), h));
     }
-
--- at an entry whose text spells no statement
-pub misspelled : (d : Dialect) (all left : List Entry) (entry : Entry) (lines : List Line) (notes : List Placed) (spot : Spot) (fault : Fault)
-    → HasRead d all (entry ∷ left) lines notes spot → IsMisspelled d entry fault → IsFirstMisspelled d all fault
-misspelled d all left entry lines notes spot fault read m = read.faults fault (inl m)
 
 -- ---- all entries
 

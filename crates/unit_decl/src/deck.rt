@@ -12,6 +12,7 @@ use fort_syntax::{Deck, Dialect, Entry, Refusal};
 use std::alloc::Global;
 
 /// The deck that statements and notes make, or the first fault: of the first statement whose text spells none, else of the rules on units by stage, card, number.
+#[tactic(auto, using(crate::proofs::EntriesRead::fault_found))]
 pub fn units(alloc: Global, dialect: Dialect, cards: &[Entry]) -> Result<Deck, Refusal>
     ensures deck { IfOk result (λ deck. IsDeckOf dialect cards.now deck) }
     ensures broken { (f : Fault) → result ≡ Err (Broken f) → IsFirstFault dialect cards.now f }

@@ -30,7 +30,7 @@ fn unit_of(alloc: Global, unit: &[Line]) -> Result<Unit, NoMemory>
     let Ok(functions) = functions(alloc, &roles.scope, roles.references.keys()) else {
         return Err(NoMemory);
     };
-    let Ok(blocks) = unit_groups(alloc, &roles.scope, unit) else {
+    let Ok(groups) = unit_groups(alloc, &roles.scope, unit) else {
         return Err(NoMemory);
     };
     let Ok(lines) = lines(alloc, unit) else {
@@ -43,7 +43,7 @@ fn unit_of(alloc: Global, unit: &[Line]) -> Result<Unit, NoMemory>
         dummies,
         names,
         functions,
-        blocks,
+        blocks: groups,
         lines,
         end: last_card(unit),
     })

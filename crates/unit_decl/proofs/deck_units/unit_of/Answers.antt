@@ -8,7 +8,7 @@ pub returns : goal.returns
 returns c =
     let roles = c.in-Ok.roles in
     unit_made c.args.unit.now roles c.in-Some.name c.in-Ok-data_names.names c.in-Ok-functions.functions c.function_sort.result
-    c.first_card.result c.last_card.result c.in-Ok-dummies.dummies c.in-Ok-unit_groups.blocks c.in-Ok-lines.lines
+    c.first_card.result c.last_card.result c.in-Ok-dummies.dummies c.in-Ok-unit_groups.groups c.in-Ok-lines.lines
     c.in-Ok.ensures.facts c.in-Ok.ensures.names c.in-Ok.ensures.references c.in-Some.ensures
     (c.in-Ok-data_names.ensures ∙ ap (λ own. data_names_in roles own roles.names) c.as_bytes.ensures.value)
     (c.in-Ok-functions.ensures ∙ ap (functions_in (scope_by roles.scope)) c.keys.ensures)
