@@ -1,5 +1,5 @@
 -- Numbers that run along with the statements tell where notes stand.
-use Rattle.std.proofs.Common.{◌≡◌, ℕ, suc, Bool, true, false, List, [], ◌∷◌, ◌++◌, length, refl, sym, ap, ◌∙◌, rules, arith}
+use Rattle.std.proofs.Common.{◌≡◌, ℕ, suc, Bool, true, false, List, [], ◌∷◌, ◌++◌, length, refl, sym, ap, ◌∙◌, arith}
 use Rattle.std.specs.Prelude.{◌+◌, pred, not, cond}
 use Rattle.fort_syntax.specs.Units.{Piece, stated, remarked, Segment, class_of, is_performing, is_ending, put_before, begun_with, segments, executables, is_inside, last_segment, placed, notes_behind}
 use Rattle.fort_syntax.specs.Units as units
@@ -7,7 +7,7 @@ use Rattle.fort_syntax.specs.declared.class.Class.{Class}
 use Rattle.fort_syntax.specs.declared.class.Class.TheVariants.{Heading, Declaring, Performing, Ending}
 use Rattle.fort_syntax.specs.declared.unit.Line.{Line}
 use Rattle.unit_decl.specs.declared.spot.Spot.{Spot}
-use Rattle.unit_decl.specs.Readings.{top, entered, counted, passed, line_outside, placed_at, notes_at}
+use Rattle.unit_decl.specs.Readings.{top, counted, passed, line_outside, placed_at, notes_at}
 
 abbrev goes_on : Line → Bool
 goes_on line = not (is_ending (class_of line.stmt))

@@ -1,8 +1,8 @@
 -- What the tables of a unit tell are its parts.
-use Rattle.std.proofs.Common.{◌≡◌, Bool, List, [], ◌∷◌, refl, sym, ap, ◌∙◌}
+use Rattle.std.proofs.Common.{◌≡◌, List, [], ◌∷◌, refl, sym, ap, ◌∙◌}
 use Rattle.std.specs.Prelude.{ℕ, ◌||◌, ◌&&◌, not, cond, map, Option, Some, None}
-use Rattle.fort_syntax.specs.Scopes.{Scope, same_name, is_among, kept, once, is_intrinsic_name}
-use Rattle.fort_syntax.specs.Units.{Segment, gathered, own_name, is_function, dummies_of, commons_of, scope_of, name_of_block, block_of_name, blocks_by, names_in, references_of, held_by, own_value_of, data_names, functions_of, role_of, sort_or_integer, data_name_of, function_name_of, group_of, executables, card_of_first, card_of_last, unit_of}
+use Rattle.fort_syntax.specs.Scopes.{Scope, same_name, is_among, kept, once}
+use Rattle.fort_syntax.specs.Units.{Segment, gathered, own_name, is_function, dummies_of, scope_of, name_of_block, block_of_name, blocks_by, names_in, references_of, held_by, own_value_of, data_names, functions_of, role_of, sort_or_integer, data_name_of, function_name_of, group_of, executables, card_of_first, card_of_last, unit_of}
 use Rattle.fort_syntax.specs.declared.dialect.Sort.{Sort}
 use Rattle.fort_syntax.specs.declared.name.Name.{Name}
 use Rattle.fort_syntax.specs.declared.stmt.Group.{Group}
@@ -10,13 +10,12 @@ use Rattle.fort_syntax.specs.declared.unit.DataName.{DataName}
 use Rattle.fort_syntax.specs.declared.unit.FunctionName.{FunctionName}
 use Rattle.fort_syntax.specs.declared.unit.Line.{Line}
 use Rattle.fort_syntax.specs.declared.unit.Role.TheVariants.{Dummy, InCommon, OwnValue, Local}
-use Rattle.fort_syntax.specs.declared.unit.Unit.{Unit as Routine}
 use Rattle.unit_decl.specs.declared.use_rules.Roles.{Roles}
 use Rattle.unit_decl.specs.Commons.{given_from, tabled}
 use Rattle.unit_decl.specs.Roles.{use_facts_by}
 use Rattle.unit_decl.specs.Scoping.{scope_by}
 use Rattle.unit_decl.specs.UseScans.{use_facts_of}
-use Rattle.unit_decl.specs.UnitParts.{is_held_in, is_data_in, role_in, data_names_in, function_name_in, functions_in, sort_in, item_in, group_in}
+use Rattle.unit_decl.specs.UnitParts.{is_data_in, role_in, data_names_in, functions_in, sort_in, item_in, group_in}
 use Rattle.unit_decl.proofs.CommonFacts.{tabled_of}
 use Rattle.unit_decl.proofs.OnceNames.{given_once}
 use Rattle.unit_decl.proofs.RoleFacts.{own_if, held_is}

@@ -1,5 +1,5 @@
 -- Reading the entries of a deck one by one.
-use Rattle.std.specs.Prelude.{ℕ, zero, suc, ◌≡◌, not, Bool, true, false, cond, List, [], ◌∷◌, ◌++◌, map}
+use Rattle.std.specs.Prelude.{ℕ, zero, suc, ◌≡◌, not, false, cond, List, [], ◌∷◌, ◌++◌, map}
 use Rattle.fort_syntax.specs.Units.{Piece, stated, remarked, class_of, is_performing, is_ending}
 use Rattle.fort_syntax.specs.declared.cards.Entry.{Entry}
 use Rattle.fort_syntax.specs.declared.cards.Entry.TheVariants.{Statement, Note}

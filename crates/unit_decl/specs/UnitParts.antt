@@ -1,5 +1,5 @@
 -- The parts of a unit, as its tables tell them.
-use Rattle.std.specs.Prelude.{◌&&◌, ◌||◌, not, Bool, cond, List, [], ◌∷◌, map, Option, Some, None}
+use Rattle.std.specs.Prelude.{◌&&◌, ◌||◌, not, Bool, cond, List, map, Option, Some, None}
 use Rattle.fort_syntax.specs.Scopes.{Scope, same_name, is_among, kept, is_intrinsic_name}
 use Rattle.fort_syntax.specs.Units.{sort_or_integer, block_of_name}
 use Rattle.fort_syntax.specs.declared.dialect.Sort.{Sort}

@@ -1,4 +1,4 @@
-use Rattle.std.proofs.Common.{sym, ap, ◌∙◌}
+use Rattle.std.proofs.Common.{◌∙◌}
 use Rattle.std.specs.Prelude.{map}
 use Rattle.unit_decl.specs.Scoping.{scope_by}
 use Rattle.unit_decl.specs.UnitParts.{group_in}
