@@ -69,7 +69,7 @@ in_filter test (z ∷ zs) y h = by_test (test z) refl h (λ k. later (in_filter 
     by_test false e k on = on k
     by_test true e k on = by_name e (same_or_not y z) k on
 
-in_around : (pc : ℕ) (ds : List Loop) (d : Loop) → IsAmong d (around pc ds) → IsAmong d ds
+pub in_around : (pc : ℕ) (ds : List Loop) (d : Loop) → IsAmong d (around pc ds) → IsAmong d ds
 in_around pc [] d m = m
 in_around pc (e ∷ ds) d m = by_test (nat_lt e.at pc) m (λ k. later (in_around pc ds d k))
   where
@@ -227,7 +227,7 @@ module _ {V : Type 0} (w : Sight V) (y : Name) where
       where
         by_unit : (j : ℕ) (o : Option Routine) → subroutine w.program.units f ≡ Some j → slice_get w.program.units j ≡ o → ((call_in w card j o now xs answers).value.0) y ≡ now y
         by_unit j None e q = refl
-        by_unit j (Some g) e q = ap (λ (b : Bool). cond b ((answers 0).names y) (now y)) (not_hit f args site j g e q xs bare)
+        by_unit j (Some g) e q = ap (λ (b : Bool). cond b (answers 0 y) (now y)) (not_hit f args site j g e q xs bare)
 
         by_number : (o : Option ℕ) → subroutine w.program.units f ≡ o → ((call w card o now xs answers).value.0) y ≡ now y
         by_number None e = refl
