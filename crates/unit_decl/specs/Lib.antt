@@ -16,4 +16,3 @@ pub mod Roles
 pub mod UnitParts
 pub mod Decks
 pub mod Readings
-pub mod Stub

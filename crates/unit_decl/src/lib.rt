@@ -29,7 +29,6 @@ mod scoped;
 mod seen;
 mod splitting;
 mod spot;
-mod stub;
 mod subscripts;
 mod table;
 mod typing;

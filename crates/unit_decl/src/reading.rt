@@ -12,11 +12,11 @@ ghost use Rattle.unit_decl.specs.Decks.{IsMisspelled, IsFirstMisspelled};
 ghost use Rattle.unit_decl.specs.Readings.{HasRead, top, passed, placed_at};
 
 use crate::spot::Spot;
-use crate::stub::{StmtRefusal, statement};
 use crate::unit_parts::push_whole;
 use edge_io::{List, NoMemory};
 use fort_syntax::{Dialect, Entry, Fault, Line, Placed, Plain, Refusal, Stmt};
 use std::alloc::Global;
+use stmt_parse::{StmtRefusal, statement};
 
 /// What has been read, and where it ends.
 #[derive(Drop)]
