@@ -21,3 +21,4 @@ pub mod OnceNames
 pub mod UnitMade
 pub mod NotePlaces
 pub mod EntriesRead
+pub mod WellFormedDecks

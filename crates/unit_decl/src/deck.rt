@@ -1,5 +1,7 @@
 // The deck that statements and notes make.
-ghost use Rattle.std.specs.Prelude.{◌≡◌, Err, IfOk};
+ghost use Rattle.std.specs.Prelude.{◌≡◌, true, Err, IfOk};
+ghost use Rattle.deck_laws.specs.Ascent.{entries_ascend_above};
+ghost use Rattle.fort_syntax.specs.WellFormed.{IsWellFormed};
 ghost use Rattle.fort_syntax.specs.declared.refusal.Fault.{Fault};
 ghost use Rattle.fort_syntax.specs.declared.refusal.Refusal.TheVariants.{Broken};
 ghost use Rattle.unit_decl.specs.Decks.{IsDeckOf, IsFirstFault};
@@ -11,9 +13,9 @@ use edge_io::List;
 use fort_syntax::{Deck, Dialect, Entry, Refusal};
 use std::alloc::Global;
 
-/// The deck that statements and notes make, or the first fault: of the first statement whose text spells none, else of the rules on units by stage, card, number.
+// The deck, or the first fault.
 #[tactic(auto, using(crate::proofs::EntriesRead::fault_found))]
-pub fn units(alloc: Global, dialect: Dialect, cards: &[Entry]) -> Result<Deck, Refusal>
+fn deck_or_fault(alloc: Global, dialect: Dialect, cards: &[Entry]) -> Result<Deck, Refusal>
     ensures deck { IfOk result (λ deck. IsDeckOf dialect cards.now deck) }
     ensures broken { (f : Fault) → result ≡ Err (Broken f) → IsFirstFault dialect cards.now f }
 {
@@ -34,4 +36,19 @@ pub fn units(alloc: Global, dialect: Dialect, cards: &[Entry]) -> Result<Deck, R
         units,
         notes: List::from_vec(reading.notes),
     })
+}
+
+/// The deck that statements and notes make, or their first fault. It is well formed where the cards
+/// of statements ascend.
+///
+/// An error says the fault of the first statement whose text spells none, or else the first fault by
+/// the rules on units: of the least stage, there on the least card, and there of the rule of the
+/// least number; or that memory was wanted and not had.
+#[tactic(auto, using(crate::proofs::WellFormedDecks::deck_is_well_formed))]
+pub fn units(alloc: Global, dialect: Dialect, cards: &[Entry]) -> Result<Deck, Refusal>
+    ensures deck { IfOk result (λ deck. IsDeckOf dialect cards.now deck) }
+    ensures well_formed { IfOk result (λ deck. entries_ascend_above 0 cards.now ≡ true → IsWellFormed dialect deck) }
+    ensures broken { (f : Fault) → result ≡ Err (Broken f) → IsFirstFault dialect cards.now f }
+{
+    deck_or_fault(alloc, dialect, cards)
 }

@@ -4,7 +4,7 @@ use Rattle.fort_syntax.specs.Units.{segments, unit_of}
 use Rattle.fort_syntax.specs.UnitRules.{fault_of}
 use Rattle.unit_decl.specs.Decks.{IsDeckOf}
 use Rattle.unit_decl.proofs.EntriesRead.{deck_found}
-use Rattle.unit_decl.proofs.deck.units.Goals as goal
+use Rattle.unit_decl.proofs.deck.deck_or_fault.Goals as goal
 
 pub returns-clause-deck : goal.returns-clause-deck
 returns-clause-deck c =

@@ -1,0 +1,40 @@
+-- Decks that are made are well formed.
+use Rattle.std.proofs.Common.{◌≡◌, ℕ, true, List, [], ◌∷◌, refl, sym, ap, ◌∙◌, subst}
+use Rattle.std.specs.Prelude.{◌&&◌, nat_lt}
+use Rattle.fort_syntax.specs.declared.cards.Entry.{Entry}
+use Rattle.fort_syntax.specs.declared.cards.Entry.TheVariants.{Statement, Note}
+use Rattle.fort_syntax.specs.declared.deck.Deck.{Deck}
+use Rattle.fort_syntax.specs.declared.dialect.Dialect.{Dialect}
+use Rattle.fort_syntax.specs.Units.{Piece, stated, remarked, statements}
+use Rattle.fort_syntax.specs.WellFormed.{IsWellFormed}
+use Rattle.deck_laws.specs.Ascent.{ascend_above, entries_ascend_above}
+use Rattle.deck_laws.specs.Spelling.{AreSpelled}
+use Rattle.deck_laws.proofs.WellFormedDecks.{decks_without_fault_are_well_formed}
+use Rattle.unit_decl.specs.Decks.{AreReadAs, IsDeckOf}
+
+-- statements have the cards of their entries
+cards_kept : (d : Dialect) (card : ℕ) (entries : List Entry) (pieces : List Piece) → AreReadAs d entries pieces
+    → ascend_above card (statements pieces) ≡ entries_ascend_above card entries
+cards_kept d card [] [] h = refl
+cards_kept d card [] (piece ∷ pieces) h = absurd h
+cards_kept d card (entry ∷ entries) [] h = absurd h
+cards_kept d card (Statement number label text ∷ entries) (stated line ∷ pieces) h =
+    ap (λ n. nat_lt card n && ascend_above n (statements pieces)) h.0.0
+    ∙ ap (λ b. nat_lt card number && b) (cards_kept d number entries pieces h.1)
+cards_kept d card (Statement number label text ∷ entries) (remarked n t ∷ pieces) h = absurd h.0
+cards_kept d card (Note number text ∷ entries) (stated line ∷ pieces) h = absurd h.0
+cards_kept d card (Note number text ∷ entries) (remarked n t ∷ pieces) h = cards_kept d card entries pieces h.1
+
+are_spelled : (d : Dialect) (entries : List Entry) (pieces : List Piece) → AreReadAs d entries pieces → AreSpelled d (statements pieces)
+are_spelled d [] [] h = tt
+are_spelled d [] (piece ∷ pieces) h = absurd h
+are_spelled d (entry ∷ entries) [] h = absurd h
+are_spelled d (Statement number label text ∷ entries) (stated line ∷ pieces) h = ((text, h.0.2), are_spelled d entries pieces h.1)
+are_spelled d (Statement number label text ∷ entries) (remarked n t ∷ pieces) h = absurd h.0
+are_spelled d (Note number text ∷ entries) (stated line ∷ pieces) h = absurd h.0
+are_spelled d (Note number text ∷ entries) (remarked n t ∷ pieces) h = are_spelled d entries pieces h.1
+
+pub deck_is_well_formed : (d : Dialect) (entries : List Entry) (deck : Deck) → IsDeckOf d entries deck → entries_ascend_above 0 entries ≡ true → IsWellFormed d deck
+deck_is_well_formed d entries deck made ascend =
+    subst (IsWellFormed d) (sym made.3)
+    (decks_without_fault_are_well_formed d made.0 (are_spelled d entries made.0 made.1) (cards_kept d 0 entries made.0 made.1 ∙ ascend) made.2)
