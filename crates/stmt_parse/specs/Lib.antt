@@ -3,3 +3,4 @@ pub mod Parsing
 pub mod Statements
 pub mod Stems
 pub mod Tokens
+pub mod Writing
