@@ -4,3 +4,4 @@ pub mod Statements
 pub mod Stems
 pub mod Tokens
 pub mod Writing
+pub mod Wrote

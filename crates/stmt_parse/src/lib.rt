@@ -13,6 +13,7 @@ mod misspelled;
 mod parts;
 mod stems;
 mod tokens;
+mod writing;
 
 pub use answer::{StmtRefusal, statement, text_spells_one_statement};
 pub use joint::Joint;
