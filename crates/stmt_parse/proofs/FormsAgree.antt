@@ -1,5 +1,5 @@
 -- What is written of a statement agrees with the grammar.
-use Rattle.std.proofs.Common.{◌≡◌, ℕ, ◌+◌, ◌≤◌, Bool, true, false, Option, Some, None, List, [], ◌∷◌, ◌++◌, codes, refl, sym, ap, ◌∙◌, subst, arith}
+use Rattle.std.proofs.Common.{◌≡◌, ℕ, ◌+◌, ◌≤◌, Bool, true, false, Option, Some, None, Result, Ok, Err, List, [], ◌∷◌, ◌++◌, codes, refl, sym, ap, ◌∙◌, subst, arith}
 use Rattle.std.specs.Prelude.{nat_le, if◌then◌else◌}
 use mathlib.Core.Former.{Count}
 use Rattle.std.proofs.lemmas.Option.{none-some, same_Some}
@@ -17,12 +17,17 @@ use Rattle.fort_syntax.specs.declared.stmt.BlockName.TheVariants as block
 use Rattle.fort_syntax.specs.declared.stmt.Group.{Group}
 use Rattle.fort_syntax.specs.declared.stmt.Param.{Param}
 use Rattle.fort_syntax.specs.declared.stmt.Param.TheVariants as parameter
-use Rattle.fort_syntax.specs.declared.stmt.Stmt.{Stmt}
+use Rattle.fort_syntax.specs.declared.stmt.Stmt.{Stmt, LogicalIf}
 use Rattle.fort_syntax.specs.declared.stmt.Stmt.TheVariants.{Subroutine, Function, Declare, Dimension, Common, Assign, GoTo, Computed, ArithIf, LogicalIf', Do, Continue, Call, Return, End, BlockIf, ElseIf, Else, EndIf}
 use Rattle.fort_syntax.specs.Spelled.{Texts, just, ◌⨾◌, name, label, bracketed, bound, binding, tightness, operator, relation, truth, expression, arguments, more_arguments, row_of}
 use Rattle.fort_syntax.specs.Grammar.{more_listed, listed, in_brackets, dim, item, array, slashed, first_block, more_groups, groups, sort, optional_sort, left_side, param, step, actuals, condition, is_carried, with_77, form, is_deep_from, is_deep, Spells}
 use Rattle.stmt_parse.specs.Tokens.{◌>>=◌}
 use Rattle.stmt_parse.specs.Writing.{Writer, never, put, ◌⊕◌, given, tight, write_name, write_label, write_expression, write_arguments, write_more_arguments, write_more, write_list, in_round, write_brackets, write_dim, write_item, write_array, write_slashed, write_first_block, write_more_groups, write_groups, write_left, write_param, write_step, write_actuals, write_condition, where_77, write_form, text_of}
+use Rattle.stmt_parse.specs.declared.lack.Lack.{Lack}
+use Rattle.stmt_parse.specs.declared.lack.Lack.TheVariants.{Spelling, Memory}
+use Rattle.stmt_parse.specs.Parsing.{Gives}
+use Rattle.stmt_parse.specs.Wrote.{Writes}
+use Rattle.stmt_parse.proofs.ExecutableSpelled.{logical_tree}
 use Rattle.stmt_parse.proofs.ExpressionsAnswers.{first_step, when_refused}
 use Rattle.stmt_parse.proofs.TokensRead.{when_false}
 use Rattle.stmt_parse.proofs.PartEnds.{step_to}
@@ -132,9 +137,13 @@ step_agrees : (by : Option Param) → Agrees (step by) (write_step by)
 step_agrees None = put_agrees []
 step_agrees (Some p) = then_agrees (put_agrees (codes ",")) (param_agrees p)
 
+more_listed_agree : (es : List Expr) → Agrees (more_arguments (row_of es)) (write_more write_expression es)
+more_listed_agree [] = put_agrees []
+more_listed_agree (e ∷ es) = then_agrees (put_agrees (codes ",")) (then_agrees (expression_agrees e) (more_listed_agree es))
+
 actuals_agree : (es : List Expr) → Agrees (actuals es) (write_actuals es)
 actuals_agree [] = put_agrees []
-actuals_agree (e ∷ es) = round_agrees (arguments_agree (row_of (e ∷ es)))
+actuals_agree (e ∷ es) = round_agrees (then_agrees (expression_agrees e) (more_listed_agree es))
 
 condition_agrees : (e : Expr) → Agrees (condition e) (write_condition e)
 condition_agrees e = round_agrees (expression_agrees e)
@@ -191,3 +200,14 @@ no_text_spells d s h t p =
     let b = (form_agrees d s).complete [] t p.0 in
     let flat : is_deep b.0 ≡ false = deep_by_brackets b.0 0 ∙ ap (is_deep_from 0) (sym b.2) ∙ sym (deep_by_brackets t 0) ∙ p.1 in
     none-some b.0 (sym h ∙ step_to (write_form d s []) b.0 (λ t. if is_deep t then None else Some t) _ b.1 (when_false (is_deep b.0) None (Some b.0) flat))
+
+-- what is answered is a text that spells the statement, or none does
+pub gives_writes : (d : Dialect) (s : Stmt) (r : Result (List ℕ) Lack) → Gives (λ l. l) r (text_of d s) → Writes d s r
+gives_writes d s (Ok t) h = text_is_spelled d s t h
+gives_writes d s (Err Memory) h = tt
+gives_writes d s (Err Spelling) h = no_text_spells d s h
+
+-- a logical IF
+pub write_logical : (d : Dialect) (e : Expr) (s : Stmt) (t : List ℕ)
+    → write_form d (LogicalIf e s) t ≡ ((put (codes "IF") ⊕ write_condition e) ⊕ given (is_carried s) (write_form d s)) t
+write_logical d e s t = ap (λ x. write_form d x t) (logical_tree e s)

@@ -11,7 +11,7 @@ use Rattle.fort_syntax.specs.declared.expr.Expr.TheBlock.{hidden-the_row-Expr-0}
 use Rattle.fort_syntax.specs.declared.expr.Expr.{Expr, Apply, Paren, Pos, Neg, Power, Bin, Rel, Not, And, Or}
 use Rattle.fort_syntax.specs.Spelled.{binding, tightness, operator, relation}
 use Rattle.stmt_parse.specs.Tokens.{◌>>=◌}
-use Rattle.stmt_parse.specs.Writing.{Writer, put, ◌⊕◌, write_name, write_exponent, tight, write_expression, write_arguments, write_more_arguments, in_round, write_more, write_list}
+use Rattle.stmt_parse.specs.Writing.{Writer, put, ◌⊕◌, write_name, write_exponent, tight, write_expression, write_arguments, write_more_arguments, in_round, write_more, write_list, write_left}
 use Rattle.stmt_parse.specs.declared.lack.Lack.{Lack}
 use Rattle.stmt_parse.specs.declared.lack.Lack.TheVariants.{Spelling, Memory}
 use Rattle.stmt_parse.specs.Parsing.{Fails}
@@ -87,3 +87,7 @@ first_fails Spelling v w t o whole h = whole ∙ ap (λ x. x >>= w) h
 pub then_wrote : {A : Type 0} (r : Result A Lack) (new mid t : List ℕ) (v w : Writer) (o : Option (List ℕ)) → o ≡ (v ⊕ w) t → v t ≡ Some mid → Wrote r new (w mid)
     → Wrote r new o
 then_wrote r new mid t v w o whole first h = subst (Wrote r new) (sym (whole ∙ ap (λ x. x >>= w) first)) h
+
+-- an element on the left side
+pub write_left_apply : (x : Name) (es : List Expr) (t : List ℕ) → write_left (Apply x es) t ≡ (write_name x ⊕ in_round (write_list write_expression es)) t
+write_left_apply x es t = write_apply x es t

@@ -17,7 +17,7 @@ use Rattle.fort_syntax.specs.declared.stmt.Param.{Param}
 use Rattle.fort_syntax.specs.declared.stmt.Param.TheVariants as parameter
 use Rattle.fort_syntax.specs.declared.stmt.Stmt.{Stmt}
 use Rattle.fort_syntax.specs.declared.stmt.Stmt.TheVariants.{Subroutine, Function, Declare, Dimension, Common, Assign, GoTo, Computed, ArithIf, LogicalIf', Do, Continue, Call, Return, End, BlockIf, ElseIf, Else, EndIf}
-use Rattle.fort_syntax.specs.Spelled.{is_name, operator, relation, truth, tightness, binding, row_of}
+use Rattle.fort_syntax.specs.Spelled.{is_name, operator, relation, truth, tightness, binding}
 use Rattle.fort_syntax.specs.Grammar.{sort, optional_sort, is_carried, is_deep}
 use Rattle.stmt_parse.specs.Tokens.{◌>>=◌}
 
@@ -158,8 +158,7 @@ write_step None = put []
 write_step (Some p) = put (codes ",") ⊕ write_param p
 
 abbrev pub write_actuals : List Expr → Writer
-write_actuals [] = put []
-write_actuals (e ∷ es) = in_round (write_arguments (row_of (e ∷ es)))
+write_actuals = write_brackets write_expression
 
 abbrev pub write_condition : Expr → Writer
 write_condition e = in_round (write_expression e)

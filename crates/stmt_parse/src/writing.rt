@@ -11,7 +11,7 @@ use crate::tokens::is_name;
 use fort_syntax::{BinOp, Expr, Name, RelOp};
 
 // A text behind another.
-fn put(out: &mut Vec<u8>, text: &[u8]) -> Result<(), Lack>
+pub(crate) fn put(out: &mut Vec<u8>, text: &[u8]) -> Result<(), Lack>
     ensures { Wrote result out.new.items (put text.now out.old.items) }
 {
     match out.extend_from_slice(text) {
@@ -20,7 +20,7 @@ fn put(out: &mut Vec<u8>, text: &[u8]) -> Result<(), Lack>
     }
 }
 
-fn write_name(out: &mut Vec<u8>, name: Name) -> Result<(), Lack>
+pub(crate) fn write_name(out: &mut Vec<u8>, name: Name) -> Result<(), Lack>
     ensures { Wrote result out.new.items (write_name name out.old.items) }
 {
     if !is_name(name.as_bytes()) {
@@ -42,7 +42,7 @@ fn write_digits(out: &mut Vec<u8>, places: usize, n: u64) -> Result<(), Lack>
     put(out, &[48 + (n % 10) as u8])
 }
 
-fn write_constant(out: &mut Vec<u8>, n: u64) -> Result<(), Lack>
+pub(crate) fn write_constant(out: &mut Vec<u8>, n: u64) -> Result<(), Lack>
     ensures { Wrote result out.new.items (write_constant n out.old.items) }
 {
     if n >= 1_000_000_000_000_000_000 {
@@ -51,7 +51,7 @@ fn write_constant(out: &mut Vec<u8>, n: u64) -> Result<(), Lack>
     write_digits(out, 18, n)
 }
 
-fn write_label(out: &mut Vec<u8>, label: u32) -> Result<(), Lack>
+pub(crate) fn write_label(out: &mut Vec<u8>, label: u32) -> Result<(), Lack>
     ensures { Wrote result out.new.items (write_label label out.old.items) }
 {
     if label == 0 || label >= 100_000 {
@@ -72,7 +72,7 @@ fn write_more_names(out: &mut Vec<u8>, names: &[Name], i: usize) -> Result<(), L
     write_more_names(out, names, i + 1)
 }
 
-fn write_names(out: &mut Vec<u8>, names: &[Name]) -> Result<(), Lack>
+pub(crate) fn write_names(out: &mut Vec<u8>, names: &[Name]) -> Result<(), Lack>
     ensures { Wrote result out.new.items (write_list write_name names.now out.old.items) }
 {
     if names.is_empty() {
@@ -143,7 +143,7 @@ fn write_signed(out: &mut Vec<u8>, sign: &[u8], k: u8, e: &Expr) -> Result<(), L
 
 #[cycle(written)]
 // An expression in brackets.
-fn write_round(out: &mut Vec<u8>, e: &Expr) -> Result<(), Lack>
+pub(crate) fn write_round(out: &mut Vec<u8>, e: &Expr) -> Result<(), Lack>
     ensures { Wrote result out.new.items (in_round (write_expression e.now) out.old.items) }
 {
     put(out, b"(")?;
@@ -167,7 +167,7 @@ fn write_more_arguments(out: &mut Vec<u8>, args: &[Expr]) -> Result<(), Lack>
 
 #[cycle(written)]
 // Arguments in brackets.
-fn write_arguments(out: &mut Vec<u8>, args: &[Expr]) -> Result<(), Lack>
+pub(crate) fn write_arguments(out: &mut Vec<u8>, args: &[Expr]) -> Result<(), Lack>
     ensures { Wrote result out.new.items (in_round (write_list write_expression args.now) out.old.items) }
 {
     put(out, b"(")?;
@@ -189,7 +189,7 @@ fn write_power(out: &mut Vec<u8>, e: &Expr, n: u8) -> Result<(), Lack>
 }
 
 #[cycle(written)]
-fn write_applied(out: &mut Vec<u8>, name: Name, args: &[Expr]) -> Result<(), Lack>
+pub(crate) fn write_applied(out: &mut Vec<u8>, name: Name, args: &[Expr]) -> Result<(), Lack>
     ensures { Wrote result out.new.items ((write_name name ⊕ in_round (write_list write_expression args.now)) out.old.items) }
 {
     write_name(out, name)?;
@@ -198,7 +198,7 @@ fn write_applied(out: &mut Vec<u8>, name: Name, args: &[Expr]) -> Result<(), Lac
 
 #[cycle(written)]
 #[tactic(auto, using(crate::proofs::WritingTrees::write_apply, crate::proofs::WritingTrees::write_paren, crate::proofs::WritingTrees::write_pos, crate::proofs::WritingTrees::write_neg, crate::proofs::WritingTrees::write_pow, crate::proofs::WritingTrees::write_bin, crate::proofs::WritingTrees::write_rel, crate::proofs::WritingTrees::write_not, crate::proofs::WritingTrees::write_and, crate::proofs::WritingTrees::write_or))]
-fn write_expression(out: &mut Vec<u8>, e: &Expr) -> Result<(), Lack>
+pub(crate) fn write_expression(out: &mut Vec<u8>, e: &Expr) -> Result<(), Lack>
     ensures { Wrote result out.new.items (write_expression e.now out.old.items) }
 {
     match e {
