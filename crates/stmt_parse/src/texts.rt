@@ -222,7 +222,12 @@ fn head(sort: Option<Sort>) -> &'static [u8]
     }
 }
 
-fn write_function(out: &mut Vec<u8>, sort: Option<Sort>, name: Name, dummies: &[Name]) -> Result<(), Lack>
+fn write_function(
+    out: &mut Vec<u8>,
+    sort: Option<Sort>,
+    name: Name,
+    dummies: &[Name],
+) -> Result<(), Lack>
     ensures { Wrote result out.new.items ((put (optional_sort sort ++ codes "FUNCTION") ⊕ write_name name ⊕ in_round (write_list write_name dummies.now)) out.old.items) }
 {
     put(out, head(sort))?;
