@@ -22,7 +22,7 @@ use Rattle.stmt_parse.proofs.Readings.{word_so}
 use Rattle.stmt_parse.proofs.PartEnds.{differs, step_to, lengths, at_end}
 use Rattle.stmt_parse.proofs.ItemsRead.{digit_first}
 use Rattle.stmt_parse.proofs.ExpressionsAgree.{spelled_parsed}
-use Rattle.stmt_parse.proofs.Unassigned.{call_unassigned}
+use Rattle.stmt_parse.proofs.Unassigned.{second_false, call_unassigned}
 use Rattle.stmt_parse.proofs.PlainRead.{IsPlain, behind, digits_apart, assign_read, go_to_plain, computed_plain, call_plain, continue_plain, return_plain}
 
 -- ---- conditions
@@ -196,10 +196,6 @@ not_then : (b : Bool) (n : ℕ) (t : List ℕ) (s : Stmt) → is_word (codes "TH
 not_then false n t s h k = refl
 not_then true n t s h k = absurd (let bad : None ≡ Some s = sym (then_not_carried n)
     ∙ ap (carried n) (sym (word_so (codes "THEN") t h)) ∙ k in cc)
-
-second_false : (x y : Bool) → y ≡ false → (x && y) ≡ false
-second_false true y h = h
-second_false false y h = refl
 
 pub carried_behind : (d : Dialect) (n : ℕ) (e : Expr) (s : Stmt) (r : List ℕ) → is_carried s ≡ true → form d s r
     → length r + 2 ≤ n

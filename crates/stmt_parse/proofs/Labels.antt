@@ -3,7 +3,7 @@ use Rattle.std.proofs.Common.{◌≡◌, ℕ, zero, suc, ◌+◌, ◌-◌, ◌*�
 use Rattle.std.specs.Prelude.{◌==◌, ◌&&◌}
 use Rattle.std.specs.List.{list_all}
 use Rattle.std.proofs.lemmas.Bool.Decides.{nat_tests}
-use Rattle.formula.specs.Atoms.{is_digit, is_digits, spelled_from, spelled, without_zeros, is_long}
+use Rattle.formula.specs.Atoms.{starts, is_digit, is_digits, spelled_from, spelled, without_zeros, is_long}
 
 at_most : (t : Bool) (xs ys : List ℕ) (n : ℕ) → length xs ≤ n → length ys ≤ n → length (if t then xs else ys) ≤ n
 at_most true xs ys n h k = h
@@ -13,8 +13,11 @@ no_longer : (ds : List ℕ) → length (without_zeros ds) ≤ length ds
 no_longer [] = omega arith
 no_longer (b ∷ ds) = let h = no_longer ds in at_most (b == 48) (without_zeros ds) (b ∷ ds) _ (omega arith) (omega arith)
 
+pub short_not_long : (ds : List ℕ) → length ds ≤ 18 → is_long ds ≡ false
+short_not_long ds few = let h = no_longer ds in let short : length (without_zeros ds) ≤ 18 = omega arith in grind (arith, nat_tests)
+
 pub few_not_long : (ds : List ℕ) → length ds ≤ 5 → is_long ds ≡ false
-few_not_long ds few = let h = no_longer ds in let short : length (without_zeros ds) ≤ 18 = omega arith in grind (arith, nat_tests)
+few_not_long ds few = short_not_long ds (omega arith)
 
 both : (x y : Bool) → (x && y) ≡ true → (x ≡ true) × (y ≡ true)
 both true y h = (refl, h)
@@ -44,8 +47,11 @@ five_nines (suc (suc (suc (suc zero)))) le = omega arith
 five_nines (suc (suc (suc (suc (suc zero))))) le = omega arith
 five_nines (suc (suc (suc (suc (suc (suc k)))))) le = absurd (omega arith)
 
-pub few_small : (ds : List ℕ) → is_digits ds ≡ true → length ds ≤ 5 → spelled ds < 2 ^ 32
-few_small ds h few =
-    let low : spelled ds ≤ nines 0 (length ds) = below 0 0 ds (let e : 0 ≤ 0 = omega arith in e) (both _ _ h).1 in
+pub few_below : (ds : List ℕ) → is_digits ds ≡ true → length ds ≤ 5 → spelled ds < 10 ^ 5
+few_below ds h few =
+    let low : spelled ds ≤ nines 0 (length ds) = below 0 0 ds (let e : 0 ≤ 0 = omega arith in e) (both (starts is_digit ds) _ h).1 in
     let high = five_nines (length ds) few in
     omega arith
+
+pub few_small : (ds : List ℕ) → is_digits ds ≡ true → length ds ≤ 5 → spelled ds < 2 ^ 32
+few_small ds h few = let most = few_below ds h few in omega arith

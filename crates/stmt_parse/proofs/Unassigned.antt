@@ -34,7 +34,7 @@ take_more k (b ∷ w) r =
     let e : suc (length w) + k ≡ suc (length w + k) = omega arith in
     ap (λ m. take m (b ∷ (w ++ r))) e ∙ ap (λ x. b ∷ x) (take_more k w r)
 
-second_false : (x y : Bool) → y ≡ false → (x && y) ≡ false
+pub second_false : (x y : Bool) → y ≡ false → (x && y) ≡ false
 second_false true y h = h
 second_false false y h = refl
 

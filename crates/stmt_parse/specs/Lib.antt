@@ -3,3 +3,5 @@ pub mod Parsing
 pub mod Statements
 pub mod Stems
 pub mod Tokens
+pub mod Writing
+pub mod Wrote

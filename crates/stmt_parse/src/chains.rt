@@ -21,7 +21,7 @@ pub(crate) fn boxed(alloc: Global, e: Expr) -> Result<Boxed<Expr>, Lack>
 }
 
 // How tightly an expression is bound.
-fn binding(e: &Expr) -> u8
+pub(crate) fn binding(e: &Expr) -> u8
     ensures { result ≡ binding e.now }
 {
     match e {

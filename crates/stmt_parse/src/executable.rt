@@ -258,7 +258,7 @@ fn carried(alloc: Global, rounds: usize, text: &[u8]) -> Result<Stmt, Lack>
     plain(alloc, rounds, text)
 }
 
-fn is_77(dialect: Dialect) -> bool
+pub(crate) fn is_77(dialect: Dialect) -> bool
     ensures { result ≡ is_77 dialect }
 {
     match dialect {

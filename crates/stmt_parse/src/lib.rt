@@ -12,12 +12,15 @@ mod lists;
 mod misspelled;
 mod parts;
 mod stems;
+mod texts;
 mod tokens;
+mod writing;
 
 pub use answer::{StmtRefusal, statement, text_spells_one_statement};
 pub use joint::Joint;
 pub use lack::Lack;
 pub use stems::Stem;
+pub use texts::written;
 
 #[cfg(test)]
 mod tests;

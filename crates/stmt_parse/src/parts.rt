@@ -82,7 +82,7 @@ pub(crate) fn joint_at(text: &[u8]) -> Option<(Joint, &[u8])>
     logical_at(text)
 }
 
-fn tightness(o: BinOp) -> u8
+pub(crate) fn tightness(o: BinOp) -> u8
     ensures { result ≡ tightness o }
 {
     match o {

@@ -92,7 +92,7 @@ fn all_name_bytes(text: &[u8]) -> bool
 }
 
 // Whether a word is a name.
-fn is_name(text: &[u8]) -> bool
+pub(crate) fn is_name(text: &[u8]) -> bool
     ensures { result ≡ is_name text.now }
 {
     starts_with_letter(text) && all_name_bytes(text) && text.len() <= 6
