@@ -21,6 +21,3 @@ pub use joint::Joint;
 pub use lack::Lack;
 pub use stems::Stem;
 pub use texts::written;
-
-#[cfg(test)]
-mod tests;

@@ -10,6 +10,8 @@ mod definitions;
 #[cfg(test)]
 mod ends;
 #[cfg(test)]
+mod statements;
+#[cfg(test)]
 mod syntax;
 #[cfg(test)]
 mod terms;
