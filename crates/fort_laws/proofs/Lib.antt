@@ -55,3 +55,10 @@ pub mod UnitCalls
 pub mod ValidPaths
 pub mod WalkKeeps
 pub mod Written
+pub mod WitnessLists
+pub mod WitnessRules
+pub mod WitnessSmashes
+pub mod WitnessWorths
+pub mod WitnessNotes
+pub mod WitnessDown
+pub mod WitnessRotate
