@@ -54,11 +54,11 @@ pub mod Unfolding
 pub mod UnitCalls
 pub mod ValidPaths
 pub mod WalkKeeps
-pub mod Written
+pub mod WitnessDown
 pub mod WitnessLists
+pub mod WitnessNotes
+pub mod WitnessRotate
 pub mod WitnessRules
 pub mod WitnessSmashes
 pub mod WitnessWorths
-pub mod WitnessNotes
-pub mod WitnessDown
-pub mod WitnessRotate
+pub mod Written

@@ -4,6 +4,11 @@ use Rattle.std.specs.List.{list_all}
 use Rattle.fort_model.specs.Lists.{IsAmong}
 use Rattle.fort_laws.proofs.Small.{both_parts}
 
+-- what is shown for the first place, and for the others
+infixr 1 ◌also◌
+abbrev pub ◌also◌ : {A B : Type 0} → A → B → A × B
+◌also◌ a b = (a, b)
+
 abbrev pub AtEach : {A : Type 0} → List A → (ℕ → A → Type 0) → Type 0
 AtEach [] P = Unit {0}
 AtEach (x ∷ xs) P = P 0 x × AtEach xs (λ k. P (suc k))

@@ -1,12 +1,13 @@
 -- A program of two units with two calls meets all that soundness wants.
-use Rattle.std.proofs.Common.{◌≡◌, ℕ, zero, suc, true, false, List, [], ◌∷◌, refl, sym, ap, ◌∙◌, subst, arith}
+use Rattle.std.proofs.Common.{◌≡◌, ℕ, zero, suc, false, List, [], ◌∷◌, Some, slice_get, refl, sym, ap, ◌∙◌, subst, arith}
 use Rattle.std.specs.Prelude.{codes}
+use Rattle.formula.specs.Tree.{Tree}
 use Rattle.formula.specs.Values as value
 use Rattle.formula.specs.Worth.{Valuation}
-use Rattle.fort_syntax.specs.WellFormed.{IsWellFormed, IsWellFormedUnit}
-use Rattle.fort_syntax.specs.declared.deck.Deck.{Deck}
+use Rattle.fort_syntax.specs.WellFormed.{IsWellFormedUnit}
 use Rattle.fort_syntax.specs.declared.dialect.Dialect.TheVariants.{Common}
 use Rattle.fort_syntax.specs.declared.expr.Expr.TheVariants.{Var}
+use Rattle.fort_syntax.specs.declared.name.Name.{Name}
 use Rattle.fort_syntax.specs.declared.stmt.Stmt.TheVariants.{Assign, Call}
 use Rattle.fort_syntax.specs.declared.unit.Unit.{Unit as Routine}
 use Rattle.fort_model.specs.Calls.{Calls}
@@ -15,25 +16,23 @@ use Rattle.fort_model.specs.Conditions.{AreAllPaths, conditions_of}
 use Rattle.fort_model.specs.Decks.{line}
 use Rattle.fort_model.specs.Fitting.{HasFittingNotes}
 use Rattle.fort_model.specs.Lists.{IsAmong}
-use Rattle.fort_model.specs.Paths.{Path, IsPath, IsWay, is_path_from}
+use Rattle.fort_model.specs.Paths.{ArePathsInOrder, Path, IsPath, IsWay, is_path_from}
 use Rattle.fort_model.specs.Rows.{I, J, K, swap, rotate}
 use Rattle.fort_model.specs.Rules.{KeepsRules}
 use Rattle.fort_model.specs.Smashes.{Smashes, HoldsSmashed, sets, passes}
+use Rattle.fort_model.specs.Symbols.{AtEntry, word_of}
 use Rattle.fort_model.specs.VerdictRows.{rotate_program, swap_notes, rotate_notes}
 use Rattle.fort_model.specs.WalkRows.{the_path}
 use Rattle.fort_laws.specs.Witnesses.{RotMeetsPremises}
 use Rattle.fort_laws.proofs.Exact.{conditions_are_exact}
-use Rattle.fort_laws.proofs.WitnessLists.{at_each, nothing_among}
+use Rattle.fort_laws.proofs.WitnessLists.{at_each, nothing_among, ◌also◌}
 use Rattle.fort_laws.proofs.WitnessNotes.{notes_fit}
-use Rattle.fort_laws.proofs.WitnessRules.{rules_are_kept, leads_lower}
+use Rattle.fort_laws.proofs.WitnessRules.{LeadsDown, rules_are_kept, leads_lower}
 use Rattle.fort_laws.proofs.WitnessSmashes.{table_is_right}
-use Rattle.fort_laws.proofs.WitnessWorths.{IsTrueBy, AllFollow, all_valid, stands, are_same, same_as_itself}
+use Rattle.fort_laws.proofs.WitnessWorths.{IsTrueBy, Follows, AllFollow, all_valid, stands, are_same, same_as_itself}
 
 abbrev units : List Routine
 units = swap ∷ rotate ∷ []
-
-abbrev deck : Deck
-deck = record { units = units; notes = [] }
 
 swap_well_formed : IsWellFormedUnit Common swap
 swap_well_formed = record { names = refl; held = refl; data_names = refl; roles = refl; functions = refl; dimensions = refl; blocks = refl; statements = refl; order = refl; result = refl }
@@ -41,17 +40,10 @@ swap_well_formed = record { names = refl; held = refl; data_names = refl; roles 
 rotate_well_formed : IsWellFormedUnit Common rotate
 rotate_well_formed = record { names = refl; held = refl; data_names = refl; roles = refl; functions = refl; dimensions = refl; blocks = refl; statements = refl; order = refl; result = refl }
 
-well_formed : IsWellFormed Common deck
-well_formed = ((swap_well_formed, (rotate_well_formed, tt)), refl)
-
 fitting : HasFittingNotes rotate_program
 fitting = notes_fit rotate_program refl (
-  record { input = refl; output = refl; asserts = λ a m. absurd (nothing_among a m) },
-  (
-    record { input = refl; output = refl; asserts = λ a m. absurd (nothing_among a m) },
-    tt,
-  ),
-)
+    record { input = refl; output = refl; asserts = λ a m. absurd (nothing_among a m) }
+    also record { input = refl; output = refl; asserts = λ a m. absurd (nothing_among a m) } also tt)
 
 -- each statement leads to the next one
 abbrev rank : ℕ → ℕ
@@ -61,14 +53,14 @@ rank (suc (suc zero)) = 2
 rank (suc (suc (suc zero))) = 1
 rank (suc (suc (suc (suc pc)))) = 0
 
+swap_leads_down : LeadsDown Common swap swap_notes rank
+swap_leads_down = leads_lower rank 1 0 (omega arith) also leads_lower rank 2 1 (omega arith) also leads_lower rank 3 2 (omega arith) also leads_lower rank 4 3 (omega arith) also tt
+
+rotate_leads_down : LeadsDown Common rotate rotate_notes rank
+rotate_leads_down = leads_lower rank 1 0 (omega arith) also leads_lower rank 2 1 (omega arith) also leads_lower rank 3 2 (omega arith) also tt
+
 keeps : KeepsRules rotate_program
-keeps = rules_are_kept rotate_program (refl, (refl, tt)) rank (
-  (leads_lower rank 1 0 (omega arith), (leads_lower rank 2 1 (omega arith), (leads_lower rank 3 2 (omega arith), (leads_lower rank 4 3 (omega arith), tt)))),
-  (
-    (leads_lower rank 1 0 (omega arith), (leads_lower rank 2 1 (omega arith), (leads_lower rank 3 2 (omega arith), tt))),
-    tt,
-  ),
-)
+keeps = rules_are_kept rotate_program (refl also refl also tt) rank (swap_leads_down also rotate_leads_down also tt)
 
 -- ---- smashed names
 
@@ -108,13 +100,9 @@ sets_k : Smashes units 0 K
 sets_k = sets swap (line 4 (Assign (Var K) (Var I))) refl (0, refl) (0, refl)
 
 table : HoldsSmashed rotate_program
-table = table_is_right rotate_program (refl, (refl, tt)) (
-  (sets_i, (sets_j, (sets_k, tt))),
-  (
-    (passes first_call 0 refl refl sets_i, (passes first_call 1 refl refl sets_j, (passes second_call 1 refl refl sets_j, tt))),
-    tt,
-  ),
-)
+table = table_is_right rotate_program (refl also refl also tt) (
+    (sets_i also sets_j also sets_k also tt)
+    also (passes first_call 0 refl refl sets_i also passes first_call 1 refl refl sets_j also passes second_call 1 refl refl sets_j also tt) also tt)
 
 -- ---- paths
 
@@ -167,76 +155,49 @@ rotate_listed zero ([] ∷ way) h = rotate_from_second way h
 rotate_listed zero ((c ∷ cs) ∷ way) h = absurd h
 rotate_listed (suc k) way h = absurd h
 
+swap_in_order : ArePathsInOrder Common swap swap_notes swap_paths
+swap_in_order = record { ascending = tt; whole = λ path. (λ h. swap_listed path.start path.choices h, λ m. at_each swap_paths (λ k path. IsPath Common swap swap_notes path) (refl also tt) m.0 path m.1) }
+
+rotate_in_order : ArePathsInOrder Common rotate rotate_notes rotate_paths
+rotate_in_order = record { ascending = tt; whole = λ path. (λ h. rotate_listed path.start path.choices h, λ m. at_each rotate_paths (λ k path. IsPath Common rotate rotate_notes path) (refl also tt) m.0 path m.1) }
+
 all_paths : AreAllPaths rotate_program paths
-all_paths = (
-  record {
-    ascending = tt;
-    whole = λ path. (λ h. swap_listed path.start path.choices h, λ m. at_each swap_paths (λ k path. IsPath Common swap swap_notes path) (refl, tt) m.0 path m.1);
-  },
-  (
-    record {
-      ascending = tt;
-      whole = λ path. (λ h. rotate_listed path.start path.choices h, λ m. at_each rotate_paths (λ k path. IsPath Common rotate rotate_notes path) (refl, tt) m.0 path m.1);
-    },
-    tt,
-  ),
-)
+all_paths = swap_in_order also rotate_in_order also tt
 
 -- ---- conditions
 
-swapped : (words : Valuation) → IsTrueBy words (is_equal (after J 1) (entry I)) → words (codes "J-1") ≡ words (codes "I-IN")
-swapped words same = are_same (words (codes "J-1")) (words (codes "I-IN")) same
+equal_to_itself : {hyps : List Tree} (x : Name) → Follows hyps (is_equal (entry x) (entry x))
+equal_to_itself x = record { by_words = λ words given. same_as_itself (words (word_of (AtEntry x))) }
 
-still_defined : (words : Valuation) → IsTrueBy words (is_equal (after J 1) (entry I)) → IsTrueBy words (is_defined (entry I)) → value.is_defined (words (codes "J-1")) ≡ true
-still_defined words same defined = ap value.is_defined (swapped words same) ∙ defined
+abbrev swapped : Tree
+swapped = is_equal (after J 1) (entry I)
 
-turned : (words : Valuation) → IsTrueBy words (is_equal (after J 1) (entry I)) → IsTrueBy words (is_equal (after K 2) (after J 1)) → value.same_value (words (codes "K-2")) (words (codes "I-IN")) ≡ true
-turned words first second = ap (value.same_value (words (codes "K-2"))) (sym (swapped words first)) ∙ second
+abbrev swapped_again : Tree
+swapped_again = is_equal (after K 2) (after J 1)
 
+same_values : (words : Valuation) → IsTrueBy words swapped → words (codes "J-1") ≡ words (codes "I-IN")
+same_values words same = are_same (words (codes "J-1")) (words (codes "I-IN")) same
+
+-- after the first call J is defined, as I was
+stays_defined : {hyps : List Tree} → slice_get hyps 5 ≡ Some (is_defined (entry I)) → slice_get hyps 13 ≡ Some swapped → Follows hyps (is_defined (after J 1))
+stays_defined defined same = record { by_words = λ words given. ap value.is_defined (same_values words (given 13 swapped same)) ∙ given 5 (is_defined (entry I)) defined }
+
+-- after both calls K is what I was
+turned : {hyps : List Tree} → slice_get hyps 13 ≡ Some swapped → slice_get hyps 19 ≡ Some swapped_again → Follows hyps (is_equal (after K 2) (entry I))
+turned first second = record { by_words = λ words given. ap (value.same_value (words (codes "K-2"))) (sym (same_values words (given 13 swapped first))) ∙ given 19 swapped_again second }
+
+-- of SWAP, and of ROT
 all_follow : AllFollow (conditions_of rotate_program paths)
-all_follow = (
-  stands 4 refl,
-  (
-    stands 5 refl,
-    (
-      stands 4 refl,
-      (
-        record { by_words = λ words given. same_as_itself (words (codes "J-IN")) },
-        (
-          record { by_words = λ words given. same_as_itself (words (codes "I-IN")) },
-          (
-            stands 5 refl,
-            (
-              stands 6 refl,
-              (
-                record { by_words = λ words given. still_defined words (given 13 (is_equal (after J 1) (entry I)) refl) (given 5 (is_defined (entry I)) refl) },
-                (
-                  stands 7 refl,
-                  (
-                    stands 12 refl,
-                    (
-                      stands 18 refl,
-                      (
-                        record { by_words = λ words given. turned words (given 13 (is_equal (after J 1) (entry I)) refl) (given 19 (is_equal (after K 2) (after J 1)) refl) },
-                        tt,
-                      ),
-                    ),
-                  ),
-                ),
-              ),
-            ),
-          ),
-        ),
-      ),
-    ),
-  ),
-)
+all_follow =
+    stands 4 refl also stands 5 refl also stands 4 refl also equal_to_itself J also equal_to_itself I
+    also stands 5 refl also stands 6 refl also stays_defined refl refl also stands 7 refl
+    also stands 12 refl also stands 18 refl also turned refl refl also tt
 
 pub rot_meets_premises : RotMeetsPremises
 rot_meets_premises = record {
-  deck = deck;
+  deck = record { units = units; notes = [] };
   same_units = refl;
-  well_formed = well_formed;
+  well_formed = (swap_well_formed also rotate_well_formed also tt) also refl;
   notes = fitting;
   rules = keeps;
   smashed = table;
