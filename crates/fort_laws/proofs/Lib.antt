@@ -59,6 +59,7 @@ pub mod WitnessLists
 pub mod WitnessNotes
 pub mod WitnessRotate
 pub mod WitnessRules
+pub mod WitnessRuns
 pub mod WitnessSmashes
 pub mod WitnessWorths
 pub mod Written

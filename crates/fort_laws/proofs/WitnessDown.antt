@@ -180,15 +180,18 @@ all_follow =
     also stands 6 refl also stands 6 refl also has_room refl refl refl refl also number_defined also stays_natural refl also falls also tt
 
 pub loop_meets_premises : LoopMeetsPremises
-loop_meets_premises = record {
-  deck = record { units = down ∷ []; notes = [] };
-  same_units = refl;
-  well_formed = (unit_well_formed also tt) also refl;
-  notes = fitting;
-  rules = keeps;
-  smashed = table;
-  paths = paths ∷ [];
-  all_paths = all_paths;
-  exact = conditions_are_exact down_program (paths ∷ []) all_paths;
-  valid = all_valid (conditions_of down_program (paths ∷ [])) all_follow;
-}
+loop_meets_premises = (
+  record {
+    deck = record { units = down ∷ []; notes = [] };
+    same_units = refl;
+    well_formed = (unit_well_formed also tt) also refl;
+    notes = fitting;
+    rules = keeps;
+    smashed = table;
+    paths = paths ∷ [];
+    all_paths = all_paths;
+    exact = conditions_are_exact down_program (paths ∷ []) all_paths;
+    valid = all_valid (conditions_of down_program (paths ∷ [])) all_follow;
+  },
+  refl,
+)

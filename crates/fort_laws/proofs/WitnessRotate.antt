@@ -194,15 +194,18 @@ all_follow =
     also stands 12 refl also stands 18 refl also turned refl refl also tt
 
 pub rot_meets_premises : RotMeetsPremises
-rot_meets_premises = record {
-  deck = record { units = units; notes = [] };
-  same_units = refl;
-  well_formed = (swap_well_formed also rotate_well_formed also tt) also refl;
-  notes = fitting;
-  rules = keeps;
-  smashed = table;
-  paths = paths;
-  all_paths = all_paths;
-  exact = conditions_are_exact rotate_program paths all_paths;
-  valid = all_valid (conditions_of rotate_program paths) all_follow;
-}
+rot_meets_premises = (
+  record {
+    deck = record { units = units; notes = [] };
+    same_units = refl;
+    well_formed = (swap_well_formed also rotate_well_formed also tt) also refl;
+    notes = fitting;
+    rules = keeps;
+    smashed = table;
+    paths = paths;
+    all_paths = all_paths;
+    exact = conditions_are_exact rotate_program paths all_paths;
+    valid = all_valid (conditions_of rotate_program paths) all_follow;
+  },
+  refl,
+)

@@ -1,5 +1,5 @@
 -- Programs that meet all that soundness wants of a program.
-use Rattle.std.specs.Prelude.{◌≡◌, List, [], ◌∷◌, codes}
+use Rattle.std.specs.Prelude.{◌≡◌, List, [], ◌∷◌, length, codes}
 use Rattle.formula.specs.Tree.{symbol}
 use Rattle.fort_syntax.specs.WellFormed.{IsWellFormed}
 use Rattle.fort_syntax.specs.declared.deck.Deck.{Deck}
@@ -55,10 +55,12 @@ down_program =
     })
     (N ∷ [])
 
+-- there are ten conditions
 abbrev pub LoopMeetsPremises : Type 0
-LoopMeetsPremises = MeetsPremises down_program
+LoopMeetsPremises = (m : MeetsPremises down_program) × (length (conditions_of down_program m.paths) ≡ 10)
 
 -- ---- two calls that turn three values around
 
+-- there are twelve conditions
 abbrev pub RotMeetsPremises : Type 0
-RotMeetsPremises = MeetsPremises rotate_program
+RotMeetsPremises = (m : MeetsPremises rotate_program) × (length (conditions_of rotate_program m.paths) ≡ 12)
