@@ -140,10 +140,17 @@ one_less = difference (start N) (number 1)
 positive : (words : Valuation) → IsTrueBy words above_zero → int_le (pos 0) (before words) ≡ true
 positive words h = still_natural (num (at_assert words)) h
 
+is_number : (words : Valuation) → IsTrueBy words (is_integer (start N)) → IsTrueBy words (is_defined (start N)) → IsInteger (least words) (greatest words) (at_assert words)
+is_number words integral defined = integer (least words) (greatest words) (at_assert words) integral defined
+
 -- N is 0 where the loop is left
-is_zero : {hyps : List Tree} → slice_get hyps 5 ≡ Some (is_integer (start N)) → slice_get hyps 6 ≡ Some (is_defined (start N)) → slice_get hyps 7 ≡ Some natural → slice_get hyps 9 ≡ Some at_zero
-    → Follows hyps (is_equal (start N) (number 0))
-is_zero integral defined low high = record { by_words = λ words given. by_number words (given 7 natural low) (given 9 at_zero high) (integer (least words) (greatest words) (at_assert words) (given 5 (is_integer (start N)) integral) (given 6 (is_defined (start N)) defined)) }
+is_zero : {hyps : List Tree} → slice_get hyps 5 ≡ Some (is_integer (start N)) → slice_get hyps 6 ≡ Some (is_defined (start N))
+    → slice_get hyps 7 ≡ Some natural → slice_get hyps 9 ≡ Some at_zero → Follows hyps (is_equal (start N) (number 0))
+is_zero integral defined low high = record {
+  by_words = λ words given.
+      by_number words (given 7 natural low) (given 9 at_zero high)
+      (is_number words (given 5 (is_integer (start N)) integral) (given 6 (is_defined (start N)) defined));
+}
   where
     by_number : (words : Valuation) → IsTrueBy words natural → IsTrueBy words at_zero → IsInteger (least words) (greatest words) (at_assert words) → same_value (at_assert words) (Int (pos 0)) ≡ true
     by_number words low high v =
@@ -151,9 +158,13 @@ is_zero integral defined low high = record { by_words = λ words given. by_numbe
         ∙ zero_is v.number (ap (λ (x : Value). int_le (pos 0) (num x)) (sym v.is) ∙ low) (ap (λ (x : Value). int_le (num x) (pos 0)) (sym v.is) ∙ high)
 
 -- one less is an integer of the processor where the loop goes on
-has_room : {hyps : List Tree} → slice_get hyps 0 ≡ Some bounded → slice_get hyps 5 ≡ Some (is_integer (start N)) → slice_get hyps 6 ≡ Some (is_defined (start N)) → slice_get hyps 9 ≡ Some above_zero
-    → Follows hyps (term And (at_most LEAST one_less ∷ at_most one_less GREATEST ∷ []))
-has_room bound integral defined more = record { by_words = λ words given. by_number words (given 0 bounded bound) (positive words (given 9 above_zero more)) (integer (least words) (greatest words) (at_assert words) (given 5 (is_integer (start N)) integral) (given 6 (is_defined (start N)) defined)) }
+has_room : {hyps : List Tree} → slice_get hyps 0 ≡ Some bounded → slice_get hyps 5 ≡ Some (is_integer (start N))
+    → slice_get hyps 6 ≡ Some (is_defined (start N)) → slice_get hyps 9 ≡ Some above_zero → Follows hyps (term And (at_most LEAST one_less ∷ at_most one_less GREATEST ∷ []))
+has_room bound integral defined more = record {
+  by_words = λ words given.
+      by_number words (given 0 bounded bound) (positive words (given 9 above_zero more))
+      (is_number words (given 5 (is_integer (start N)) integral) (given 6 (is_defined (start N)) defined));
+}
   where
     by_number : (words : Valuation) → IsTrueBy words bounded → int_le (pos 0) (before words) ≡ true → IsInteger (least words) (greatest words) (at_assert words)
         → (int_le (least words) (before words) && (int_le (before words) (greatest words) && true)) ≡ true

@@ -46,7 +46,8 @@ module _ (p : Program) where
   unit_is_held i u = list_all (line_is_held i u) u.lines && list_all is_no_common u.names
 
   -- a bare name that a smashed dummy gets
-  bare_held : (its mine : Name → Bool) (ds : List Name) (es : List Expr) → list_all mine (bare_names its ds es) ≡ true → (n : ℕ) (d x : Name) → slice_get ds n ≡ Some d → slice_get es n ≡ Some (Var x) → its d ≡ true → mine x ≡ true
+  bare_held : (its mine : Name → Bool) (ds : List Name) (es : List Expr) → list_all mine (bare_names its ds es) ≡ true
+      → (n : ℕ) (d x : Name) → slice_get ds n ≡ Some d → slice_get es n ≡ Some (Var x) → its d ≡ true → mine x ≡ true
   bare_held its mine [] es h n d x a b t = absurd (cc)
   bare_held its mine (c ∷ ds) [] h n d x a b t = absurd (cc)
   bare_held its mine (c ∷ ds) (e ∷ es) h zero d x a b t =
@@ -64,7 +65,8 @@ module _ (p : Program) where
     unit_parts : (i : ℕ) (u : Routine) → slice_get p.units i ≡ Some u → (list_all (line_is_held i u) u.lines ≡ true) × (list_all is_no_common u.names ≡ true)
     unit_parts i u is = both_parts (list_all (line_is_held i u) u.lines) (list_all is_no_common u.names) (at_each p.units (λ i u. unit_is_held i u ≡ true) held i u is)
 
-    line_parts : (i : ℕ) (u : Routine) → slice_get p.units i ≡ Some u → (k : ℕ) (line : Line) → slice_get u.lines k ≡ Some line → (list_all (is_smashed p i) (set_by line.stmt) ≡ true) × (list_all (call_is_held i) (sites_of u line.stmt) ≡ true)
+    line_parts : (i : ℕ) (u : Routine) → slice_get p.units i ≡ Some u → (k : ℕ) (line : Line) → slice_get u.lines k ≡ Some line
+        → (list_all (is_smashed p i) (set_by line.stmt) ≡ true) × (list_all (call_is_held i) (sites_of u line.stmt) ≡ true)
     line_parts i u is k line e =
         both_parts (list_all (is_smashed p i) (set_by line.stmt)) (list_all (call_is_held i) (sites_of u line.stmt)) (all_pass (line_is_held i u) u.lines (unit_parts i u is).0 k line e)
 
