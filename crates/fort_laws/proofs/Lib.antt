@@ -73,4 +73,12 @@ pub mod Unfolding
 pub mod UnitCalls
 pub mod ValidPaths
 pub mod WalkKeeps
+pub mod WitnessDown
+pub mod WitnessLists
+pub mod WitnessNotes
+pub mod WitnessRotate
+pub mod WitnessRules
+pub mod WitnessRuns
+pub mod WitnessSmashes
+pub mod WitnessWorths
 pub mod Written

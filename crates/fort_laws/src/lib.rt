@@ -18,6 +18,7 @@ mod steps;
 mod symbols;
 mod units;
 mod ways;
+mod witnesses;
 
 pub use calls::{calls_are_matched, unit_calls_match};
 pub use clocks::clocks_fall_only_so_often;
@@ -49,3 +50,4 @@ pub use symbols::{
 };
 pub use units::{safe_units_are_right, safe_units_end, smashed_have_types};
 pub use ways::{statements_lead_on, ways_can_be_completed};
+pub use witnesses::{loop_may_run, loop_meets_premises, rot_may_run, rot_meets_premises};

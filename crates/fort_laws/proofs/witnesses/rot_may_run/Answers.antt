@@ -1,0 +1,5 @@
+use Rattle.fort_laws.proofs.WitnessRuns.{rot_may_run as law}
+use Rattle.fort_laws.proofs.witnesses.rot_may_run.Goals as goal
+
+pub returns : goal.returns
+returns c = law
