@@ -26,7 +26,6 @@ pub mod Falling
 pub mod FewSymbols
 pub mod FittingNotes
 pub mod FlowEnds
-pub mod FormedUnits
 pub mod FrameCalls
 pub mod FrameClaims
 pub mod FrameEnter
@@ -51,7 +50,6 @@ pub mod Matching
 pub mod Near
 pub mod PlaceBounds
 pub mod Ranks
-pub mod ReadyRows
 pub mod References
 pub mod RightUnits
 pub mod RulesGive

@@ -6,12 +6,10 @@ mod clocks;
 mod decks;
 mod exactness;
 mod expressions;
-mod formed;
 mod frames;
 mod lazy;
 mod places;
 mod programs;
-mod ready_rows;
 mod segments;
 mod statements;
 mod steps;
@@ -31,7 +29,6 @@ pub use exactness::{
     words_tell_symbols,
 };
 pub use expressions::expressions_match;
-pub use formed::formed_units_have_names;
 pub use frames::{
     evaluation_changes_nothing, rules_make_sound, rules_pass_smashed_alone,
     runs_change_only_smashed, runs_without_smashing_change_nothing,
@@ -39,7 +36,6 @@ pub use frames::{
 pub use lazy::lazy_runs_follow_strict_ones;
 pub use places::elements_lie_in_arrays;
 pub use programs::{programs_are_correct, strict_programs_are_correct};
-pub use ready_rows::inc_is_ready;
 pub use segments::{safe_runs_arrive, safe_runs_end, statements_keep};
 pub use statements::statements_match;
 pub use steps::{
