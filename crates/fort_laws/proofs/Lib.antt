@@ -12,6 +12,12 @@ pub mod CallSorts
 pub mod CallStood
 pub mod Descents
 pub mod Entering
+pub mod ErrorsOnArrival
+pub mod ErrorsOnWays
+pub mod ErrorsParting
+pub mod ErrorsChoices
+pub mod ErrorsOfUnits
+pub mod ErrorsOfWalks
 pub mod Exact
 pub mod Falling
 pub mod FewSymbols

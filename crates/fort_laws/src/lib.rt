@@ -3,6 +3,7 @@
 
 mod calls;
 mod clocks;
+mod errors;
 mod exactness;
 mod expressions;
 mod frames;
@@ -17,6 +18,7 @@ mod ways;
 
 pub use calls::{calls_are_matched, unit_calls_match};
 pub use clocks::clocks_fall_only_so_often;
+pub use errors::{errors_are_those_of_walks, runs_arrive_or_err, runs_err_whatever_calls_answer};
 pub use exactness::{
     checks_do_not_depend_on_values, conditions_are_exact, valid_conditions_make_paths_safe,
     words_tell_symbols,
