@@ -1,10 +1,10 @@
 -- Choices of a statement are decided by values: two lists of choices that lead on have events that part, or they are the same.
-use Rattle.std.proofs.Common.{◌≡◌, ℕ, zero, suc, ◌<◌, ◌≤◌, ◌==◌, ◌⊎◌, inl, inr, Bool, true, false, cond, not, ◌&&◌, ℤ, pos, int_lt, int_le, List, [], ◌∷◌, ◌++◌, map, length, Option, Some, None, slice_get, refl, sym, ap, ◌∙◌, subst, arith, rules}
+use Rattle.std.proofs.Common.{◌≡◌, ℕ, zero, suc, ◌<◌, ◌==◌, ◌⊎◌, inl, inr, Bool, true, false, cond, not, ◌&&◌, ℤ, pos, int_lt, int_le, List, [], ◌∷◌, ◌++◌, map, length, Some, None, refl, sym, ap, ◌∙◌, subst, arith, rules}
 use Rattle.std.specs.Ordering.{int_eq}
 use Rattle.std.proofs.lemmas.Int.{ints}
 use Rattle.std.proofs.lemmas.List.{length-map}
 use Rattle.std.proofs.lemmas.Option.{slice_get_within}
-use Rattle.formula.specs.declared.function.BuiltIn.TheVariants.{Equal, Plus, Less, AtMost}
+use Rattle.formula.specs.declared.function.BuiltIn.TheVariants.{Equal, Plus}
 use Rattle.formula.specs.declared.value.Value.{Value}
 use Rattle.formula.specs.declared.value.Value.TheVariants.{Int, Logical, Undefined, Cells}
 use Rattle.formula.specs.Values.{holds, num, same_value}
@@ -12,7 +12,6 @@ use Rattle.formula.specs.Worth.{Function}
 use Rattle.fort_syntax.specs.declared.name.Name.{Name}
 use Rattle.fort_syntax.specs.declared.dialect.Dialect.{Dialect}
 use Rattle.fort_syntax.specs.declared.dialect.Dialect.TheVariants.{Common, SeventySeven}
-use Rattle.fort_syntax.specs.declared.stmt.Param.{Param}
 use Rattle.fort_syntax.specs.declared.stmt.Stmt.{Stmt}
 use Rattle.fort_syntax.specs.declared.stmt.Stmt.TheVariants.{Subroutine, Function as FunctionHead, Declare, Dimension, Common as CommonBlock, Assign, GoTo, Computed, ArithIf, LogicalIf', Do, Continue, Call, Return, End, BlockIf, ElseIf, Else, EndIf}
 use Rattle.fort_syntax.specs.declared.unit.Unit.{Unit as Routine}
@@ -21,14 +20,14 @@ use Rattle.fort_model.specs.Conditions.{sight}
 use Rattle.fort_model.specs.Events.{Event, Take}
 use Rattle.fort_model.specs.Flow as flow
 use Rattle.fort_model.specs.Flow.{leads, leads_do, leads_computed, one_way, one_of, target, Loop, loops_at, loops_around, next_point, next_branch, through}
-use Rattle.fort_model.specs.Names.{is_function, subroutine}
+use Rattle.fort_model.specs.Names.{subroutine}
 use Rattle.fort_model.specs.Program.{Program}
 use Rattle.fort_model.specs.Seen.{Named, Answers, Seen, See, ◌>>◌, see}
 use Rattle.fort_model.specs.Senses.{of_values, natural, make2, negated}
 use Rattle.fort_model.specs.Symbols.{Symbol}
 use Rattle.fort_model.specs.WalkCalls.{Sight, call}
 use Rattle.fort_model.specs.WalkExpr.{read, ranged, operands, value}
-use Rattle.fort_model.specs.WalkStmt.{taken, tests, left_with, with_name, parameter, step_value, entered, begin, passed_over, behind, assign, counts_label, select, selected, choice_check, sign_fact, truth_fact, result, performed}
+use Rattle.fort_model.specs.WalkStmt.{taken, tests, with_name, parameter, step_value, entered, begin, behind, assign, counts_label, select, selected, choice_check, sign_fact, truth_fact, performed}
 use Rattle.fort_laws.proofs.ErrorsParting.{Exclude, Part, part_here, after, after_one, or_part}
 use Rattle.fort_laws.proofs.Near.{known}
 use Rattle.fort_laws.proofs.Small.{both_hold}

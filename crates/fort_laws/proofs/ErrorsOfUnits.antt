@@ -14,12 +14,13 @@ use Rattle.fort_laws.proofs.WalkKeeps.{statements_keep}
 
 pub runs_arrive_or_err : RunsArriveOrErr
 runs_arrive_or_err values program p i u env clock pc now st h =
-    let calls = unit_calls_match values program p i u env h.least h.greatest h.sound h.table h.blocks h.harmless h.right h.apart in
-    goes_a_way program.functions values program i (at_home p program u env) h.dialects (IsReferenceTo program i u) (IsCallTo program i u)
-    (statements_match program.functions values program i (at_home p program u env) (run p program.units) h.least h.greatest h.strict h.bounded h.dialects
-    (scalar_dims program.units i u (h.sound.units_are i u h.is) p env st now h.stood) calls.0 calls.1)
-    h.good h.cut (statements_keep program.functions values program i (at_home p program u env) h.table h.is h.common) clock pc
-    (near_all program.dialect u (notes_of program i) h.cut pc) h.line now st h.at h.stood h.kept
+    let o = h.order in
+    let calls = unit_calls_match values program p i u env h.least h.greatest o.sound o.table o.blocks o.harmless o.right h.apart in
+    goes_a_way program.functions values program i (at_home p program u env) o.dialects (IsReferenceTo program i u) (IsCallTo program i u)
+    (statements_match program.functions values program i (at_home p program u env) (run p program.units) h.least h.greatest o.strict o.bounded o.dialects
+    (scalar_dims program.units i u (o.sound.units_are i u o.is) p env st now h.stood) calls.0 calls.1)
+    h.good o.cut (statements_keep program.functions values program i (at_home p program u env) o.table o.is o.common) clock pc
+    (near_all program.dialect u (notes_of program i) o.cut pc) h.line now st h.at h.stood h.kept
 
 pub runs_err_whatever_calls_answer : RunsErrWhateverCallsAnswer
 runs_err_whatever_calls_answer values program p i u env clock pc now st h way is kind card error fails =

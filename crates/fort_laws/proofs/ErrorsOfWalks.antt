@@ -21,7 +21,7 @@ use Rattle.fort_model.specs.Walk.{arrive, walk_from, perform_line, go_on}
 use Rattle.fort_model.specs.WalkCalls.{Sight}
 use Rattle.fort_model.specs.WalkStmt.{performed}
 use Rattle.fort_laws.specs.Errors.{IsRunError, IsOnArrival, Comes, RunsAs, arrives, fails_there, errs_on_way, RunErrs, ErrorsAreThoseOfWalks}
-use Rattle.fort_laws.specs.Matches.{AllTrue, FirstFails, Errs, of_callee, errs}
+use Rattle.fort_laws.specs.Matches.{FirstFails, Errs, of_callee, errs}
 use Rattle.fort_laws.specs.Segments.{seen}
 use Rattle.fort_laws.specs.Unfolded.{run_from}
 use Rattle.fort_laws.proofs.ErrorsChoices.{choices_part}
@@ -99,7 +99,7 @@ module _ (fs : List Function) (values : Symbol → Value) (program : Program) (i
 -- ---- errors
 
 -- no run error is of a kind of an arrival, or of a called unit's INPUT
-no_arrival : (kind : Kind) → IsRunError kind → IsOnArrival kind → ⊥
+pub no_arrival : (kind : Kind) → IsRunError kind → IsOnArrival kind → ⊥
 no_arrival DefinedCheck e a = a
 no_arrival RangeCheck e a = a
 no_arrival DivisorCheck e a = a

@@ -1,31 +1,28 @@
 -- A run goes a way to the next cut point, or errs on it.
-use Rattle.std.proofs.Common.{◌≡◌, ℕ, suc, ◌+◌, ◌⊎◌, inl, inr, true, List, [], ◌∷◌, ◌++◌, map, Option, Some, None, slice_get, refl, sym, ap, ◌∙◌, subst, append_assoc, arith}
+use Rattle.std.proofs.Common.{◌≡◌, ℕ, suc, ◌+◌, ◌⊎◌, inl, inr, true, List, [], ◌∷◌, ◌++◌, Option, Some, slice_get, refl, sym, ap, ◌∙◌, subst, append_assoc, arith}
 use Rattle.formula.specs.declared.value.Value.{Value}
-use Rattle.formula.specs.Tree.{Tree}
 use Rattle.formula.specs.Values as value
 use Rattle.formula.specs.Values.{holds}
 use Rattle.formula.specs.Worth.{Function}
 use Rattle.fort_syntax.specs.declared.name.Name.{Name}
 use Rattle.fort_syntax.specs.declared.condition.Kind.{Kind}
-use Rattle.fort_syntax.specs.declared.condition.Kind.TheVariants.{AssertCheck, ClockCheck, OutputCheck}
 use Rattle.fort_syntax.specs.declared.dialect.Dialect.{Dialect}
 use Rattle.fort_syntax.specs.declared.dialect.Sort.{Sort}
 use Rattle.fort_syntax.specs.declared.expr.Expr.{Expr}
 use Rattle.fort_syntax.specs.declared.unit.Line.{Line}
 use Rattle.fort_model.specs.Evaluate.{Scene}
-use Rattle.fort_model.specs.Events.{Event, Check, Take, checks}
+use Rattle.fort_model.specs.Events.{Event}
 use Rattle.fort_model.specs.Flow.{leads}
-use Rattle.fort_model.specs.Outcome.{Outcome, Ended, Erred, Act, and_then, step}
+use Rattle.fort_model.specs.Outcome.{Outcome, Act, and_then, step}
 use Rattle.fort_model.specs.Paths.{Cut, NoCut, AtEnd, AtAssert, cut_at, Edge, IsWay, over_or}
 use Rattle.fort_model.specs.Perform.{perform}
-use Rattle.fort_model.specs.Program.{Program, Assertion, notes_of}
+use Rattle.fort_model.specs.Program.{Program, notes_of}
 use Rattle.fort_model.specs.Run.{run, go_to, at_line}
 use Rattle.fort_model.specs.Seen.{Named, Answers}
-use Rattle.fort_model.specs.Senses.{note}
 use Rattle.fort_model.specs.Sites.{calls_before}
 use Rattle.fort_model.specs.Storage.{Storage}
 use Rattle.fort_model.specs.Symbols.{Symbol}
-use Rattle.fort_model.specs.Walk.{arrive, walk_from, fall, at_entry, not_negative}
+use Rattle.fort_model.specs.Walk.{arrive, walk_from}
 use Rattle.fort_model.specs.WalkCalls.{Sight}
 use Rattle.fort_model.specs.WalkStmt.{performed}
 use Rattle.fort_laws.specs.Errors.{IsOnArrival, IsCut, Comes, RunsAs, arrives, fails_there, errs_on_way, GoesAWay}
@@ -37,7 +34,7 @@ use Rattle.fort_laws.specs.Unfolded.{run_from}
 use Rattle.fort_laws.specs.Ways.{IsCutUp, AreExecutable}
 use Rattle.fort_laws.proofs.ErrorsOnArrival.{arrivals_fail, are_on_arrival}
 use Rattle.fort_laws.proofs.Matching.{followed, all_true_append, fails_later, fails_before}
-use Rattle.fort_laws.proofs.Near.{known, Near, near, near_all, complete, line_from, way_on}
+use Rattle.fort_laws.proofs.Near.{Near, near, near_all, complete, line_from, way_on}
 use Rattle.fort_laws.proofs.SafeRuns.{walk_is, run_is, end_is, none_at, returned, good_is_executable, no_answers}
 use Rattle.fort_laws.proofs.Unfolding.{runs_unfold}
 

@@ -15,6 +15,7 @@ pub mod Entering
 pub mod ErrorsOnArrival
 pub mod ErrorsOnWays
 pub mod ErrorsParting
+pub mod ErrorsAtEntry
 pub mod ErrorsChoices
 pub mod ErrorsOfUnits
 pub mod ErrorsOfWalks

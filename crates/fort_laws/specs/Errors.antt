@@ -12,8 +12,7 @@ use Rattle.fort_model.specs.Events.{Event}
 use Rattle.fort_model.specs.Outcome.{Ended, Erred}
 use Rattle.fort_model.specs.Paths.{Cut, NoCut, AtEnd, AtAssert, cut_at, IsWay}
 use Rattle.fort_model.specs.Processor.{Processor, MeetsBound}
-use Rattle.fort_model.specs.Program.{Program, Assertion, notes_of}
-use Rattle.fort_model.specs.Run.{run}
+use Rattle.fort_model.specs.Program.{Program, notes_of}
 use Rattle.fort_model.specs.Seen.{Named, Answers}
 use Rattle.fort_model.specs.Smashes.{HoldsSmashed}
 use Rattle.fort_model.specs.Storage.{Storage, Environment}
@@ -95,12 +94,9 @@ module _ (fs : List Function) (values : Symbol → Value) (program : Program) (i
     pub cost : ℕ
     pub errs : (n : ℕ) → run_from s.processor s.units s.unit s.environment pc st (cost + n) ≡ Erred kind card after
 
--- The statement at a point of a unit, on a processor, where named values stand for cells. It is a unit of a sound program, on a strict
--- processor of the dialect that has all integers up to the bound; its calls are of units that end well, its statements are good, and
--- no cycle goes uncut.
-pub record IsUnderWay (values : Symbol → Value) (program : Program) (p : Processor) (i : ℕ) (u : Routine) (env : Environment) (pc : ℕ) (now : Named Value) (st : Storage) : Type 0 where
-  pub least : values LeastInteger ≡ Int p.least
-  pub greatest : values GreatestInteger ≡ Int p.greatest
+-- A unit of a sound program, on a strict processor of the dialect that has all integers up to the bound. Its calls are of units that
+-- end well, and no cycle goes uncut in it.
+pub record IsInOrder (program : Program) (p : Processor) (i : ℕ) (u : Routine) : Type 0 where
   pub strict : p.lazy ≡ false
   pub bounded : MeetsBound p program.bound
   pub dialects : p.dialect ≡ program.dialect
@@ -111,9 +107,19 @@ pub record IsUnderWay (values : Symbol → Value) (program : Program) (p : Proce
   pub harmless : FunctionsSmashNothing program.units
   pub common : BlocksAreCommon u
   pub right : CallsAreRight p program i
-  pub apart : LieApart program.units i u env
-  pub good : (point : ℕ) (line : Line) → slice_get u.lines point ≡ Some line → IsGood u env (IsReferenceTo program i u) (IsCallTo program i u) point line.stmt
   pub cut : IsCutUp program.dialect u (notes_of program i)
+
+-- all statements of a unit are good
+abbrev pub AreGood : Program → ℕ → Routine → Environment → Type 0
+AreGood program i u env = (pc : ℕ) (line : Line) → slice_get u.lines pc ≡ Some line → IsGood u env (IsReferenceTo program i u) (IsCallTo program i u) pc line.stmt
+
+-- a run of such a unit, all statements of which are good, stands at a statement, and named values stand for cells
+pub record IsUnderWay (values : Symbol → Value) (program : Program) (p : Processor) (i : ℕ) (u : Routine) (env : Environment) (pc : ℕ) (now : Named Value) (st : Storage) : Type 0 where
+  pub order : IsInOrder program p i u
+  pub least : values LeastInteger ≡ Int p.least
+  pub greatest : values GreatestInteger ≡ Int p.greatest
+  pub apart : LieApart program.units i u env
+  pub good : AreGood program i u env
   pub line : Line
   pub at : slice_get u.lines pc ≡ Some line
   pub stood : Stood p u env now st

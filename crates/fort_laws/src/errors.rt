@@ -1,4 +1,5 @@
 // Errors of runs.
+ghost use Rattle.fort_laws.specs.EntryErrors.{FailingPathsErr, UnitsErrAsWalksDo};
 ghost use Rattle.fort_laws.specs.Errors.{ErrorsAreThoseOfWalks, RunsArriveOrErr, RunsErrWhateverCallsAnswer};
 
 /// In a unit that no cycle goes uncut, all calls of which are of units that end well, take a
@@ -27,4 +28,21 @@ pub fn errors_are_those_of_walks()
 /// steps that is enough. So it is where no call comes before that check. It does nothing.
 pub fn runs_err_whatever_calls_answer()
     ensures { RunsErrWhateverCallsAnswer }
+{}
+
+/// Take a unit in which no cycle goes uncut, all calls of which are of units that end well, with
+/// notes that fit it and good statements, and a storage that fits, where smashed names lie apart and
+/// INPUT is met. There are answers of calls, such that: where along a way from the entry to the next
+/// cut point a check that a run makes is the first false event, for these answers and for what names
+/// hold at the entry, a run of the unit errs with its kind and card, at each stock of steps that is
+/// enough. It does nothing.
+pub fn units_err_as_walks_do()
+    ensures { UnitsErrAsWalksDo }
+{}
+
+/// Take such a unit and such a storage. If along a path from the entry, for what names hold there and
+/// whatever calls answer, a check that a run makes is the first false event, then a run of the unit
+/// errs with its kind and card, at each stock of steps that is enough. It does nothing.
+pub fn failing_paths_err()
+    ensures { FailingPathsErr }
 {}
