@@ -47,7 +47,7 @@ walks_read_few_symbols fs values others program i u least greatest entries clock
 -- ---- the entry
 
 -- told answers, as what the symbols of calls stand for
-answered : (Symbol → Value) → Answers Value → Symbol → Value
+unfoldable pub answered : (Symbol → Value) → Answers Value → Symbol → Value
 answered values answers LeastInteger = values LeastInteger
 answered values answers GreatestInteger = values GreatestInteger
 answered values answers (AtEntry x) = values (AtEntry x)

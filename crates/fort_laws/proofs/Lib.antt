@@ -21,6 +21,13 @@ pub mod DeclaredUnits
 pub mod DeclaredUses
 pub mod Descents
 pub mod Entering
+pub mod ErrorsOnArrival
+pub mod ErrorsOnWays
+pub mod ErrorsParting
+pub mod ErrorsAtEntry
+pub mod ErrorsChoices
+pub mod ErrorsOfUnits
+pub mod ErrorsOfWalks
 pub mod Exact
 pub mod Falling
 pub mod FewSymbols

@@ -78,7 +78,7 @@ pub rest_safe : (es fs : List (Event Value)) → AllTrue es → NoCheckFails (es
 rest_safe es fs t n kind card f = n kind card (fails_later kind card es fs t f)
 
 -- a statement whose parts have their types is executable
-good_is_executable : (u : Routine) (env : Environment) (IsReference : Sort → Name → List Expr → Type 0) (IsCall : Name → List Expr → Type 0) (pc : ℕ) (stmt : Stmt) → IsGood u env IsReference IsCall pc stmt → IsExecutable stmt
+pub good_is_executable : (u : Routine) (env : Environment) (IsReference : Sort → Name → List Expr → Type 0) (IsCall : Name → List Expr → Type 0) (pc : ℕ) (stmt : Stmt) → IsGood u env IsReference IsCall pc stmt → IsExecutable stmt
 good_is_executable u env IsReference IsCall pc (Assign left right) h = tt
 good_is_executable u env IsReference IsCall pc (GoTo label) h = tt
 good_is_executable u env IsReference IsCall pc (Computed [] x) h = absurd h.1
@@ -111,7 +111,7 @@ module _ (fs : List Function) (values : Symbol → Value) (program : Program) (i
   abbrev notes : Notes
   notes = notes_of program i
 
-  walk_is : (clock : Option (List Value)) (pc : ℕ) (line : Line) (cs : List ℕ) (q : ℕ) (now : Named Value) (answers : Answers Value) (way : List (List ℕ)) → slice_get s.unit.lines pc ≡ Some line
+  pub walk_is : (clock : Option (List Value)) (pc : ℕ) (line : Line) (cs : List ℕ) (q : ℕ) (now : Named Value) (answers : Answers Value) (way : List (List ℕ)) → slice_get s.unit.lines pc ≡ Some line
       → leads program.dialect s.unit pc line.stmt cs ≡ Some q
       → walk_from w clock pc now answers (cs ∷ way) ≡ (performed w line.card pc now line.stmt cs answers).events
       ++ arrive w clock line.card (cut_at s.unit notes q) (performed w line.card pc now line.stmt cs answers).value
@@ -121,7 +121,7 @@ module _ (fs : List Function) (values : Symbol → Value) (program : Program) (i
       ∙ ap (λ (o : Option ℕ). (performed w line.card pc now line.stmt cs answers).events ++ go_on w clock line.card o (performed w line.card pc now line.stmt cs answers).value
       (λ p. walk_from w clock p (performed w line.card pc now line.stmt cs answers).value (performed w line.card pc now line.stmt cs answers).rest way)) to
 
-  run_is : (pc : ℕ) (line : Line) (cs : List ℕ) (q : ℕ) (st after : Storage) (cost n : ℕ) → slice_get s.unit.lines pc ≡ Some line → leads s.processor.dialect s.unit pc line.stmt cs ≡ Some q
+  pub run_is : (pc : ℕ) (line : Line) (cs : List ℕ) (q : ℕ) (st after : Storage) (cost n : ℕ) → slice_get s.unit.lines pc ≡ Some line → leads s.processor.dialect s.unit pc line.stmt cs ≡ Some q
       → perform s (run s.processor s.units) line.card pc (calls_before s.unit pc) line.stmt st (cost + n) ≡ Ended cs after n
       → run_from s.processor s.units s.unit s.environment pc st (suc cost + n) ≡ run_from s.processor s.units s.unit s.environment q after n
   run_is pc line cs q st after cost n e to done =
@@ -185,7 +185,7 @@ module _ (fs : List Function) (values : Symbol → Value) (program : Program) (i
   right_true (Check kind card v ∷ es) fs h = right_true es fs h.1
   right_true (Take v ∷ es) fs h = right_true es fs h.1
 
-  returned : (card pc : ℕ) (stmt : Stmt) (cs : List ℕ) (now : Named Value) (answers : Answers Value) → IsReturn stmt cs → is_function s.unit ≡ true
+  pub returned : (card pc : ℕ) (stmt : Stmt) (cs : List ℕ) (now : Named Value) (answers : Answers Value) → IsReturn stmt cs → is_function s.unit ≡ true
       → AllTrue (performed w card pc now stmt cs answers).events → value.is_defined ((performed w card pc now stmt cs answers).value s.unit.name) ≡ true
   returned card pc Return cs now answers r f h = result_true card now answers (is_function s.unit) f h
   returned card pc (LogicalIf' e x (carried b)) [] now answers r f h = absurd r

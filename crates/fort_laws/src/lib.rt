@@ -4,6 +4,8 @@
 mod calls;
 mod clocks;
 mod decks;
+=======
+mod errors;
 mod exactness;
 mod expressions;
 mod frames;
@@ -23,6 +25,10 @@ pub use clocks::clocks_fall_only_so_often;
 pub use decks::{
     blocks_are_common, calls_agree, decks_are_correct, ends_are_returns, statements_are_typed,
     well_formed_is_declared,
+};
+pub use errors::{
+    errors_are_those_of_walks, failing_paths_err, runs_arrive_or_err,
+    runs_err_whatever_calls_answer, units_err_as_walks_do,
 };
 pub use exactness::{
     checks_do_not_depend_on_values, conditions_are_exact, valid_conditions_make_paths_safe,

@@ -1,0 +1,48 @@
+// Errors of runs.
+ghost use Rattle.fort_laws.specs.EntryErrors.{FailingPathsErr, UnitsErrAsWalksDo};
+ghost use Rattle.fort_laws.specs.Errors.{ErrorsAreThoseOfWalks, RunsArriveOrErr, RunsErrWhateverCallsAnswer};
+
+/// In a unit that no cycle goes uncut, all calls of which are of units that end well, take a
+/// statement of a strict run where named values stand for the cells. There are a way from there to
+/// the next cut point, and answers of calls, by which the walk tells what the run does. Either all
+/// that the walk meets is true: then the run comes to that cut point, where named values stand for
+/// the cells again, and goes on from there as if it began there, or ends. Or a check of the arrival,
+/// of which a run knows nothing, is the first that is false: then the run comes to the cut point all
+/// the same. Or the first that is false is another check: then the run errs with its kind and card,
+/// at each stock of steps that is enough; but nothing is claimed where it is of a called unit's
+/// INPUT. Statements are taken to be good. It does nothing.
+pub fn runs_arrive_or_err()
+    ensures { RunsArriveOrErr }
+{}
+
+/// Choices of a walk are decided by values: for given answers of calls, a run goes one way alone. So
+/// let a run go a way, for some answers. If along any way, for the same answers, a check is the first
+/// false event, and it is one of those that a run makes, then the run errs with its kind and card, at
+/// each stock of steps that is enough. It does nothing.
+pub fn errors_are_those_of_walks()
+    ensures { ErrorsAreThoseOfWalks }
+{}
+
+/// Take such a statement. If along a way to the next cut point, whatever calls answer, a check that
+/// a run makes is the first false event, then the run errs with its kind and card, at each stock of
+/// steps that is enough. So it is where no call comes before that check. It does nothing.
+pub fn runs_err_whatever_calls_answer()
+    ensures { RunsErrWhateverCallsAnswer }
+{}
+
+/// Take a unit in which no cycle goes uncut, all calls of which are of units that end well, with
+/// notes that fit it and good statements, and a storage that fits, where smashed names lie apart and
+/// INPUT is met. There are answers of calls, such that: where along a way from the entry to the next
+/// cut point a check that a run makes is the first false event, for these answers and for what names
+/// hold at the entry, a run of the unit errs with its kind and card, at each stock of steps that is
+/// enough. It does nothing.
+pub fn units_err_as_walks_do()
+    ensures { UnitsErrAsWalksDo }
+{}
+
+/// Take such a unit and such a storage. If along a path from the entry, for what names hold there and
+/// whatever calls answer, a check that a run makes is the first false event, then a run of the unit
+/// errs with its kind and card, at each stock of steps that is enough. It does nothing.
+pub fn failing_paths_err()
+    ensures { FailingPathsErr }
+{}
