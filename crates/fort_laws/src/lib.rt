@@ -4,7 +4,6 @@
 mod calls;
 mod clocks;
 mod decks;
-=======
 mod errors;
 mod exactness;
 mod expressions;
