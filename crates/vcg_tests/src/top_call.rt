@@ -1,5 +1,5 @@
 // The top call over memory: texts, words, slow ends, and ends that fail.
-use crate::decks::{INC, INC_TEXT, OTHER, OTHER_TEXT};
+use crate::decks::{BLOCK_IF, FREE, FREE_TEXT, INC, INC_TEXT, OTHER, OTHER_TEXT, REFUSED};
 use edge_io::{MemSink, MemSource, Sink, Source};
 use std::alloc::Global;
 use std::test::Fail;
@@ -45,10 +45,49 @@ fn the_text_is_the_same_at_every_pace(rt: HostRuntime) -> Result<(), Fail> {
     Ok(())
 }
 
+fn check_text(
+    rt: &HostRuntime,
+    words: &[&str],
+    deck: &[u8],
+    status: Status,
+    text: &[u8],
+) -> Result<(), Fail> {
+    let alloc = rt.alloc();
+    let mut source = source_of(alloc, deck, &[], 10_000)?;
+    let mut sink = sink_of(alloc, &[], 10_000)?;
+    assert_eq!(rt; call(alloc, words, &mut source, &mut sink)?, status);
+    assert_eq!(rt; sink.bytes(), text);
+    Ok(())
+}
+
+#[test]
+fn decks_are_spelled_freely(rt: HostRuntime) -> Result<(), Fail> {
+    check_text(&rt, &["vc"], FREE, Status::Done, FREE_TEXT)?;
+    check_text(&rt, &["vc", "77"], FREE, Status::Done, FREE_TEXT)?;
+    check_text(&rt, &["vc", "77"], INC, Status::Done, INC_TEXT)
+}
+
+#[test]
+fn the_first_fault_is_told(rt: HostRuntime) -> Result<(), Fail> {
+    for (deck, text) in REFUSED {
+        check_text(&rt, &["vc", "77"], deck, Status::Refused, text)?;
+    }
+    let text = b"REFUSED 7 Excluded THEN CARD 2\n";
+    check_text(&rt, &["vc"], BLOCK_IF, Status::Refused, text)?;
+    check_text(&rt, &["vc", "77"], BLOCK_IF, Status::Refused, OTHER_TEXT)
+}
+
 #[test]
 fn other_words_do_nothing(rt: HostRuntime) -> Result<(), Fail> {
     let alloc = rt.alloc();
-    let calls: [&[&str]; 4] = [&[], &["VC"], &["vc", "vc"], &["made", "x"]];
+    let calls: [&[&str]; 6] = [
+        &[],
+        &["VC"],
+        &["vc", "vc"],
+        &["vc", "66"],
+        &["77", "vc"],
+        &["vc", "77", "77"],
+    ];
     for words in calls {
         let mut source = source_of(alloc, INC, &[], 10_000)?;
         let mut sink = sink_of(alloc, &[], 10_000)?;

@@ -1,12 +1,11 @@
 pub mod Drafted
 pub mod Evaluated
 pub mod Found
+pub mod Operations
 pub mod PathMade
 pub mod Rebound
 pub mod Sized
 pub mod Stated
 pub mod Steps
 pub mod TermsRead
-pub mod Replies
 pub mod Taken
-pub mod Words

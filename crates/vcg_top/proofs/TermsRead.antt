@@ -1,12 +1,11 @@
 -- The terms of a text, one after another.
-use Rattle.std.proofs.Common.{◌≡◌, ℕ, suc, ◌<◌, ◌-◌, Bool, true, false, ◌&&◌, if◌then◌else◌, Option, Some, None, List, [], ◌∷◌, ◌++◌, length, take, drop, refl, sym, ap, ◌∙◌, arith, length-drop}
+use Rattle.std.proofs.Common.{◌≡◌, ℕ, suc, ◌<◌, ◌-◌, Bool, true, false, if◌then◌else◌, Option, Some, None, List, [], ◌∷◌, ◌++◌, length, take, drop, refl, sym, ap, ◌∙◌, arith, length-drop}
 use Rattle.std.proofs.lemmas.List.{take_all}
 use Rattle.formula.specs.declared.node.Node.{Node}
 use Rattle.formula.specs.declared.node.TermId.{TermId}
 use Rattle.formula.specs.Tree.{Tree}
-use Rattle.formula.specs.Atoms.{same_bytes, starts}
 use Rattle.formula.specs.Pool.{AllBelow, Grows, IsIn, tree_of}
-use Rattle.vcg_top.specs.FirstForm.{when, is_blank, is_separator, plain_term, terms_from, terms_of, note_of}
+use Rattle.vcg_top.specs.FirstForm.{when, has_word, is_blank, plain_term, terms_from, terms_of, note_of}
 use Rattle.vcg_top.specs.Drafts.{trees_in}
 use Rattle.formula.proofs.Grown.{AllBelow-Grows}
 use Rattle.vcg_top.proofs.Drafted.{trees_in-Grows}
@@ -54,12 +53,9 @@ rest_whole n text =
     let long : length (drop n text) ≡ length text - n = length-drop n text in
     take_all (length text - n) (drop n text) (omega arith)
 
-pub note_of-separated : (dummies : List (List ℕ)) (entries : Bool) (word card text : List ℕ) → text ≡ drop (length word) card
-    → same_bytes word (take (length word) card) ≡ true → starts is_separator text ≡ true
-    → terms_of dummies entries text ≡ note_of dummies entries word card
-note_of-separated dummies entries word card text t w s =
-    let rest = drop (length word) card in
-    let apart : starts is_separator rest ≡ true = ap (starts is_separator) (sym t) ∙ s in
-    ap (terms_of dummies entries) t
-    ∙ sym (ap (λ (c : Bool). if c && starts is_separator rest then terms_of dummies entries rest else None) w
-    ∙ ap (λ (c : Bool). if c then terms_of dummies entries rest else None) apart)
+-- behind its word
+pub note_of-word : (dummies : List (List ℕ)) (entries : Bool) (word text rest : List ℕ) → rest ≡ drop (length word) text
+    → has_word word text ≡ true → terms_of dummies entries rest ≡ note_of dummies entries word text
+note_of-word dummies entries word text rest e h =
+    ap (terms_of dummies entries) e
+    ∙ sym (ap (λ (c : Bool). if c then terms_of dummies entries (drop (length word) text) else None) h)

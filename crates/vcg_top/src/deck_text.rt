@@ -1,4 +1,4 @@
-// The conditions of the text of a deck.
+// The conditions of a deck.
 ghost use Rattle.std.specs.Prelude.{◌≡◌, IfOk, IfSome};
 ghost use Rattle.std.specs.Option.{option_map};
 ghost use Rattle.std.specs.List.{All};
@@ -12,7 +12,7 @@ use crate::numbering::number_all;
 use crate::path::{Path, path_of};
 use edge_io::{List, NoMemory};
 use formula::TermPool;
-use fort_syntax::Condition;
+use fort_syntax::{Condition, Deck};
 use std::alloc::Global;
 
 // A deck has at most so many conditions.
@@ -48,16 +48,16 @@ fn number_path(
     }))
 }
 
-/// The conditions of the deck; none where the text is no deck of the first form.
-pub(crate) fn conditions_of_input(
+/// The conditions of a deck; none where it is not of the first form.
+pub(crate) fn conditions_of_deck(
     alloc: Global,
-    bytes: &[u8],
+    deck: &Deck,
 ) -> Result<Option<Conditions>, NoMemory>
-    ensures value { IfOk result (λ o. option_map condition_trees_of o ≡ option_map conditions_of (first_deck bytes.now)) }
+    ensures value { IfOk result (λ o. option_map condition_trees_of o ≡ option_map conditions_of (first_deck deck.now)) }
     ensures known { IfOk result (λ o. IfSome o (λ c. All (IsConditionIn c.pool) c.conditions)) }
 {
     let mut pool = TermPool::new(alloc);
-    let Some(deck) = first_form(alloc, &mut pool, bytes)? else {
+    let Some(deck) = first_form(alloc, &mut pool, deck)? else {
         return Ok(None);
     };
     let path = path_of(alloc, &mut pool, &deck)?;
