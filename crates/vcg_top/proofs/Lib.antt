@@ -8,4 +8,5 @@ pub mod Sized
 pub mod Stated
 pub mod Steps
 pub mod TermsRead
+pub mod Replies
 pub mod Taken

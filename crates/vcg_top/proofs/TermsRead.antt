@@ -8,15 +8,7 @@ use Rattle.formula.specs.Pool.{AllBelow, Grows, IsIn, tree_of}
 use Rattle.vcg_top.specs.FirstForm.{when, has_word, is_blank, plain_term, terms_from, terms_of, note_of}
 use Rattle.vcg_top.specs.Drafts.{trees_in}
 use Rattle.formula.proofs.Grown.{AllBelow-Grows}
-use Rattle.vcg_top.proofs.Drafted.{trees_in-Grows}
-
-AllBelow-append : (n : ℕ) (ids : List TermId) (id : TermId) → AllBelow n ids → id.place < n → AllBelow n (ids ++ id ∷ [])
-AllBelow-append n [] id h k = (k, tt)
-AllBelow-append n (first ∷ ids) id h k = (h.0, AllBelow-append n ids id h.1 k)
-
-trees_in-append : (pool : List Node) (ids : List TermId) (id : TermId) → trees_in pool (ids ++ id ∷ []) ≡ trees_in pool ids ++ tree_of pool id ∷ []
-trees_in-append pool [] id = refl
-trees_in-append pool (first ∷ ids) id = ap (λ r. tree_of pool first ∷ r) (trees_in-append pool ids id)
+use Rattle.vcg_top.proofs.Drafted.{AllBelow-append, trees_in-append, trees_in-Grows}
 
 -- what comes behind these terms
 abbrev behind : List (List ℕ) → Bool → List Tree → ℕ → List ℕ → Tree × ℕ → Option (List Tree)

@@ -5,3 +5,4 @@ pub mod Drafts
 pub mod FirstForm
 pub mod Found
 pub mod Status
+pub mod UnitDecks

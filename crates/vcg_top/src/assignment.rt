@@ -67,11 +67,7 @@ fn by_statement(
 }
 
 // The assignment of a line, if it has one.
-fn assignment(
-    alloc: Global,
-    dummies: &[Name],
-    line: &Line,
-) -> Result<Option<Assigned>, NoMemory>
+fn assignment(alloc: Global, dummies: &[Name], line: &Line) -> Result<Option<Assigned>, NoMemory>
     ensures { IfOk result (λ a. a ≡ assignment_of dummies.now line.now) }
 {
     by_statement(alloc, dummies, line.card, &line.stmt)

@@ -49,10 +49,7 @@ fn number_path(
 }
 
 /// The conditions of a deck; none where it is not of the first form.
-pub(crate) fn conditions_of_deck(
-    alloc: Global,
-    deck: &Deck,
-) -> Result<Option<Conditions>, NoMemory>
+pub(crate) fn conditions_of_deck(alloc: Global, deck: &Deck) -> Result<Option<Conditions>, NoMemory>
     ensures value { IfOk result (λ o. option_map condition_trees_of o ≡ option_map conditions_of (first_deck deck.now)) }
     ensures known { IfOk result (λ o. IfSome o (λ c. All (IsConditionIn c.pool) c.conditions)) }
 {

@@ -2,6 +2,7 @@
 #![tactic(auto)]
 
 mod assignment;
+mod call;
 mod check;
 mod deck_text;
 mod evaluation;
@@ -9,6 +10,7 @@ mod expression;
 mod first_form;
 mod goals;
 mod hypotheses;
+mod judging;
 mod notes;
 mod numbering;
 mod path;
@@ -16,6 +18,9 @@ mod plain;
 mod reading;
 mod statement;
 mod status;
+mod units_stub;
 mod walk;
+mod words;
 
+pub use call::vcg;
 pub use status::Status;

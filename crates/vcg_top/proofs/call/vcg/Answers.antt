@@ -1,0 +1,29 @@
+use Rattle.std.proofs.Common.{◌∙◌}
+use Rattle.vcg_top.proofs.Replies.{asked_is, done_for, refused_for, part_for, never_refused, done_or_starved}
+use Rattle.vcg_top.proofs.call.vcg.Goals as goal
+
+pub returns-clause-done : goal.returns-clause-done
+returns-clause-done g c d bytes asks told is =
+    let read = c.in-Ok.ensures.told bytes told in
+    let same = asked_is _ _ c.in-Some.dialect d c.in-Some.is c.dialect_of.ensures asks in
+    (read.1, done_for c.in-Some.dialect d _ bytes _ _ same (c.deref.ensures.value ∙ read.0) (c.answer.ensures.done is))
+
+pub returns-clause-refused : goal.returns-clause-refused
+returns-clause-refused g c d bytes asks told is =
+    let read = c.in-Ok.ensures.told bytes told in
+    let same = asked_is _ _ c.in-Some.dialect d c.in-Some.is c.dialect_of.ensures asks in
+    (read.1, refused_for c.in-Some.dialect d _ bytes _ _ same (c.deref.ensures.value ∙ read.0) (c.answer.ensures.refused is))
+
+pub returns-clause-part : goal.returns-clause-part
+returns-clause-part g c d bytes asks told is =
+    let read = c.in-Ok.ensures.told bytes told in
+    let same = asked_is _ _ c.in-Some.dialect d c.in-Some.is c.dialect_of.ensures asks in
+    (read.1, part_for c.in-Some.dialect d _ bytes _ _ same (c.deref.ensures.value ∙ read.0) (c.answer.ensures.part is))
+
+pub returns-clause-complete : goal.returns-clause-complete
+returns-clause-complete g c d bytes asks told all source sink =
+    let read = c.in-Ok.ensures.told bytes told in
+    let same = asked_is _ _ c.in-Some.dialect d c.in-Some.is c.dialect_of.ensures asks in
+    done_or_starved c.answer.result c.answer.ensures.only
+    (λ is. never_refused d bytes _ _ all (refused_for c.in-Some.dialect d _ bytes _ _ same (c.deref.ensures.value ∙ read.0) (c.answer.ensures.refused is)))
+    (λ is. sink (c.answer.ensures.cause is))
