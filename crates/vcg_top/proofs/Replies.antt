@@ -17,7 +17,7 @@ use Rattle.vcg_top.specs.declared.status.Status.{Status}
 use Rattle.vcg_top.specs.declared.status.Status.TheVariants.{Done, Refused, WriteFault, NoMemory as Starved}
 use Rattle.vcg_top.specs.Answers.{AllDone, AppendsOf, AppendsPartOf, IsDeckIn, IsFaultIn, IsConditionsText, IsDoneText, IsNotBuiltText, IsRefusedText, conditions_text, most_read}
 use Rattle.vcg_top.specs.FirstForm.{FirstTree}
-use Rattle.vcg_top.specs.Conditions.{conditions_of, first_deck}
+use Rattle.vcg_top.specs.Conditions.{conditions_of}
 use Rattle.vcg_top.specs.Found.{condition_trees_of}
 
 -- ---- the bytes that are read

@@ -8,7 +8,7 @@ use fort_syntax::{Expr, Line, Name, Stmt};
 use std::alloc::Global;
 
 /// An assignment to a dummy, and its card.
-#[derive(Debug, Drop)]
+#[derive(Drop)]
 pub(crate) struct Assigned {
     pub card: u32,
     pub target: Name,

@@ -10,7 +10,7 @@ use std::alloc::Global;
 const MOST_OPERATORS: u32 = 7;
 
 /// A constant, a dummy, or an operation on two expressions.
-#[derive(Debug, Drop)]
+#[derive(Drop)]
 pub(crate) enum Expression {
     Constant(u64),
     Dummy(Name),

@@ -15,7 +15,7 @@ use std::alloc::Global;
 
 /// A deck of the first form: the name of its subroutine, the dummies, the terms of its input and
 /// output assertions, its assignments, and the card of its RETURN.
-#[derive(Debug, Drop)]
+#[derive(Drop)]
 pub(crate) struct FirstDeck {
     pub unit: Name,
     pub dummies: List<Name>,

@@ -1,4 +1,4 @@
-use Rattle.std.proofs.Common.{◌≡◌, ◌≤◌, ◌<◌, ◌+◌, ◌-◌, ℕ, ap, arith, refl, ◌∙◌, sym}
+use Rattle.std.proofs.Common.{ap, arith, refl}
 use Rattle.vcg_top.specs.FirstForm.{operators}
 use Rattle.vcg_top.proofs.Operations.{operators_is}
 use Rattle.vcg_top.proofs.expression.+count_operators.Goals as goal
