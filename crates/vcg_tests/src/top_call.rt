@@ -45,36 +45,48 @@ fn the_text_is_the_same_at_every_pace(rt: HostRuntime) -> Result<(), Fail> {
     Ok(())
 }
 
-fn check_text(
-    rt: &HostRuntime,
-    words: &[&str],
-    deck: &[u8],
-    status: Status,
-    text: &[u8],
-) -> Result<(), Fail> {
-    let alloc = rt.alloc();
+/// The status and the text for a deck.
+fn answer(alloc: Global, words: &[&str], deck: &[u8]) -> Result<(Status, Vec<u8>), Fail> {
     let mut source = source_of(alloc, deck, &[], 10_000)?;
     let mut sink = sink_of(alloc, &[], 10_000)?;
-    assert_eq!(rt; call(alloc, words, &mut source, &mut sink)?, status);
-    assert_eq!(rt; sink.bytes(), text);
-    Ok(())
+    let status = call(alloc, words, &mut source, &mut sink)?;
+    Ok((status, Vec::from_slice(alloc, sink.bytes())?))
 }
 
 #[test]
 fn decks_are_spelled_freely(rt: HostRuntime) -> Result<(), Fail> {
-    check_text(&rt, &["vc"], FREE, Status::Done, FREE_TEXT)?;
-    check_text(&rt, &["vc", "77"], FREE, Status::Done, FREE_TEXT)?;
-    check_text(&rt, &["vc", "77"], INC, Status::Done, INC_TEXT)
+    let alloc = rt.alloc();
+    let calls: [(&[&str], &[u8], &[u8]); 3] = [
+        (&["vc"], FREE, FREE_TEXT),
+        (&["vc", "77"], FREE, FREE_TEXT),
+        (&["vc", "77"], INC, INC_TEXT),
+    ];
+    for (words, deck, wanted) in calls {
+        let (status, text) = answer(alloc, words, deck)?;
+        assert_eq!(rt; status, Status::Done);
+        assert_eq!(rt; text.as_slice(), wanted);
+    }
+    Ok(())
 }
 
 #[test]
 fn the_first_fault_is_told(rt: HostRuntime) -> Result<(), Fail> {
-    for (deck, text) in REFUSED {
-        check_text(&rt, &["vc", "77"], deck, Status::Refused, text)?;
+    let alloc = rt.alloc();
+    for (deck, wanted) in REFUSED {
+        let (status, text) = answer(alloc, &["vc", "77"], deck)?;
+        assert_eq!(rt; status, Status::Refused);
+        assert_eq!(rt; text.as_slice(), wanted);
     }
-    let text = b"REFUSED 7 Excluded THEN CARD 2\n";
-    check_text(&rt, &["vc"], BLOCK_IF, Status::Refused, text)?;
-    check_text(&rt, &["vc", "77"], BLOCK_IF, Status::Refused, OTHER_TEXT)
+    let (status, text) = answer(alloc, &["vc"], BLOCK_IF)?;
+    assert_eq!(rt; status, Status::Refused);
+    assert_eq!(rt;
+        text.as_slice(),
+        b"REFUSED 7 Excluded THEN CARD 2\n".as_slice()
+    );
+    let (status, text) = answer(alloc, &["vc", "77"], BLOCK_IF)?;
+    assert_eq!(rt; status, Status::Refused);
+    assert_eq!(rt; text.as_slice(), OTHER_TEXT);
+    Ok(())
 }
 
 #[test]
