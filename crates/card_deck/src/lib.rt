@@ -10,8 +10,6 @@ mod label;
 mod least_fault;
 mod reading;
 mod rules;
-#[cfg(test)]
-mod tests;
 mod text;
 
 pub use deck::cards;

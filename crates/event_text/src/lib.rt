@@ -14,6 +14,3 @@ mod terms;
 pub use events::write_events;
 pub use fault::write_fault;
 pub use marks::Marks;
-
-#[cfg(test)]
-mod tests;

@@ -2,8 +2,6 @@
 #![tactic(auto)]
 
 mod adding;
-#[cfg(test)]
-mod adding_tests;
 mod applying;
 mod atom_terms;
 mod atoms;
@@ -30,25 +28,17 @@ mod passing;
 mod pile;
 mod pool;
 mod reader;
-#[cfg(test)]
-mod reading_tests;
 mod scopes;
 mod sheet;
 mod sheet_fault;
 mod substitution;
 mod substitution_law;
 mod taking;
-#[cfg(test)]
-mod tests;
 mod tokens;
 mod uses;
 mod value;
-#[cfg(test)]
-mod value_tests;
 mod word;
 mod worth_laws;
-#[cfg(test)]
-mod worth_tests;
 
 pub use atoms::{
     is_digit, is_digits, is_function_name, is_letter, is_long, is_number, is_same, is_symbol,

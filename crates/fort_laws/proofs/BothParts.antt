@@ -33,13 +33,13 @@ use Rattle.fort_model.specs.Perform.{card_in}
 use Rattle.fort_model.specs.Program.{Program, notes_of, is_smashed, has_common, is_among}
 use Rattle.fort_model.specs.Senses.{Sense, natural, make2, undefined, is_defined, negated, lies_from_to, greatest_integer}
 use Rattle.fort_model.specs.Events.{Check}
-use Rattle.fort_model.specs.Seen.{Named, Answer, See, ◌>>◌, see}
+use Rattle.fort_model.specs.Seen.{Named, See, ◌>>◌, see}
 use Rattle.fort_model.specs.WalkPlaces.{fixed_size, dim, stretch_from, stretch, size_or, size, place_from, place, subscripts_fit, cell_sort, cells_sort, sort_by, sort_in, blank_by, blank, sorts}
 use Rattle.fort_model.specs.WalkCalls.{Sight, Operand, Bare, Part, Computed, stands_for, with_actuals, seen_by, smashed_actuals, smashed_commons, hits, changed, stands_after, result_facts, notes_told, call_unit, call_in, call}
 use Rattle.fort_model.specs.WalkExpr.{checked, read, read_operand, valued, computed, ranged, constant, divisor, operate, power_from, relation, folded, intrinsic_value, place_checked, apply, operand, values, operands, value}
 use Rattle.fort_model.specs.WalkStmt.{with_name, taken, assign, parameter, step_value, left_with, tests, behind, passed_over, entered, begin, counts_label, select, selected, choice_check, sign_fact, truth_fact, result, performed}
 use Rattle.fort_model.specs.Conditions.{sight}
-use Rattle.fort_laws.proofs.BothSenses.{Pairwise, pairwise_map, Correspond, EventsAlike, NamesAlike, AnswerAlike, Anything, Alike, alike_then, alike_before, alike_see, alike_meet, alike_cond, alike_next_answer, checks_alike, takes_alike, pick_alike, natural_alike, make1_alike, make2_alike, make3_alike, note_alike}
+use Rattle.fort_laws.proofs.BothSenses.{Pairwise, pairwise_map, Correspond, EventsAlike, NamesAlike, Anything, Alike, alike_then, alike_before, alike_see, alike_meet, alike_cond, alike_next_answer, checks_alike, takes_alike, pick_alike, natural_alike, make1_alike, make2_alike, make3_alike, note_alike}
 
 module _ {V W : Type 0} (R : V → W → Type 0) (s : Sense V) (t : Sense W) (c : Correspond R s t) where
   -- ---- places
@@ -330,16 +330,16 @@ module _ {V W : Type 0} (R : V → W → Type 0) (s : Sense V) (t : Sense W) (c 
     abbrev AfterAlike : Named V × V → Named W × W → Type 0
     AfterAlike a b = NamesAlike R (a.0) (b.0) × R (a.1) (b.1)
 
-    call_unit_alike : (card j : ℕ) (g : Routine) (now : Named V) (now' : Named W) (xs : List (Operand V)) (ys : List (Operand W)) (a : Answer V) (b : Answer W)
-        → NamesAlike R now now' → Pairwise OperandAlike xs ys → AnswerAlike R a b
+    call_unit_alike : (card j : ℕ) (g : Routine) (now : Named V) (now' : Named W) (xs : List (Operand V)) (ys : List (Operand W)) (a : Named V) (b : Named W)
+        → NamesAlike R now now' → Pairwise OperandAlike xs ys → NamesAlike R a b
         → Alike R AfterAlike (call_unit one card j g now xs a) (call_unit two card j g now' ys b)
     call_unit_alike card j g now now' xs ys a b k l m =
         alike_before R (Anything R) AfterAlike _ _ _ _ (alike_meet R _ _ (checks_alike R InputCheck card _ _ (notes_alike _ _ _ _ before before (notes_of p j).input)))
         (alike_before R (Anything R) AfterAlike _ _ _ _ (alike_meet R _ _ (takes_alike R _ _ smashed_sorts))
-        (alike_before R (Anything R) AfterAlike _ _ _ _ (alike_meet R _ _ (takes_alike R _ _ (result_facts_alike g.sort _ _ (m.1 g.name))))
+        (alike_before R (Anything R) AfterAlike _ _ _ _ (alike_meet R _ _ (takes_alike R _ _ (result_facts_alike g.sort _ _ (m g.name))))
         (alike_before R (Anything R) AfterAlike _ _ _ _
-        (alike_meet R _ _ (takes_alike R _ _ (notes_alike _ _ _ _ before (seen_alike g _ _ _ _ _ _ (after_alike _ _ after xs ys l) after (m.1 g.name)) (notes_of p j).output)))
-        (alike_see R AfterAlike _ _ (after, m.1 g.name)))))
+        (alike_meet R _ _ (takes_alike R _ _ (notes_alike _ _ _ _ before (seen_alike g _ _ _ _ _ _ (after_alike _ _ after xs ys l) after (m g.name)) (notes_of p j).output)))
+        (alike_see R AfterAlike _ _ (after, m g.name)))))
       where
         same : hits one j g xs ≡ hits two j g ys
         same = ap (λ (zs : List Name). zs ++ smashed_commons one (is_smashed p j) g) (smashed_same (is_smashed p j) g.dummies xs ys l)
@@ -347,19 +347,19 @@ module _ {V W : Type 0} (R : V → W → Type 0) (s : Sense V) (t : Sense W) (c 
         before : NamesAlike R (seen_by one g (map stands_for xs) now (undefined s)) (seen_by two g (map stands_for ys) now' (undefined t))
         before = seen_alike g _ _ _ _ _ _ (stands_alike xs ys l) k undefined_alike
 
-        after : NamesAlike R (changed one (hits one j g xs) a.names now) (changed two (hits two j g ys) b.names now')
-        after = subst (λ (zs : List Name). NamesAlike R (changed one (hits one j g xs) a.names now) (changed two zs b.names now')) same (changed_alike (hits one j g xs) _ _ _ _ m.0 k)
+        after : NamesAlike R (changed one (hits one j g xs) a now) (changed two (hits two j g ys) b now')
+        after = subst (λ (zs : List Name). NamesAlike R (changed one (hits one j g xs) a now) (changed two zs b now')) same (changed_alike (hits one j g xs) _ _ _ _ m k)
 
-        smashed_sorts : Pairwise R (sorts s u (changed one (hits one j g xs) a.names now) (hits one j g xs)) (sorts t u (changed two (hits two j g ys) b.names now') (hits two j g ys))
+        smashed_sorts : Pairwise R (sorts s u (changed one (hits one j g xs) a now) (hits one j g xs)) (sorts t u (changed two (hits two j g ys) b now') (hits two j g ys))
         smashed_sorts =
-            subst (λ (zs : List Name). Pairwise R (sorts s u (changed one (hits one j g xs) a.names now) (hits one j g xs)) (sorts t u (changed two (hits two j g ys) b.names now') zs)) same
+            subst (λ (zs : List Name). Pairwise R (sorts s u (changed one (hits one j g xs) a now) (hits one j g xs)) (sorts t u (changed two (hits two j g ys) b now') zs)) same
             (sorts_alike _ _ after u (hits one j g xs))
 
     call_in_alike : (card j : ℕ) (o : Option Routine) (now : Named V) (now' : Named W) (xs : List (Operand V)) (ys : List (Operand W))
         → NamesAlike R now now' → Pairwise OperandAlike xs ys → Alike R AfterAlike (call_in one card j o now xs) (call_in two card j o now' ys)
     call_in_alike card j None now now' xs ys k l = alike_see R AfterAlike _ _ (k, undefined_alike)
     call_in_alike card j (Some g) now now' xs ys k l =
-        alike_then R (AnswerAlike R) AfterAlike _ _ _ _ (alike_next_answer R) (λ a b m. call_unit_alike card j g now now' xs ys a b k l m)
+        alike_then R (NamesAlike R) AfterAlike _ _ _ _ (alike_next_answer R) (λ a b m. call_unit_alike card j g now now' xs ys a b k l m)
 
     call_alike : (card : ℕ) (o : Option ℕ) (now : Named V) (now' : Named W) (xs : List (Operand V)) (ys : List (Operand W))
         → NamesAlike R now now' → Pairwise OperandAlike xs ys → Alike R AfterAlike (call one card o now xs) (call two card o now' ys)

@@ -9,7 +9,7 @@ use Rattle.fort_syntax.specs.declared.condition.Kind.{Kind}
 use Rattle.fort_model.specs.Symbols.{LeastInteger, GreatestInteger, AtEntry}
 use Rattle.fort_model.specs.Senses.{Sense, natural, make1, make2, make3, with_bounds, note}
 use Rattle.fort_model.specs.Events.{Event, Check, Take, checks, takes}
-use Rattle.fort_model.specs.Seen.{Named, Answer, Answers, Seen, See, ◌>>=◌, ◌>>◌, see, meet, next_answer}
+use Rattle.fort_model.specs.Seen.{Named, Answers, Seen, See, ◌>>=◌, ◌>>◌, see, meet, next_answer}
 
 -- each item of a list corresponds to the one at its place in another list
 abbrev pub Pairwise : {A B : Type 0} → (A → B → Type 0) → List A → List B → Type 0
@@ -52,7 +52,7 @@ module _ {V W : Type 0} (R : V → W → Type 0) where
   NamesAlike now now' = (x : Name) → R (now x) (now' x)
 
   abbrev pub AnswersAlike : Answers V → Answers W → Type 0
-  AnswersAlike ps qs = (i : ℕ) → NamesAlike (ps i).names (qs i).names × NamesAlike (ps i).result (qs i).result
+  AnswersAlike ps qs = (i : ℕ) → NamesAlike (ps i) (qs i)
 
   -- parts of walks: for answers that correspond they come to values that correspond, meet events that do, and leave answers that do
   pub record SeenAlike {A B : Type 0} (Q : A → B → Type 0) (a : Seen V A) (b : Seen W B) : Type 0 where
@@ -87,10 +87,7 @@ module _ {V W : Type 0} (R : V → W → Type 0) where
   alike_cond Q true p p' q q' h k = h
   alike_cond Q false p p' q q' h k = k
 
-  abbrev pub AnswerAlike : Answer V → Answer W → Type 0
-  AnswerAlike a b = NamesAlike a.names b.names × NamesAlike a.result b.result
-
-  pub alike_next_answer : Alike AnswerAlike next_answer next_answer
+  pub alike_next_answer : Alike NamesAlike next_answer next_answer
   alike_next_answer ps qs h = record { value = h 0; events = tt; rest = λ i. h (suc i) }
 
   pub checks_alike : (kind : Kind) (card : ℕ) (xs : List V) (ys : List W) → Pairwise R xs ys → Pairwise EventsAlike (checks kind card xs) (checks kind card ys)

@@ -157,7 +157,7 @@ module _ {V W : Type 0} (R : V → W → Type 0) (s : Sense V) (t : Sense W) (c 
   -- ---- whole walks
 
   calls_alike : Others → AnswersAlike R (symbols_of_calls s) (symbols_of_calls t)
-  calls_alike others j = (λ x. others _, λ x. others _)
+  calls_alike others j x = others _
 
   from_assert_alike : Others → (o : Option Assertion) (way : List (List ℕ)) → Events (from_assert one (symbols_of_calls s) o way) (from_assert two (symbols_of_calls t) o way)
   from_assert_alike others None way = tt

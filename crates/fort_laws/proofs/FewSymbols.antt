@@ -15,7 +15,7 @@ use Rattle.fort_model.specs.Paths.{AtAssert, cut_in, cut_at, IsWay, starts_at}
 use Rattle.fort_model.specs.Program.{Program, Assertion, notes_of, is_smashed, assertion_in, assertion_at}
 use Rattle.fort_model.specs.Seen.{Named, Answers, symbols_of_calls}
 use Rattle.fort_model.specs.Senses.{of_values, note}
-use Rattle.fort_model.specs.Symbols.{Symbol, LeastInteger, GreatestInteger, AtEntry, AtStart, AfterCall, ResultOf}
+use Rattle.fort_model.specs.Symbols.{Symbol, LeastInteger, GreatestInteger, AtEntry, AtStart, ByCall}
 use Rattle.fort_model.specs.Walk.{arrive, at_entry, at_start, entry_facts, smashed_in_order, start_facts, not_negative, from_assert, walk_from}
 use Rattle.fort_model.specs.WalkPlaces.{sorts}
 use Rattle.fort_model.specs.WalkCalls.{Sight}
@@ -31,56 +31,7 @@ use Rattle.fort_laws.proofs.WalkKeeps.{statements_keep}
 use Rattle.fort_syntax.specs.declared.condition.Kind.TheVariants.{AssertCheck, ClockCheck}
 use Rattle.fort_laws.proofs.BothWalks.{ClocksAlike, walk_from_alike, arrive_alike, entry_alike, entry_facts_alike}
 use Rattle.fort_laws.proofs.SafeRuns.{rest_safe}
-
--- values that are the same
-abbrev Equal : Value → Value → Type 0
-Equal v w = v ≡ w
-
-all_equal : (xs ys : List Value) → Pairwise Equal xs ys → xs ≡ ys
-all_equal [] [] h = refl
-all_equal [] (y ∷ ys) h = absurd h
-all_equal (x ∷ xs) [] h = absurd h
-all_equal (x ∷ xs) (y ∷ ys) h = ap (λ (z : Value). z ∷ xs) h.0 ∙ ap (λ (zs : List Value). y ∷ zs) (all_equal xs ys h.1)
-
-events_equal : (es fs : List (Event Value)) → Pairwise (EventsAlike Equal) es fs → es ≡ fs
-events_equal [] [] h = refl
-events_equal [] (f ∷ fs) h = absurd h
-events_equal (e ∷ es) [] h = absurd h
-events_equal (Check kind card v ∷ es) (Check kind2 card2 w ∷ fs) h =
-    ap (λ (k : Kind). Check k card v ∷ es) h.0.0 ∙ ap (λ (c : ℕ). Check kind2 c v ∷ es) h.0.1 ∙ ap (λ (x : Value). Check kind2 card2 x ∷ es) h.0.2 ∙ ap (λ (xs : List (Event Value)). Check kind2 card2 w ∷ xs) (events_equal es fs h.1)
-events_equal (Check kind card v ∷ es) (Take w ∷ fs) h = absurd h.0
-events_equal (Take v ∷ es) (Check kind card w ∷ fs) h = absurd h.0
-events_equal (Take v ∷ es) (Take w ∷ fs) h = ap (λ (x : Value). Take x ∷ es) h.0 ∙ ap (λ (xs : List (Event Value)). Take w ∷ xs) (events_equal es fs h.1)
-
-module _ (fs : List Function) (now now' entry entry' : List ℕ → Value) (h : (w : List ℕ) → now w ≡ now' w) (k : (w : List ℕ) → entry w ≡ entry' w) where
-  mutual
-    same_worth : (t : Tree) → worth_by (used fs) now entry t ≡ worth_by (used fs) now' entry' t
-    same_worth (num z) = refl
-    same_worth (truth b) = refl
-    same_worth (symbol w) = h w
-    same_worth (old w) = k w
-    same_worth (apply g row) = ap (λ (vs : List Value). function_worth (used fs) g vs) (same_worths row)
-
-    same_worths : (row : Row) → worths_by (used fs) now entry row ≡ worths_by (used fs) now' entry' row
-    same_worths none = refl
-    same_worths (more t rest) = ap (λ (v : Value). v ∷ worths_by (used fs) now entry rest) (same_worth t) ∙ ap (λ (vs : List Value). worth_by (used fs) now' entry' t ∷ vs) (same_worths rest)
-
-module _ (fs : List Function) (values others : Symbol → Value) (least : values LeastInteger ≡ others LeastInteger) (greatest : values GreatestInteger ≡ others GreatestInteger)
-    (entries : (x : Name) → values (AtEntry x) ≡ others (AtEntry x)) where
-  same_senses : Correspond Equal (of_values fs values) (of_values fs others)
-  same_senses = record {
-    number = λ z. refl;
-    truth_value = λ b. refl;
-    make = λ g xs ys h. ap (applied g) (all_equal xs ys h);
-    told = λ now now' entry entry' h k t. same_worth fs now now' entry entry' h k t;
-    least = least;
-    greatest = greatest;
-    entries = entries;
-  }
-
-equal_all : (xs : List Value) → Pairwise Equal xs xs
-equal_all [] = tt
-equal_all (x ∷ xs) = (refl, equal_all xs)
+use Rattle.fort_laws.proofs.SameValues.{Equal, all_equal, events_equal, same_senses, equal_all}
 
 module _ (fs : List Function) (values others : Symbol → Value) (c : Correspond Equal (of_values fs values) (of_values fs others)) (program : Program) (i : ℕ) (u : Routine) where
   equal_clocks : (o : Option (List Value)) → ClocksAlike Equal (of_values fs values) (of_values fs others) c program i u o o
@@ -92,7 +43,7 @@ walks_read_few_symbols fs values others program i u least greatest entries clock
     let c = same_senses fs values others least greatest entries in
     events_equal _ _
     (walk_from_alike Equal (of_values fs values) (of_values fs others) c program i u clock clock (equal_clocks fs values others c program i u clock)
-    way pc now now answers answers (λ x. refl) (λ k. (λ x. refl, λ x. refl)))
+    way pc now now answers answers (λ x. refl) (λ k x. refl))
 
 -- ---- the entry
 
@@ -102,10 +53,8 @@ answered values answers LeastInteger = values LeastInteger
 answered values answers GreatestInteger = values GreatestInteger
 answered values answers (AtEntry x) = values (AtEntry x)
 answered values answers (AtStart x) = values (AtStart x)
-answered values answers (AfterCall x zero) = values (AfterCall x zero)
-answered values answers (AfterCall x (suc k)) = (answers k).names x
-answered values answers (ResultOf f zero) = values (ResultOf f zero)
-answered values answers (ResultOf f (suc k)) = (answers k).result f
+answered values answers (ByCall x zero) = values (ByCall x zero)
+answered values answers (ByCall x (suc k)) = answers k x
 
 pub paths_make_entries_safe : PathsMakeEntriesSafe
 unfolding answered
@@ -122,7 +71,7 @@ paths_make_entries_safe fs values program i s safe facts way answers over =
     (arrive_alike Equal (of_values fs values) (of_values fs others) c program i s.unit None None tt 0 (cut_at s.unit (notes_of program i) 0) (at_entry one) (at_entry two) _ _
     (entry_alike Equal (of_values fs values) (of_values fs others) c program i s.unit)
     (walk_from_alike Equal (of_values fs values) (of_values fs others) c program i s.unit None None tt way 0 (at_entry one) (at_entry two) answers calls
-    (entry_alike Equal (of_values fs values) (of_values fs others) c program i s.unit) (λ k. (λ x. refl, λ x. refl)))) in
+    (entry_alike Equal (of_values fs values) (of_values fs others) c program i s.unit) (λ k x. refl))) in
     subst (λ (es : List (Event Value)). NoCheckFails es) (sym same_walks)
     (rest_safe (takes (entry_facts two)) _ (subst (λ (ts : List Value). AllTrue (takes ts)) same_facts facts) (safe others (record { start = 0; choices = way }) over))
 
@@ -134,10 +83,8 @@ begun values now answers LeastInteger = values LeastInteger
 begun values now answers GreatestInteger = values GreatestInteger
 begun values now answers (AtEntry x) = values (AtEntry x)
 begun values now answers (AtStart x) = now x
-begun values now answers (AfterCall x zero) = values (AfterCall x zero)
-begun values now answers (AfterCall x (suc k)) = (answers k).names x
-begun values now answers (ResultOf f zero) = values (ResultOf f zero)
-begun values now answers (ResultOf f (suc k)) = (answers k).result f
+begun values now answers (ByCall x zero) = values (ByCall x zero)
+begun values now answers (ByCall x (suc k)) = answers k x
 
 -- what is checked true may be taken
 taken_checks : (kind : Kind) (card : ℕ) (vs : List Value) → AllTrue (checks kind card vs) → AllTrue (takes vs)
@@ -207,9 +154,9 @@ module _ (fs : List Function) (values : Symbol → Value) (program : Program) (i
       by_test true e = refl
       by_test false e = kept x e ∙ entry_alike Equal (of_values fs values) (of_values fs others) linked program i s.unit x
 
-  same_calls : (k : ℕ) → ((x : Name) → (answers k).names x ≡ (calls k).names x) × ((x : Name) → (answers k).result x ≡ (calls k).result x)
+  same_calls : (k : ℕ) (x : Name) → answers k x ≡ calls k x
   unfolding begun
-  same_calls k = (λ x. refl, λ x. refl)
+  same_calls k x = refl
 
   same_entries : (x : Name) → at_entry one x ≡ at_entry two x
   same_entries x = entry_alike Equal (of_values fs values) (of_values fs others) linked program i s.unit x

@@ -25,11 +25,14 @@ pub mod PlaceBounds
 pub mod References
 pub mod RulesKept
 pub mod SafeRuns
+pub mod SameValues
+pub mod SpelledSymbols
 pub mod Stepping
 pub mod StorageLaws
 pub mod Tied
 pub mod TiedParts
 pub mod TiedRuns
 pub mod Unfolding
+pub mod ValidPaths
 pub mod WalkKeeps
 pub mod Written

@@ -96,7 +96,7 @@ good_is_executable u env IsReference IsCall pc End h = absurd h
 
 -- answers of calls, of which nothing is known
 pub no_answers : Answers Value
-no_answers k = record { names = λ x. Undefined; result = λ f. Undefined }
+no_answers k x = Undefined
 
 module _ (fs : List Function) (values : Symbol → Value) (program : Program) (i : ℕ) (s : Scene) (dialects : s.processor.dialect ≡ program.dialect) where
   abbrev w : Sight Value

@@ -227,7 +227,7 @@ module _ {V : Type 0} (w : Sight V) (y : Name) where
       where
         by_unit : (j : ℕ) (o : Option Routine) → subroutine w.program.units f ≡ Some j → slice_get w.program.units j ≡ o → ((call_in w card j o now xs answers).value.0) y ≡ now y
         by_unit j None e q = refl
-        by_unit j (Some g) e q = ap (λ (b : Bool). cond b ((answers 0).names y) (now y)) (not_hit f args site j g e q xs bare)
+        by_unit j (Some g) e q = ap (λ (b : Bool). cond b (answers 0 y) (now y)) (not_hit f args site j g e q xs bare)
 
         by_number : (o : Option ℕ) → subroutine w.program.units f ≡ o → ((call w card o now xs answers).value.0) y ≡ now y
         by_number None e = refl

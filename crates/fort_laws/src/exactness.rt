@@ -1,5 +1,6 @@
 // What conditions say of walks.
 ghost use Rattle.fort_laws.specs.Exactness.{ChecksDoNotDependOnValues, ConditionsAreExact};
+ghost use Rattle.fort_laws.specs.ValidConditions.{ValidConditionsMakePathsSafe, WordsTellSymbols};
 
 /// Along all paths of a program, its conditions are exact. There is one for each check of each
 /// walk, in order; whatever the values of symbols, its hypotheses are all true just where the walk
@@ -11,4 +12,15 @@ pub fn conditions_are_exact()
 /// The kinds and cards of the checks of a walk are the same for all values. It does nothing.
 pub fn checks_do_not_depend_on_values()
     ensures { ChecksDoNotDependOnValues }
+{}
+
+/// No two symbols have one word: whatever symbols stand for, words can stand for. It does nothing.
+pub fn words_tell_symbols()
+    ensures { WordsTellSymbols }
+{}
+
+/// Where an exact list of conditions is valid, no walk along a path of a unit has a check as its
+/// first false event, whatever its symbols stand for. It does nothing.
+pub fn valid_conditions_make_paths_safe()
+    ensures { ValidConditionsMakePathsSafe }
 {}

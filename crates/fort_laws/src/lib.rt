@@ -13,7 +13,10 @@ mod symbols;
 mod ways;
 
 pub use clocks::clocks_fall_only_so_often;
-pub use exactness::{checks_do_not_depend_on_values, conditions_are_exact};
+pub use exactness::{
+    checks_do_not_depend_on_values, conditions_are_exact, valid_conditions_make_paths_safe,
+    words_tell_symbols,
+};
 pub use expressions::expressions_match;
 pub use frames::{
     evaluation_changes_nothing, rules_make_sound, rules_pass_smashed_alone,

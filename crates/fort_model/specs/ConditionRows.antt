@@ -6,7 +6,7 @@ use Rattle.fort_syntax.specs.declared.dialect.Dialect.TheVariants.{Common}
 use Rattle.fort_syntax.specs.declared.name.Name.{Name}
 use Rattle.fort_model.specs.Rows.{A, I, J, K, M, N, beyond, adjustable}
 use Rattle.fort_model.specs.Program.{Program}
-use Rattle.fort_model.specs.Symbols.{Symbol, AtEntry, AtStart, AfterCall, word_of}
+use Rattle.fort_model.specs.Symbols.{Symbol, AtEntry, AtStart, ByCall, word_of}
 use Rattle.fort_model.specs.Conditions.{Condition, conditions_of}
 use Rattle.fort_model.specs.WalkRows.{term, number, at_most, true_term, LEAST, GREATEST, alone, plain_notes, the_path}
 use Rattle.fort_model.specs.CheckRows.{less, difference, from_assert, loop_program, twice_program}
@@ -29,7 +29,7 @@ abbrev pub start : Name → Tree
 start x = symbol_of (AtStart x)
 
 abbrev pub after : Name → ℕ → Tree
-after x k = symbol_of (AfterCall x k)
+after x k = symbol_of (ByCall x k)
 
 abbrev pub is_defined : Tree → Tree
 is_defined t = term f.Defined (t ∷ [])

@@ -3,30 +3,23 @@ use Rattle.std.specs.Prelude.{ℕ, suc, List, [], ◌++◌}
 use Rattle.fort_syntax.specs.declared.name.Name.{Name}
 use Rattle.fort_model.specs.Events.{Event}
 use Rattle.fort_model.specs.Senses.{Sense}
-use Rattle.fort_model.specs.Symbols.{AfterCall, ResultOf}
+use Rattle.fort_model.specs.Symbols.{ByCall}
 
 -- what names stand for
 abbrev pub Named : Type 0 → Type 0
 Named V = Name → V
 
--- what stands for the names of the caller after a call, and for the function's value
-pub record Answer (V : Type 0) : Type 0 where
-  pub names : Named V
-  pub result : Named V
-
--- the answers of the calls to come, the next one first
+-- the answers of the calls to come, the next one first: what names of the caller stand for after a CALL, or what the
+-- name of a function stands for that is referred to
 abbrev pub Answers : Type 0 → Type 0
-Answers V = ℕ → Answer V
+Answers V = ℕ → Named V
 
 abbrev pub later : {V : Type 0} → Answers V → Answers V
 later answers i = answers (suc i)
 
 -- the answers are the symbols of the calls, of which the first has the number 1
 abbrev pub symbols_of_calls : {V : Type 0} → Sense V → Answers V
-symbols_of_calls s i = record {
-  names = λ x. s.named (AfterCall x (suc i));
-  result = λ f. s.named (ResultOf f (suc i));
-}
+symbols_of_calls s i x = s.named (ByCall x (suc i))
 
 -- what a part comes to, what it meets in order, and the answers that it leaves
 pub record Seen (V A : Type 0) : Type 0 where
@@ -57,5 +50,5 @@ abbrev pub meet : {V : Type 0} → List (Event V) → See V (Unit {0})
 meet events answers = record { value = tt; events = events; rest = answers }
 
 -- the next call has its answer
-abbrev pub next_answer : {V : Type 0} → See V (Answer V)
+abbrev pub next_answer : {V : Type 0} → See V (Named V)
 next_answer answers = record { value = answers 0; events = []; rest = later answers }

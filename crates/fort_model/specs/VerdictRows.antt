@@ -14,7 +14,7 @@ use Rattle.fort_model.specs.Decks.{applied_to, line, scalar, routine}
 use Rattle.fort_model.specs.Rows.{F, I, J, K, M, inc, twice, swap, rotate, successor}
 use Rattle.fort_model.specs.Program.{Program, Notes}
 use Rattle.fort_model.specs.Senses.{of_values}
-use Rattle.fort_model.specs.Symbols.{Symbol, LeastInteger, GreatestInteger, AtEntry, AtStart, AfterCall, ResultOf}
+use Rattle.fort_model.specs.Symbols.{Symbol, LeastInteger, GreatestInteger, AtEntry, AtStart, ByCall}
 use Rattle.fort_model.specs.Names.{same_name}
 use Rattle.fort_model.specs.Events.{Verdict, Good, Fails, Off, verdict}
 use Rattle.fort_model.specs.Walk.{falls}
@@ -29,8 +29,7 @@ same_symbol LeastInteger LeastInteger = Bool.true
 same_symbol GreatestInteger GreatestInteger = Bool.true
 same_symbol (AtEntry x) (AtEntry y) = same_name x y
 same_symbol (AtStart x) (AtStart y) = same_name x y
-same_symbol (AfterCall x k) (AfterCall y j) = same_name x y && k == j
-same_symbol (ResultOf f k) (ResultOf g j) = same_name f g && k == j
+same_symbol (ByCall x k) (ByCall y j) = same_name x y && k == j
 same_symbol _ _ = Bool.false
 
 abbrev pub some_given : List (Symbol × Value) → Symbol → Value
@@ -111,7 +110,7 @@ idle_program =
 
 abbrev pub walk_of_idle : Value → Verdict
 walk_of_idle i =
-    verdict (walked_by idle_program 1 calls_idle (given ((AtEntry I, i) ∷ (AfterCall I 1, int_value 7) ∷ [])) (the_path ([] ∷ [] ∷ [])))
+    verdict (walked_by idle_program 1 calls_idle (given ((AtEntry I, i) ∷ (ByCall I 1, int_value 7) ∷ [])) (the_path ([] ∷ [] ∷ [])))
 
 -- what is not smashed keeps its value, whatever its symbol after the call has; INPUT is a check
 abbrev pub CallsKeepWhatIsNotSmashed : Type 0
@@ -143,7 +142,7 @@ abbrev pub walk_of_rotate : ℕ → ℕ → ℕ → ℕ → Verdict
 walk_of_rotate i j j2 k2 =
     verdict (walked_by rotate_program 1 rotate
     (given ((AtEntry I, int_value 1) ∷ (AtEntry J, int_value 2) ∷ (AtEntry K, int_value 3)
-    ∷ (AfterCall I 1, int_value i) ∷ (AfterCall J 1, int_value j) ∷ (AfterCall J 2, int_value j2) ∷ (AfterCall K 2, int_value k2) ∷ []))
+    ∷ (ByCall I 1, int_value i) ∷ (ByCall J 1, int_value j) ∷ (ByCall J 2, int_value j2) ∷ (ByCall K 2, int_value k2) ∷ []))
     (the_path ([] ∷ [] ∷ [] ∷ [])))
 
 -- OUTPUT of a called unit is no check: where it is false the walk goes off
@@ -171,7 +170,7 @@ function_program =
 abbrev pub walk_of_functions : Value → Value → Verdict
 walk_of_functions first second =
     verdict (walked_by function_program 1 adds_two
-    (given ((AtEntry I, int_value 5) ∷ (ResultOf F 1, first) ∷ (ResultOf F 2, second) ∷ []))
+    (given ((AtEntry I, int_value 5) ∷ (ByCall F 1, first) ∷ (ByCall F 2, second) ∷ []))
     (the_path ([] ∷ [] ∷ [])))
 
 -- the first value is the actual of the second call; a value that is undefined goes off

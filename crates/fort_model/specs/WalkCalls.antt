@@ -10,7 +10,7 @@ use Rattle.fort_model.specs.Names.{same_name, unit_at}
 use Rattle.fort_model.specs.Program.{Program, notes_of, is_among, is_smashed, has_common, commons}
 use Rattle.fort_model.specs.Senses.{Sense, undefined, is_defined, note}
 use Rattle.fort_model.specs.Events.{checks, takes}
-use Rattle.fort_model.specs.Seen.{Named, Answer, See, ◌>>=◌, ◌>>◌, see, meet, next_answer}
+use Rattle.fort_model.specs.Seen.{Named, See, ◌>>=◌, ◌>>◌, see, meet, next_answer}
 use Rattle.fort_model.specs.WalkPlaces.{cell_sort, sorts}
 
 -- where a walk is: the sense in which it is read, the program, and the unit with its number
@@ -85,12 +85,12 @@ module _ {V : Type 0} (w : Sight V) where
   -- A call of the unit g, which has the number i, where actuals are taken. Each term of its INPUT is a check. Then the
   -- smashed names and the function have what the answer says, of which sorts and each term of its OUTPUT are facts. It
   -- answers what names stand for afterwards, and the function's value.
-  abbrev pub call_unit : ℕ → ℕ → Routine → Named V → List (Operand V) → Answer V → See V (Named V × V)
+  abbrev pub call_unit : ℕ → ℕ → Routine → Named V → List (Operand V) → Named V → See V (Named V × V)
   call_unit card i g now xs answer =
       let before = seen_by g (map stands_for xs) now (undefined w.sense) in
       let smashed = hits i g xs in
-      let after = changed smashed answer.names now in
-      let result = answer.result g.name in
+      let after = changed smashed answer now in
+      let result = answer g.name in
       do
         meet (checks InputCheck card (notes_told before before (notes_of w.program i).input))
         meet (takes (sorts w.sense w.unit after smashed))

@@ -38,6 +38,3 @@ pub use rows::{
 pub use rule::Rule;
 pub use stmt::{BlockName, Dim, Group, Item, Param, Stmt};
 pub use unit::{DataName, FunctionName, Line, Role, Unit};
-
-#[cfg(test)]
-mod tests;

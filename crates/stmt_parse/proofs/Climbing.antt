@@ -1,6 +1,6 @@
 -- What follows an expression, and where climbing stops.
 use Rattle.std.proofs.Common.{◌≡◌, ℕ, zero, suc, ◌<◌, Bool, true, false, Some, None, List, ◌++◌, codes, refl, arith}
-use Rattle.std.specs.Prelude.{◌&&◌, if◌then◌else◌, nat_le}
+use Rattle.std.specs.Prelude.{◌&&◌, nat_le}
 use Rattle.fort_syntax.specs.declared.dialect.BinOp.{BinOp}
 use Rattle.fort_syntax.specs.declared.dialect.BinOp.TheVariants.{Add, Sub, Mul, Div}
 use Rattle.fort_syntax.specs.declared.dialect.RelOp.{RelOp}
@@ -11,6 +11,7 @@ use Rattle.stmt_parse.specs.declared.joint.Joint.{Joint}
 use Rattle.stmt_parse.specs.declared.joint.Joint.TheVariants as joint
 use Rattle.stmt_parse.specs.Tokens.{Reading, power_at, joint_at, strength}
 use Rattle.stmt_parse.specs.Parsing.{Inner, at_power, at_joint, climb}
+use Rattle.stmt_parse.proofs.TokensRead.{when_false}
 
 -- an operator that binds at least so tightly is what was found
 abbrev pub joint_continues : ℕ → Reading Joint → Bool
@@ -25,23 +26,19 @@ found_continues k None o = joint_continues k o
 abbrev pub continues : ℕ → List ℕ → Bool
 continues k t = found_continues k (power_at t) (joint_at t)
 
-first_false : (x y : Bool) → x ≡ false → (x && y) ≡ false
+pub first_false : (x y : Bool) → x ≡ false → (x && y) ≡ false
 first_false false y h = refl
 first_false true y h = absurd cc
-
-unless : {A : Type 0} (b : Bool) (x y : A) → b ≡ false → (if b then x else y) ≡ y
-unless false x y h = refl
-unless true x y h = absurd cc
 
 stops_at_joint : (next : Expr → List ℕ → Reading Expr) (inner : Inner) (k : ℕ) (e : Expr) (t : List ℕ) (o : Reading Joint)
     → joint_continues k o ≡ false → at_joint next inner k e t o ≡ Some (e, t)
 stops_at_joint next inner k e t None h = refl
-stops_at_joint next inner k e t (Some o) h = unless _ _ _ (first_false (nat_le k (strength o.0)) _ h)
+stops_at_joint next inner k e t (Some o) h = when_false _ _ _ (first_false (nat_le k (strength o.0)) _ h)
 
 stops_at : (next : Expr → List ℕ → Reading Expr) (inner : Inner) (k : ℕ) (e : Expr) (t : List ℕ) (p : Reading ℕ)
     → found_continues k p (joint_at t) ≡ false → at_power next inner k e t p ≡ Some (e, t)
 stops_at next inner k e t None h = stops_at_joint next inner k e t (joint_at t) h
-stops_at next inner k e t (Some p) h = unless _ _ _ (first_false (nat_le k 6) _ h)
+stops_at next inner k e t (Some p) h = when_false _ _ _ (first_false (nat_le k 6) _ h)
 
 -- nothing that binds tightly enough follows: the expression is whole
 pub climb_stops : (inner : Inner) (n k : ℕ) (e : Expr) (t : List ℕ) → 0 < n → continues k t ≡ false → climb inner n k e t ≡ Some (e, t)

@@ -18,19 +18,21 @@ pub record Reached (f k : ℕ) (e : Expr) (t r : List ℕ) : Type 0 where
   pub enough : f ≤ left + length t
   pub same : parse (suc f) k (t ++ r) ≡ climb (parse f) left k e r
 
-at_least : (m n : ℕ) → m ≤ n → nat_le m n ≡ true
+pub at_least : (m n : ℕ) → m ≤ n → nat_le m n ≡ true
 at_least m n h = grind (arith, nat_tests)
 
-and_true : (x y : Bool) → x ≡ true → y ≡ true → (x && y) ≡ true
+pub and_true : (x y : Bool) → x ≡ true → y ≡ true → (x && y) ≡ true
 and_true true y h k = k
 and_true false y h k = absurd cc
 
 -- an expression whose first part is the whole of it
 pub first_part : (f k : ℕ) (e : Expr) (t r : List ℕ) → front (parse f) f k (t ++ r) ≡ Some (e, r) → Reached f k e t r
-first_part f k e t r h = record { left = f; enough = omega arith; same = ap (λ x. x >>= λ y. climb (parse f) f k y.0 y.1) h }
+first_part f k e t r h =
+    record { left = f; enough = omega arith; same = ap (λ x. x >>= λ y. climb (parse f) f k y.0 y.1) h }
 
 -- nothing follows that binds tightly enough
-pub whole_part : (f k : ℕ) (e : Expr) (t r : List ℕ) → Reached f k e t r → length t + 1 ≤ f → continues k r ≡ false → parse (suc f) k (t ++ r) ≡ Some (e, r)
+pub whole_part : (f k : ℕ) (e : Expr) (t r : List ℕ) → Reached f k e t r → length t + 1 ≤ f → continues k r ≡ false
+    → parse (suc f) k (t ++ r) ≡ Some (e, r)
 whole_part f k e t r a room h = let enough = a.enough in a.same ∙ climb_stops (parse f) a.left k e r (omega arith) h
 
 -- an operator and its right part
@@ -41,10 +43,13 @@ pub joined_parts : (f k : ℕ) (a b : Expr) (o : Joint) (sign ta tb r : List ℕ
     → Reached f k (joined o a b) (ta ++ (sign ++ tb)) r
 joined_parts f k a b o sign ta tb r found none some tight apart room first second =
     let all : List ℕ = sign ++ (tb ++ r) in
-    let regroup : (ta ++ (sign ++ tb)) ++ r ≡ ta ++ (sign ++ (tb ++ r)) = append_assoc ta (sign ++ tb) r ∙ ap (λ x. ta ++ x) (append_assoc sign tb r) in
+    let regroup : (ta ++ (sign ++ tb)) ++ r ≡ ta ++ (sign ++ (tb ++ r)) =
+    append_assoc ta (sign ++ tb) r ∙ ap (λ x. ta ++ x) (append_assoc sign tb r) in
     let enough = first.enough in
-    let size : length (ta ++ (sign ++ tb)) ≡ length ta + (length sign + length tb) = length-append ta (sign ++ tb) ∙ ap (λ n. length ta + n) (length-append sign tb) in
-    let taken : takes k a o ≡ true = and_true _ _ (at_least k (strength o) tight) (at_least (left_strength o) (binding a) apart) in
+    let size : length (ta ++ (sign ++ tb)) ≡ length ta + (length sign + length tb) =
+    length-append ta (sign ++ tb) ∙ ap (λ n. length ta + n) (length-append sign tb) in
+    let taken : takes k a o ≡ true =
+    and_true _ _ (at_least k (strength o) tight) (at_least (left_strength o) (binding a) apart) in
     record {
       left = first.left - 1;
       enough = omega arith;

@@ -1,7 +1,25 @@
-//! Tests that cross crates.
+//! Tests of the crates.
 #![tactic(auto)]
 
 #[cfg(test)]
+mod cards;
+#[cfg(test)]
 mod decks;
 #[cfg(test)]
+mod definitions;
+#[cfg(test)]
+mod ends;
+#[cfg(test)]
+mod syntax;
+#[cfg(test)]
+mod terms;
+#[cfg(test)]
+mod terms_read;
+#[cfg(test)]
+mod texts;
+#[cfg(test)]
 mod top_call;
+#[cfg(test)]
+mod values;
+#[cfg(test)]
+mod worths;

@@ -1,0 +1,178 @@
+-- The order of the statements of a made unit, and the value of a FUNCTION.
+use Rattle.std.proofs.Common.{◌≡◌, ℕ, zero, suc, Bool, true, false, cond, List, [], ◌∷◌, ◌++◌, refl, sym, ap, ◌∙◌, rules, arith, append_assoc, append-nil}
+use Rattle.std.specs.Prelude.{◌&&◌, not, nat_lt, ◌==◌, is_some}
+use Rattle.std.specs.List.{list_any}
+use Rattle.std.proofs.lemmas.Bool.Decides.{nat_tests}
+use Rattle.fort_syntax.specs.Uses.{uses_of}
+use Rattle.fort_syntax.specs.Units.{Segment, gathered, executables, own_name, is_function, class_of, is_performing, unit_of}
+use Rattle.fort_syntax.specs.OrderRules.{blocks_behind, blocks_open, has_no_branch, is_outside, still_open, is_ended, stays_open, is_bad_block}
+use Rattle.fort_syntax.specs.UseRules.{has_label, assigns}
+use Rattle.fort_syntax.specs.WellFormed.{are_in_order, has_result}
+use Rattle.fort_syntax.specs.declared.dialect.Dialect.{Dialect}
+use Rattle.fort_syntax.specs.declared.stmt.Stmt.{Stmt}
+use Rattle.fort_syntax.specs.declared.stmt.Stmt.TheVariants.{Subroutine, Function, Declare, Dimension, Common, End, BlockIf, ElseIf, Else, EndIf}
+use Rattle.fort_syntax.specs.declared.unit.Line.{Line}
+use Rattle.deck_laws.specs.Ascent.{ascend_above}
+use Rattle.deck_laws.proofs.Tests.{case, first_true, second_true, both_true, not_false, of_not_false, other_false, left_true, right_true}
+use Rattle.deck_laws.proofs.Lists.{flat_joined}
+use Rattle.deck_laws.proofs.UnitScopes.{is_function_made}
+use Rattle.deck_laws.proofs.Members.{none_are, none_of, kept_in}
+use Rattle.deck_laws.proofs.Given.{Given, ascend_lower}
+
+-- ---- statements that are not executable
+
+same_blocks : (s : Stmt) → is_performing (class_of s) ≡ false → (open_blocks : List Bool)
+    → blocks_behind s open_blocks ≡ open_blocks
+same_blocks (Subroutine f dummies) h open_blocks = refl
+same_blocks (Function sort f dummies) h open_blocks = refl
+same_blocks (Declare sort items) h open_blocks = refl
+same_blocks (Dimension items) h open_blocks = refl
+same_blocks (Common groups) h open_blocks = refl
+same_blocks End h open_blocks = refl
+same_blocks _ h open_blocks = search rules
+
+same_open : (s : Stmt) → is_performing (class_of s) ≡ false → (n : ℕ) → still_open s n ≡ n
+same_open (Subroutine f dummies) h n = refl
+same_open (Function sort f dummies) h n = refl
+same_open (Declare sort items) h n = refl
+same_open (Dimension items) h n = refl
+same_open (Common groups) h n = refl
+same_open End h n = refl
+same_open _ h n = search rules
+
+no_uses : (s : Stmt) → is_performing (class_of s) ≡ false → uses_of s ≡ []
+no_uses (Subroutine f dummies) h = refl
+no_uses (Function sort f dummies) h = refl
+no_uses (Declare sort items) h = refl
+no_uses (Dimension items) h = refl
+no_uses (Common groups) h = refl
+no_uses End h = refl
+no_uses _ h = search rules
+
+-- an executable statement is among the executables, and another one is not
+with_one : (line : Line) (lines : List Line) → is_performing (class_of line.stmt) ≡ true
+    → executables (line ∷ lines) ≡ line ∷ executables lines
+with_one line lines t = ap (λ b. cond b (line ∷ []) [] ++ executables lines) t
+
+without_one : (line : Line) (lines : List Line) → is_performing (class_of line.stmt) ≡ false
+    → executables (line ∷ lines) ≡ executables lines
+without_one line lines f = ap (λ b. cond b (line ∷ []) [] ++ executables lines) f
+
+behind_one : (before : List Line) (line : Line) → is_performing (class_of line.stmt) ≡ true
+    → executables (before ++ line ∷ []) ≡ executables before ++ line ∷ []
+behind_one before line t =
+    flat_joined (λ l. cond (is_performing (class_of l.stmt)) (l ∷ []) []) before (line ∷ []) ∙ ap
+    (λ zs. executables before ++ zs) (with_one line [] t)
+
+behind_none : (before : List Line) (line : Line) → is_performing (class_of line.stmt) ≡ false
+    → executables (before ++ line ∷ []) ≡ executables before
+behind_none before line f =
+    flat_joined (λ l. cond (is_performing (class_of l.stmt)) (l ∷ []) []) before (line ∷ [])
+    ∙ (ap (λ zs. executables before ++ zs) (without_one line [] f) ∙ append-nil (executables before))
+
+-- ---- block IFs
+
+same_behind : (lines : List Line) (open_blocks : List Bool)
+    → blocks_open open_blocks (executables lines) ≡ blocks_open open_blocks lines
+same_behind [] open_blocks = refl
+same_behind (line ∷ lines) open_blocks =
+    case (is_performing (class_of line.stmt))
+    (λ t. ap (blocks_open open_blocks) (with_one line lines t) ∙ same_behind lines
+    (blocks_behind line.stmt open_blocks))
+    (λ f. ap (blocks_open open_blocks) (without_one line lines f)
+    ∙ (same_behind lines open_blocks ∙ ap (λ o. blocks_open o lines) (sym (same_blocks line.stmt f open_blocks))))
+
+stays : (n : ℕ) (lines : List Line) → (not (is_ended n) && stays_open n lines) ≡ stays_open n lines
+stays zero [] = refl
+stays zero (line ∷ lines) = refl
+stays (suc n) lines = refl
+
+same_stays : (lines : List Line) (n : ℕ) → stays_open n (executables lines) ≡ stays_open n lines
+same_stays [] n = refl
+same_stays (line ∷ lines) n =
+    case (is_performing (class_of line.stmt))
+    (λ t. ap (stays_open n) (with_one line lines t) ∙ ap (λ b. not (is_ended n) && b)
+    (same_stays lines (still_open line.stmt n)))
+    (λ f. ap (stays_open n) (without_one line lines f)
+    ∙ (same_stays lines n ∙
+    (sym (stays n lines) ∙ ap (λ k. not (is_ended n) && stays_open k lines) (sym (same_open line.stmt f n)))))
+
+same_bad : (s : Stmt) (before behind : List Line)
+    → is_bad_block (executables before) s (executables behind) ≡ is_bad_block before s behind
+same_bad (BlockIf e) before behind = same_stays behind 1
+same_bad (ElseIf e) before behind = ap has_no_branch (same_behind before [])
+same_bad Else before behind = ap has_no_branch (same_behind before [])
+same_bad EndIf before behind = ap is_outside (same_behind before [])
+same_bad _ before behind = refl
+
+-- ---- labels
+
+no_label : (label : ℕ) (lines : List Line) → has_label label lines ≡ false → has_label label (executables lines) ≡ false
+no_label label lines h = by (not (label == 0)) h
+  where
+    by : (b : Bool) → (b && list_any (λ line. line.label == label) lines) ≡ false
+        → (b && list_any (λ line. line.label == label) (executables lines)) ≡ false
+    by true k =
+        none_are (λ line. line.label == label) (executables lines)
+        (λ line m. none_of (λ l. l.label == label) lines k (kept_in (λ l. is_performing (class_of l.stmt)) lines m).0)
+    by false k = refl
+
+module _ (d : Dialect) (earlier : List Segment) (unit : Segment) (g : Given d earlier unit) where
+  order_from : (lines before : List Line) (card : ℕ) → before ++ lines ≡ unit → ascend_above card lines ≡ true
+      → are_in_order (executables before) card (executables lines) ≡ true
+  order_from [] before card e a = refl
+  order_from (line ∷ behind) before card e a =
+      let less = first_true (nat_lt card line.card) (ascend_above line.card behind) a in
+      let later = second_true (nat_lt card line.card) (ascend_above line.card behind) a in
+      let next = append_assoc before (line ∷ []) behind ∙ e in
+      case (is_performing (class_of line.stmt))
+      (performed less (order_from behind (before ++ line ∷ []) line.card next later))
+      (passed (order_from behind (before ++ line ∷ []) card next
+      (ascend_lower card line.card behind (grind (arith, nat_tests)) later)))
+    where
+      performed : nat_lt card line.card ≡ true
+          → are_in_order (executables (before ++ line ∷ [])) line.card (executables behind) ≡ true
+          → is_performing (class_of line.stmt) ≡ true
+          → are_in_order (executables before) card (executables (line ∷ behind)) ≡ true
+      performed less rest t =
+          let k = g.keeps before line behind e in
+          ap (are_in_order (executables before) card) (with_one line behind t)
+          ∙ both_true
+          (both_true (both_true (not_false (same_bad line.stmt before behind ∙ k.nesting))
+          (not_false (no_label line.label before k.labels))) less)
+          (ap (λ b. are_in_order b line.card (executables behind)) (sym (behind_one before line t)) ∙ rest)
+
+      passed : are_in_order (executables (before ++ line ∷ [])) card (executables behind) ≡ true
+          → is_performing (class_of line.stmt) ≡ false
+          → are_in_order (executables before) card (executables (line ∷ behind)) ≡ true
+      passed rest f =
+          ap (are_in_order (executables before) card) (without_one line behind f)
+          ∙ (ap (λ b. are_in_order b card (executables behind)) (sym (behind_none before line f)) ∙ rest)
+
+  pub order_proved : are_in_order [] 0 (unit_of unit).lines ≡ true
+  order_proved = order_from unit [] 0 refl g.part.ascend
+
+  -- ---- the value of a FUNCTION
+
+  same_uses : (lines : List Line) → gathered uses_of (executables lines) ≡ gathered uses_of lines
+  same_uses [] = refl
+  same_uses (line ∷ lines) =
+      case (is_performing (class_of line.stmt))
+      (λ t. ap (gathered uses_of) (with_one line lines t) ∙ ap (λ zs. uses_of line.stmt ++ zs) (same_uses lines))
+      (λ f. ap (gathered uses_of) (without_one line lines f)
+      ∙ (same_uses lines ∙ ap (λ zs. zs ++ gathered uses_of lines) (sym (no_uses line.stmt f))))
+
+  pub result_proved : has_result (unit_of unit) ≡ true
+  result_proved = case (is_function unit) assigned none
+    where
+      assigned : is_function unit ≡ true → has_result (unit_of unit) ≡ true
+      assigned t =
+          right_true (not (is_some (unit_of unit).sort)) (assigns (own_name unit) (gathered uses_of (executables unit)))
+          (ap (assigns (own_name unit)) (same_uses unit)
+          ∙ of_not_false (other_false (is_function unit) (not (assigns (own_name unit) (gathered uses_of unit)))
+          (g.keeps [] g.part.head g.part.rest (sym g.part.whole)).result t))
+
+      none : is_function unit ≡ false → has_result (unit_of unit) ≡ true
+      none f =
+          left_true (not (is_some (unit_of unit).sort)) (assigns (own_name unit) (gathered uses_of (executables unit)))
+          (not_false (is_function_made unit ∙ f))

@@ -1,0 +1,8 @@
+//! Laws of decks: what holds of every deck that breaks no rule.
+#![tactic(auto)]
+
+mod entries;
+mod well_formed;
+
+pub use entries::entries_ascend;
+pub use well_formed::decks_without_fault_are_well_formed;
