@@ -12,7 +12,7 @@ use Rattle.fort_syntax.specs.declared.deck.Deck.{Deck}
 use Rattle.fort_syntax.specs.declared.dialect.Dialect.{Dialect}
 use Rattle.fort_syntax.specs.declared.refusal.Fault.{Fault}
 use Rattle.fort_syntax.specs.declared.rule.Rule.TheVariants.{TooLong}
-use Rattle.vcg_top.specs.declared.deck_text.Conditions.{Conditions}
+use Rattle.vcg_top.specs.declared.deck_conditions.Conditions.{Conditions}
 use Rattle.vcg_top.specs.declared.status.Status.{Status}
 use Rattle.vcg_top.specs.declared.status.Status.TheVariants.{Done, Refused, WriteFault, NoMemory as Starved}
 use Rattle.vcg_top.specs.Answers.{AllDone, AppendsOf, AppendsPartOf, IsDeckIn, IsFaultIn, IsConditionsText, IsDoneText, IsNotBuiltText, IsRefusedText, conditions_text, most_read}

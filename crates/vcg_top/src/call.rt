@@ -12,7 +12,7 @@ ghost use Rattle.vcg_top.specs.Found.{condition_trees_of};
 ghost use Rattle.vcg_top.specs.declared.status.Status.TheVariants.{Done, Refused, Usage, ReadFault, WriteFault, NoMemory as Starved};
 
 use crate::Status;
-use crate::deck_text::{Conditions, conditions_of_deck};
+use crate::deck_conditions::{Conditions, conditions_of_deck};
 use crate::judging::read_deck;
 use crate::reading::{ReadError, read_all};
 use crate::words::dialect_of;

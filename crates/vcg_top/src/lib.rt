@@ -4,7 +4,7 @@
 mod assignment;
 mod call;
 mod check;
-mod deck_text;
+mod deck_conditions;
 mod evaluation;
 mod expression;
 mod first_form;

@@ -5,7 +5,7 @@ use Rattle.vcg_top.specs.Conditions.{conditions_of, within_limit}
 use Rattle.vcg_top.specs.Decks.{deck_in}
 use Rattle.vcg_top.specs.Found.{condition_trees_of}
 use Rattle.vcg_top.proofs.PathMade.{deck_in-Grows}
-use Rattle.vcg_top.proofs.deck_text.conditions_of_deck.Goals as goal
+use Rattle.vcg_top.proofs.deck_conditions.conditions_of_deck.Goals as goal
 
 pub returns-clause-value : goal.returns-clause-value
 returns-clause-value c =

@@ -2,7 +2,7 @@ use Rattle.std.proofs.Common.{◌++◌, ◌∙◌, arith}
 use Rattle.std.proofs.lemmas.Grind.{common_steps}
 use Rattle.vcg_top.specs.Drafts.{conditions_from}
 use Rattle.vcg_top.proofs.PathMade.{conditions_made, conditions_known_of}
-use Rattle.vcg_top.proofs.deck_text.number_path.Goals as goal
+use Rattle.vcg_top.proofs.deck_conditions.number_path.Goals as goal
 
 pub returns-clause-value : goal.returns-clause-value
 returns-clause-value c =
