@@ -4,7 +4,7 @@ ghost use Rattle.fort_syntax.specs.Grammar.{is_deep_from, is_deep};
 ghost use Rattle.fort_syntax.specs.Misspelled.{refusal_of};
 ghost use Rattle.stmt_parse.specs.Parsing.{Gives};
 ghost use Rattle.stmt_parse.specs.Statements.{by_word, found, statement_of};
-ghost use Rattle.stmt_parse.specs.Answers.{Answers};
+ghost use Rattle.stmt_parse.specs.Answers.{Answers, TextSpellsOneStatement};
 
 use crate::Lack;
 use crate::declarations::{declaration, head};
@@ -67,6 +67,7 @@ fn statement_of(alloc: Global, dialect: Dialect, text: &[u8]) -> Result<Stmt, La
     found(alloc, dialect, text.len() + 2, text)
 }
 
+#[tactic(auto, using(crate::proofs::StatementsAgree::none_is_spelled))]
 /// The statement that a text without blanks and in upper case spells, or the rule that the text
 /// breaks.
 pub fn statement(alloc: Global, dialect: Dialect, text: &[u8]) -> Result<Stmt, StmtRefusal>
@@ -78,3 +79,8 @@ pub fn statement(alloc: Global, dialect: Dialect, text: &[u8]) -> Result<Stmt, S
         Err(Lack::Spelling) => Err(StmtRefusal::Breaks(refusal_of(dialect, text))),
     }
 }
+
+/// A text spells at most one statement. It does nothing.
+pub fn text_spells_one_statement()
+    ensures { TextSpellsOneStatement }
+{}

@@ -14,7 +14,7 @@ mod parts;
 mod stems;
 mod tokens;
 
-pub use answer::{StmtRefusal, statement};
+pub use answer::{StmtRefusal, statement, text_spells_one_statement};
 pub use joint::Joint;
 pub use lack::Lack;
 pub use stems::Stem;
