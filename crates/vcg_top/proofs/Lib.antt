@@ -1,6 +1,7 @@
 pub mod Drafted
 pub mod Evaluated
 pub mod Found
+pub mod OneDeck
 pub mod Operations
 pub mod PathMade
 pub mod Rebound

@@ -1,6 +1,5 @@
 -- The deck of some bytes is one, and then they have no fault.
-use Rattle.std.proofs.Common.{◌≡◌, ◌⊎◌, inl, inr, ℕ, List, [], ◌∷◌, Option, Some, None, refl, sym, ap, ◌∙◌, subst}
-use Rattle.fort_syntax.specs.Grammar.{Spells}
+use Rattle.std.proofs.Common.{◌≡◌, inl, inr, ℕ, List, [], ◌∷◌, Some, None, refl, sym, ap, ◌∙◌}
 use Rattle.fort_syntax.specs.UnitRules.{unit_fault}
 use Rattle.fort_syntax.specs.Units.{Piece, stated, remarked, deck_of}
 use Rattle.fort_syntax.specs.declared.cards.Entry.{Entry}
@@ -8,9 +7,8 @@ use Rattle.fort_syntax.specs.declared.cards.Entry.TheVariants.{Statement, Note}
 use Rattle.fort_syntax.specs.declared.deck.Deck.{Deck}
 use Rattle.fort_syntax.specs.declared.dialect.Dialect.{Dialect}
 use Rattle.fort_syntax.specs.declared.refusal.Fault.{Fault}
-use Rattle.fort_syntax.specs.declared.unit.Line.{Line}
 use Rattle.stmt_parse.proofs.StatementsAgree.{text_spells_one_statement}
-use Rattle.unit_decl.specs.Decks.{IsReadAs, AreReadAs, IsMisspelled, IsFirstMisspelled, IsFirstFault, IsDeckOf}
+use Rattle.vcg_top.specs.UnitDecks.{IsReadAs, AreReadAs, IsMisspelled, IsFirstMisspelled, IsFirstFault, IsDeckOf}
 use Rattle.vcg_top.specs.Answers.{IsDeckIn, IsFaultIn}
 
 -- an entry is read in one way

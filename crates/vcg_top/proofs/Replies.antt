@@ -1,5 +1,5 @@
 -- What is written for an input.
-use Rattle.std.proofs.Common.{◌≡◌, ◌≤◌, ◌<◌, ◌⊎◌, inl, inr, ℕ, Bool, List, length, take, ap, sym, ◌∙◌, refl, nat_le, if◌then◌else◌, true, false, arith, subst}
+use Rattle.std.proofs.Common.{◌≡◌, ◌≤◌, ◌<◌, ◌⊎◌, inl, inr, ℕ, Bool, List, length, take, ap, sym, ◌∙◌, refl, nat_le, if◌then◌else◌, true, false, arith, subst, IsSome, is_some, true≢false}
 use Rattle.std.proofs.lemmas.List.{take_all, length-take-le}
 use Rattle.std.proofs.lemmas.Bool.{lt-ltb}
 use Rattle.std.proofs.lemmas.Bool.Decides.{leb_tells}
@@ -15,10 +15,11 @@ use Rattle.fort_syntax.specs.declared.rule.Rule.TheVariants.{TooLong}
 use Rattle.vcg_top.specs.declared.deck_conditions.Conditions.{Conditions}
 use Rattle.vcg_top.specs.declared.status.Status.{Status}
 use Rattle.vcg_top.specs.declared.status.Status.TheVariants.{Done, Refused, WriteFault, NoMemory as Starved}
-use Rattle.vcg_top.specs.Answers.{AllDone, AppendsOf, AppendsPartOf, IsDeckIn, IsFaultIn, IsConditionsText, IsDoneText, IsNotBuiltText, IsRefusedText, conditions_text, most_read}
+use Rattle.vcg_top.specs.Answers.{AppendsOf, AppendsPartOf, IsDeckIn, IsFaultIn, IsConditionsText, IsDoneText, IsNotBuiltText, IsRefusedText, conditions_text, most_read}
 use Rattle.vcg_top.specs.FirstForm.{FirstTree}
-use Rattle.vcg_top.specs.Conditions.{conditions_of}
+use Rattle.vcg_top.specs.Conditions.{conditions_of, first_deck}
 use Rattle.vcg_top.specs.Found.{condition_trees_of}
+use Rattle.vcg_top.proofs.OneDeck.{deck_in_one, deck_in_unfaulted}
 
 -- ---- the bytes that are read
 
@@ -114,13 +115,15 @@ part_for c d front bytes w v same e h =
 pub asked_is : (o p : Option Dialect) (c d : Dialect) → o ≡ Some c → o ≡ p → p ≡ Some d → c ≡ d
 asked_is o p c d first same second = cc (first, same, second)
 
--- bytes whose decks all have the first form are not refused
-refused_none : (d : Dialect) (bytes text : List ℕ) → AllDone d bytes → ¬ IsRefusedText d bytes text
-refused_none d bytes text all (inl h) = all.kept h.0 h.1
-refused_none d bytes text all (inr h) = all.formed h.0 h.1 h.2.0
+-- bytes whose deck has the first form are not refused
+refused_none : (d : Dialect) (bytes text : List ℕ) (deck : Deck) → IsDeckIn d bytes deck → IsSome (first_deck deck) → ¬ IsRefusedText d bytes text
+refused_none d bytes text deck is some (inl h) = deck_in_unfaulted d bytes deck h.0 is h.1
+refused_none d bytes text deck is some (inr h) =
+    let none : first_deck deck ≡ None = ap first_deck (deck_in_one d bytes deck h.0 is h.1) ∙ h.2.0 in
+    true≢false (sym some ∙ ap is_some none)
 
-pub never_refused : (d : Dialect) (bytes : List ℕ) (w v : Option (List ℕ)) → AllDone d bytes → ¬ AppendsOf (IsRefusedText d bytes) w v
-never_refused d bytes w v all h = refused_none d bytes h.0 all h.1
+pub never_refused : (d : Dialect) (bytes : List ℕ) (deck : Deck) (w v : Option (List ℕ)) → IsDeckIn d bytes deck → IsSome (first_deck deck) → ¬ AppendsOf (IsRefusedText d bytes) w v
+never_refused d bytes deck w v is some h = refused_none d bytes h.0 deck is some h.1
 
 pub done_or_starved : (s : Status) → (s ≡ Done) ⊎ ((s ≡ Refused) ⊎ ((s ≡ WriteFault) ⊎ (s ≡ Starved))) → ¬ (s ≡ Refused) → ¬ (s ≡ WriteFault) → (s ≡ Done) ⊎ (s ≡ Starved)
 done_or_starved s (inl done) refused failed = inl done

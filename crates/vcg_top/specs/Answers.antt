@@ -84,8 +84,3 @@ AppendsOf P before now = (text : List ℕ) × P text × Appends before now text
 -- a front part of a text of this kind was appended
 abbrev pub AppendsPartOf : (List ℕ → Type 0) → Option (List ℕ) → Option (List ℕ) → Type 0
 AppendsPartOf P before now = (text : List ℕ) × P text × AppendsPart before now text
-
--- the bytes have no fault, and each deck of them has the first form
-pub record AllDone (d : Dialect) (bytes : List ℕ) : Type 0 where
-  pub kept : (fault : Fault) → ¬ IsFaultIn d bytes fault
-  pub formed : (deck : Deck) → IsDeckIn d bytes deck → ¬ (first_deck deck ≡ None)

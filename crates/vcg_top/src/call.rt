@@ -7,7 +7,9 @@ ghost use Rattle.event_text.specs.Conditions.{IsConditionIn};
 ghost use Rattle.event_text.specs.Sending.{AppendsPart};
 ghost use Rattle.fort_syntax.specs.FaultLine.{fault_line};
 ghost use Rattle.fort_syntax.specs.declared.dialect.Dialect.{Dialect};
-ghost use Rattle.vcg_top.specs.Answers.{AllDone, AppendsOf, AppendsPartOf, IsConditionsText, IsDoneText, IsNotBuiltText, IsRefusedText, conditions_text, dialect_of as asked, most_read, unmarked as no_marks};
+ghost use Rattle.vcg_top.specs.Answers.{AppendsOf, AppendsPartOf, IsConditionsText, IsDeckIn, IsDoneText, IsNotBuiltText, IsRefusedText, conditions_text, dialect_of as asked, most_read, unmarked as no_marks};
+ghost use Rattle.fort_syntax.specs.declared.deck.Deck.{Deck};
+ghost use Rattle.vcg_top.specs.Conditions.{first_deck};
 ghost use Rattle.vcg_top.specs.Found.{condition_trees_of};
 ghost use Rattle.vcg_top.specs.declared.status.Status.TheVariants.{Done, Refused, Usage, ReadFault, WriteFault, NoMemory as Starved};
 
@@ -135,7 +137,7 @@ pub fn vcg<S: Source, K: Sink>(
     ensures part { (d : Dialect) (bytes : List ℕ) → asked words.now ≡ Some d → S.left source.old ≡ Some bytes → result ≡ WriteFault → (S.left source.new ≡ Some (drop most_read bytes)) × AppendsPartOf (λ text. IsDoneText d bytes text ⊎ IsRefusedText d bytes text) (K.written sink.old) (K.written sink.new) }
 
     // A deck of the first form is done where neither end fails and there is memory.
-    ensures complete { (d : Dialect) (bytes : List ℕ) → asked words.now ≡ Some d → S.left source.old ≡ Some bytes → AllDone d bytes → ¬ Rose (S.faults source.old) (S.faults source.new) → ¬ Rose (K.faults sink.old) (K.faults sink.new) → (result ≡ Done) ⊎ (result ≡ Starved) }
+    ensures complete { (d : Dialect) (bytes : List ℕ) (deck : Deck) → asked words.now ≡ Some d → S.left source.old ≡ Some bytes → IsDeckIn d bytes deck → IsSome (first_deck deck) → ¬ Rose (S.faults source.old) (S.faults source.new) → ¬ Rose (K.faults sink.old) (K.faults sink.new) → (result ≡ Done) ⊎ (result ≡ Starved) }
 {
     let Some(dialect) = dialect_of(words) else {
         return Status::Usage;

@@ -21,9 +21,10 @@ returns-clause-part g c d bytes asks told is =
     (read.1, part_for c.in-Some.dialect d _ bytes _ _ same (c.deref.ensures.value ∙ read.0) (c.answer.ensures.part is))
 
 pub returns-clause-complete : goal.returns-clause-complete
-returns-clause-complete g c d bytes asks told all source sink =
+returns-clause-complete g c d bytes deck asks told is some source sink =
     let read = c.in-Ok.ensures.told bytes told in
     let same = asked_is _ _ c.in-Some.dialect d c.in-Some.is c.dialect_of.ensures asks in
     done_or_starved c.answer.result c.answer.ensures.only
-    (λ is. never_refused d bytes _ _ all (refused_for c.in-Some.dialect d _ bytes _ _ same (c.deref.ensures.value ∙ read.0) (c.answer.ensures.refused is)))
-    (λ is. sink (c.answer.ensures.cause is))
+    (λ refused. never_refused d bytes deck _ _ is some
+    (refused_for c.in-Some.dialect d _ bytes _ _ same (c.deref.ensures.value ∙ read.0) (c.answer.ensures.refused refused)))
+    (λ failed. sink (c.answer.ensures.cause failed))
