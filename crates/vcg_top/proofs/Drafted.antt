@@ -83,13 +83,6 @@ pub trees_in-append : (pool : List Node) (ids : List TermId) (id : TermId) → t
 trees_in-append pool [] id = refl
 trees_in-append pool (x ∷ ids) id = ap (λ r. tree_of pool x ∷ r) (trees_in-append pool ids id)
 
-pub AddsTerms-none : (pool : List Node) (ids : List TermId) → AllBelow (length pool) ids → AddsTerms pool pool ids ids []
-AddsTerms-none pool ids h = record {
-  grows = Grows-refl pool;
-  known = h;
-  is = (let whole : trees_in pool ids ≡ trees_in pool ids ++ [] = grind (arith, common_steps) in whole);
-}
-
 pub AddsTerms-trans : (a b c : List Node) (x y z : List TermId) (p q : List Tree) → AddsTerms a b x y p → AddsTerms b c y z q → AddsTerms a c x z (p ++ q)
 AddsTerms-trans a b c x y z p q s t = record {
   grows = Grows-trans a b c s.grows t.grows;

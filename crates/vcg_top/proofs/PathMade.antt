@@ -85,13 +85,6 @@ conditions_made pool d hyps cs made p few e =
     ap (map (condition_tree pool)) e ∙ conditions_trees pool d.unit 1 hyps cs ∙ (λ i. numbered d.unit 1 (p.hypotheses i) (p.goals i)) in
     ap Some same ∙ sym (ap (λ (b : Bool). option_map conditions_of (if b then Some (deck_in pool d) else None)) (le-leb (length (checks_of (deck_in pool d))) 100000 short))
 
--- a path with more has none
-pub conditions_none : (pool : List Node) (d : FirstDeck) (hyps : List TermId) (cs : List Check) → IsPathOf pool d hyps cs → 100000 < length cs
-    → None ≡ option_map conditions_of (within_limit (deck_in pool d))
-conditions_none pool d hyps cs p many =
-    let long : 100000 < length (checks_of (deck_in pool d)) = omega (arith, count_of pool d hyps cs p) in
-    sym (ap (λ (b : Bool). option_map conditions_of (if b then Some (deck_in pool d) else None)) (lt-leb (length (checks_of (deck_in pool d))) 100000 long))
-
 pub conditions_known_of : (pool : List Node) (d : FirstDeck) (hyps : List TermId) (cs : List Check) (made : List Condition)
     → IsPathOf pool d hyps cs → made ≡ conditions_from d.unit 1 hyps cs → All (IsConditionIn pool) made
 conditions_known_of pool d hyps cs made p e = subst (λ (l : List Condition). All (IsConditionIn pool) l) (sym e) (conditions_known pool d.unit 1 hyps cs p.known p.checked)

@@ -47,9 +47,6 @@ enter_step p0 p1 p2 dummies rest first id bs0 bs1 bs2 e h g t pushed later =
 pub rest_bound : (pool : List Node) (bs rest : List Binding) (first : Binding) → bs ≡ first ∷ rest → AreBound pool bs → AreBound pool rest
 rest_bound pool bs rest first e h = (rw e at h).1
 
-pub first_bound : (pool : List Node) (bs rest : List Binding) (first : Binding) → bs ≡ first ∷ rest → AreBound pool bs → IsIn pool first.entry
-first_bound pool bs rest first e h = (rw e at h).0.1
-
 pub sorts_step : (p0 p1 p2 : List Node) (bs rest : List Binding) (first : Binding) (id : TermId) (terms0 terms1 terms2 : List TermId)
     → bs ≡ first ∷ rest → AreBound p0 bs → AllBelow (length p0) terms0
     → Grows p0 p1 → IsIn p1 id → tree_of p1 id ≡ cell_of (tree_of p0 first.entry) → terms1 ≡ terms0 ++ id ∷ []
