@@ -8,7 +8,7 @@ use Rattle.fort_syntax.specs.declared.deck.Deck.{Deck}
 use Rattle.fort_syntax.specs.declared.dialect.Dialect.{Dialect}
 use Rattle.fort_syntax.specs.declared.refusal.Fault.{Fault}
 use Rattle.stmt_parse.proofs.StatementsAgree.{text_spells_one_statement}
-use Rattle.vcg_top.specs.UnitDecks.{IsReadAs, AreReadAs, IsMisspelled, IsFirstMisspelled, IsFirstFault, IsDeckOf}
+use Rattle.unit_decl.specs.Decks.{IsReadAs, AreReadAs, IsMisspelled, IsFirstMisspelled, IsFirstFault, IsDeckOf}
 use Rattle.vcg_top.specs.Answers.{IsDeckIn, IsFaultIn}
 
 -- an entry is read in one way

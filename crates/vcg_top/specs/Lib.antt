@@ -5,4 +5,3 @@ pub mod Drafts
 pub mod FirstForm
 pub mod Found
 pub mod Status
-pub mod UnitDecks

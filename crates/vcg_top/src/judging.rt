@@ -3,7 +3,7 @@ ghost use Rattle.std.specs.Prelude.{◌≡◌, IfOk, Err};
 ghost use Rattle.fort_syntax.specs.declared.refusal.Fault.{Fault};
 ghost use Rattle.vcg_top.specs.Answers.{IsDeckIn, IsFaultIn};
 
-use crate::units_stub::units;
+use unit_decl::units;
 use card_deck::cards;
 use fort_syntax::{Deck, Dialect, Refusal};
 use std::alloc::Global;

@@ -18,7 +18,6 @@ mod plain;
 mod reading;
 mod statement;
 mod status;
-mod units_stub;
 mod walk;
 mod words;
 
