@@ -113,10 +113,16 @@ module _ (fs : List Function) (values : Symbol → Value) (program : Program) (i
       go None e c = absurd (grind arith)
       go (Some line) e c = (line, e)
 
+  some_at : (q : ℕ) (a : Assertion) → cut_at s.unit notes q ≡ AtAssert a → slice_get s.unit.lines q ≡ None → ⊥
+  some_at q a c none = let l = line_at q a c in no_line l.0 (sym none ∙ l.1)
+    where
+      no_line : (line : Line) → None ≡ Some line → ⊥
+      no_line line e = cc
+
   -- what comes to the end after some steps
-  before : (pc q cost : ℕ) (st after : Storage) → ((n : ℕ) → run_from s.processor s.units s.unit s.environment pc st (cost + n) ≡ run_from s.processor s.units s.unit s.environment q after n)
+  before : (pc q cost : ℕ) (st after : Storage) → (slice_get s.unit.lines q ≡ None → ⊥) → ((n : ℕ) → run_from s.processor s.units s.unit s.environment pc st (cost + n) ≡ run_from s.processor s.units s.unit s.environment q after n)
       → ComesToEnd fs values program i s q after → ComesToEnd fs values program i s pc st
-  before pc q cost st after runs r = record {
+  before pc q cost st after here runs r = record {
     now = r.now;
     after = r.after;
     cost = cost + r.cost;
@@ -125,39 +131,40 @@ module _ (fs : List Function) (values : Symbol → Value) (program : Program) (i
     stood = r.stood;
     kept = r.kept;
     met = r.met;
+    value = λ _. r.value here;
   }
 
   module _ (dialects : s.processor.dialect ≡ program.dialect)
-      (arrive_from : (clock : Option (List Value)) (pc : ℕ) (line : Line) (now : Named Value) (st : Storage) → slice_get s.unit.lines pc ≡ Some line → Stood s.unit s.environment now st
+      (arrive_from : (clock : Option (List Value)) (pc : ℕ) (line : Line) (now : Named Value) (st : Storage) → slice_get s.unit.lines pc ≡ Some line → Stood s.processor s.unit s.environment now st
       → KeepsUnsmashed fs values program i s now → IsSafe fs values program i s clock pc now → Arrives fs values program i s clock pc st)
       (parts : ℕ) (same : ClocksHave fs values program i s parts) (safe_at : AssertsAreSafe fs values program i s) where
     after_arrival : (old : List Value) (pc : ℕ) (st : Storage) → Arrives fs values program i s (Some old) pc st
-        → ((a : Assertion) (q : ℕ) (now : Named Value) (after : Storage) → cut_at s.unit notes q ≡ AtAssert a → Stood s.unit s.environment now after → KeepsUnsmashed fs values program i s now
+        → ((a : Assertion) (q : ℕ) (now : Named Value) (after : Storage) → cut_at s.unit notes q ≡ AtAssert a → Stood s.processor s.unit s.environment now after → KeepsUnsmashed fs values program i s now
         → IsTrueAt fs values program i s a now → IsClock parts (parts_of a now) → are_below (parts_of a now) (map num old) ≡ true → ComesToEnd fs values program i s q after)
         → ComesToEnd fs values program i s pc st
-    after_arrival old pc st (at_end now after cost card ends stood kept met) on = record { now = now; after = after; cost = cost; card = card; ends = ends; stood = stood; kept = kept; met = met }
+    after_arrival old pc st (at_end now after cost card ends stood kept met value) on = record { now = now; after = after; cost = cost; card = card; ends = ends; stood = stood; kept = kept; met = met; value = λ _. value }
     after_arrival old pc st (at_assert a q now after cost card c runs stood kept t) on =
         let r = arrived a now old card t in
-        before pc q cost st after runs (on a q now after c stood kept r.0 (is_clock a now parts (same a q c) r.0) r.1)
+        before pc q cost st after (some_at q a c) runs (on a q now after c stood kept r.0 (is_clock a now parts (same a q c) r.0) r.1)
 
     from_assert : (old : List ℤ) → FallsOnlySoOften parts old → (a : Assertion) (q : ℕ) (now : Named Value) (st : Storage) → cut_at s.unit notes q ≡ AtAssert a → old ≡ parts_of a now
-        → Stood s.unit s.environment now st → KeepsUnsmashed fs values program i s now → IsTrueAt fs values program i s a now → ComesToEnd fs values program i s q st
+        → Stood s.processor s.unit s.environment now st → KeepsUnsmashed fs values program i s now → IsTrueAt fs values program i s a now → ComesToEnd fs values program i s q st
     from_assert old (so_often h) a q now st c e stood kept t =
         let l = line_at q a c in
         after_arrival (clock_of fs values program i s a now) q st (arrive_from (Some (clock_of fs values program i s a now)) q l.0 now st l.1 stood kept (safe_at a q now st c stood kept t))
         (λ a2 q2 now2 after2 c2 stood2 kept2 t2 is below.
         from_assert (parts_of a2 now2) (h (parts_of a2 now2) is (subst (λ (os : List ℤ). are_below (parts_of a2 now2) os ≡ true) (sym e) below)) a2 q2 now2 after2 c2 refl stood2 kept2 t2)
 
-    at_once : (a : Assertion) (q : ℕ) (now : Named Value) (st : Storage) → cut_at s.unit notes q ≡ AtAssert a → Stood s.unit s.environment now st → KeepsUnsmashed fs values program i s now
+    at_once : (a : Assertion) (q : ℕ) (now : Named Value) (st : Storage) → cut_at s.unit notes q ≡ AtAssert a → Stood s.processor s.unit s.environment now st → KeepsUnsmashed fs values program i s now
         → IsTrueAt fs values program i s a now → ComesToEnd fs values program i s q st
     at_once a q now st c stood kept t =
         from_assert (parts_of a now) (clocks_fall_only_so_often parts (parts_of a now) (is_clock a now parts (same a q c) t)) a q now st c refl stood kept t
 
     first_arrival : (pc : ℕ) (st : Storage) → Arrives fs values program i s None pc st → ComesToEnd fs values program i s pc st
-    first_arrival pc st (at_end now after cost card ends stood kept met) = record { now = now; after = after; cost = cost; card = card; ends = ends; stood = stood; kept = kept; met = met }
-    first_arrival pc st (at_assert a q now after cost card c runs stood kept t) = before pc q cost st after runs (at_once a q now after c stood kept t)
+    first_arrival pc st (at_end now after cost card ends stood kept met value) = record { now = now; after = after; cost = cost; card = card; ends = ends; stood = stood; kept = kept; met = met; value = λ _. value }
+    first_arrival pc st (at_assert a q now after cost card c runs stood kept t) = before pc q cost st after (some_at q a c) runs (at_once a q now after c stood kept t)
 
-    by_cut : (pc : ℕ) (now : Named Value) (st : Storage) (c : Cut) → cut_at s.unit notes pc ≡ c → Stood s.unit s.environment now st → KeepsUnsmashed fs values program i s now
+    by_cut : (pc : ℕ) (now : Named Value) (st : Storage) (c : Cut) → cut_at s.unit notes pc ≡ c → Stood s.processor s.unit s.environment now st → KeepsUnsmashed fs values program i s now
         → IsSafeIn fs values program i s pc now → ComesToEnd fs values program i s pc st
     by_cut pc now st NoCut c stood kept safe =
         let l = line_from program.dialect s.unit notes pc c in
@@ -171,6 +178,7 @@ module _ (fs : List Function) (values : Symbol → Value) (program : Program) (i
       after = st;
       cost = 0;
       card = 0;
+      value = λ here. absurd (here (none_at fs values program i s dialects pc c));
       ends = λ n. ap (run_from s.processor s.units s.unit s.environment pc st) (let none : 0 + n ≡ n = omega arith in none) ∙ end_is fs values program i s dialects pc st n (none_at fs values program i s dialects pc c);
       stood = stood;
       kept = kept;
@@ -184,6 +192,6 @@ module _ (fs : List Function) (values : Symbol → Value) (program : Program) (i
         (safe [] no_answers (subst (λ (k : Cut). over_or program.dialect s.unit notes k [] (IsWay program.dialect s.unit notes pc [])) (sym c) refl))))
 
 pub safe_runs_end : SafeRunsEnd
-safe_runs_end fs values program i s is_reference is_call least greatest strict bounded dialects dims references calls good cut keep parts same safe_at pc now st stood kept safe =
-    by_cut fs values program i s dialects (safe_runs_arrive fs values program i s is_reference is_call least greatest strict bounded dialects dims references calls good cut keep) parts same safe_at
+safe_runs_end fs values program i s least greatest strict bounded dialects dims references calls good cut keep parts same safe_at pc now st stood kept safe =
+    by_cut fs values program i s dialects (safe_runs_arrive fs values program i s least greatest strict bounded dialects dims references calls good cut keep) parts same safe_at
     pc now st (cut_at s.unit (notes_of program i) pc) refl stood kept safe

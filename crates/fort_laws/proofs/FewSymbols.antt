@@ -2,15 +2,14 @@
 use Rattle.std.proofs.Common.{◌≡◌, ℕ, zero, suc, Bool, List, [], ◌∷◌, ◌++◌, map, Option, Some, None, slice_get, cond, true, false, rules, refl, sym, ap, ◌∙◌, subst}
 use Rattle.std.specs.Prelude.{◌==◌}
 use Rattle.formula.specs.declared.value.Value.{Value}
-use Rattle.formula.specs.Tree.{Tree, num, truth, symbol, old, apply, Row, none, more}
-use Rattle.formula.specs.Values.{applied}
-use Rattle.formula.specs.Worth.{Function, used, worth_by, worths_by, function_worth}
+use Rattle.formula.specs.Tree.{Tree}
+use Rattle.formula.specs.Worth.{Function}
 use Rattle.fort_syntax.specs.declared.name.Name.{Name}
 use Rattle.fort_syntax.specs.declared.condition.Kind.{Kind}
 use Rattle.fort_syntax.specs.declared.unit.Line.{Line}
 use Rattle.fort_syntax.specs.declared.unit.Unit.{Unit as Routine}
 use Rattle.fort_model.specs.Evaluate.{Scene}
-use Rattle.fort_model.specs.Events.{Event, Check, Take, checks, takes}
+use Rattle.fort_model.specs.Events.{Event, checks, takes}
 use Rattle.fort_model.specs.Paths.{AtAssert, cut_in, cut_at, IsWay, starts_at}
 use Rattle.fort_model.specs.Program.{Program, Assertion, notes_of, is_smashed, assertion_in, assertion_at}
 use Rattle.fort_model.specs.Seen.{Named, Answers, symbols_of_calls}
@@ -23,7 +22,7 @@ use Rattle.fort_laws.specs.FewSymbols.{WalksReadFewSymbols, PathsAreSafe, PathsM
 use Rattle.fort_laws.specs.WholeRuns.{clock_of, IsTrueAt}
 use Rattle.fort_laws.specs.Matches.{AllTrue}
 use Rattle.fort_laws.specs.Segments.{NoCheckFails, seen, KeepsUnsmashed}
-use Rattle.fort_laws.proofs.BothSenses.{Pairwise, pairwise_map, Correspond, EventsAlike, note_alike}
+use Rattle.fort_laws.proofs.BothSenses.{pairwise_map, Correspond, note_alike}
 use Rattle.fort_laws.proofs.BothParts.{sorts_alike}
 use Rattle.fort_laws.proofs.Matching.{all_true_append}
 use Rattle.fort_laws.proofs.Descents.{true_left, true_right, safe_runs_end}
@@ -97,11 +96,11 @@ taken_append (v ∷ vs) ws h k = (h.0, taken_append vs ws h.1 k)
 
 -- the ASSERT of a cut point
 pub record IsNumbered (asserts : List Assertion) (q : ℕ) (a : Assertion) : Type 0 where
-  number : ℕ
-  among : slice_get asserts number ≡ Some a
-  point : a.point ≡ q
+  pub number : ℕ
+  pub among : slice_get asserts number ≡ Some a
+  pub point : a.point ≡ q
 
-numbered : (asserts : List Assertion) (q : ℕ) (a : Assertion) → assertion_in asserts q ≡ Some a → IsNumbered asserts q a
+pub numbered : (asserts : List Assertion) (q : ℕ) (a : Assertion) → assertion_in asserts q ≡ Some a → IsNumbered asserts q a
 numbered [] q a h = absurd (cc)
 numbered (b ∷ rest) q a h = by_test (b.point == q) refl h (λ k. later (numbered rest q a k))
   where
@@ -121,7 +120,7 @@ numbered (b ∷ rest) q a h = by_test (b.point == q) refl h (λ k. later (number
     by_test true e k on = here (some_is k) e
     by_test false e k on = on k
 
-assert_is : (o : Option Line) (b : Option Assertion) (a : Assertion) → cut_in o b ≡ AtAssert a → b ≡ Some a
+pub assert_is : (o : Option Line) (b : Option Assertion) (a : Assertion) → cut_in o b ≡ AtAssert a → b ≡ Some a
 assert_is None b a h = absurd (cc)
 assert_is (Some line) None a h = absurd (cc)
 assert_is (Some line) (Some b) a h = ap Some (same_assert b a h)
@@ -224,7 +223,7 @@ paths_make_asserts_safe fs values program i s safe facts typed a q now st c stoo
 -- ---- whole runs of a unit
 
 pub safe_paths_end : SafePathsEnd
-safe_paths_end fs values program i s is_reference is_call least greatest strict bounded dialects dims references calls good cut table is_unit blocks parts same safe typed st facts stood =
-    safe_runs_end fs values program i s is_reference is_call least greatest strict bounded dialects dims references calls good cut
+safe_paths_end fs values program i s least greatest strict bounded dialects dims references calls good cut table is_unit blocks parts same safe typed st facts stood =
+    safe_runs_end fs values program i s least greatest strict bounded dialects dims references calls good cut
     (statements_keep fs values program i s table is_unit blocks) parts same (paths_make_asserts_safe fs values program i s safe facts typed)
     0 (at_entry (seen fs values program i s)) st stood (λ x h. refl) (paths_make_entries_safe fs values program i s safe facts)

@@ -13,16 +13,16 @@ use Rattle.fort_model.specs.Processor.{Processor}
 use Rattle.fort_model.specs.Run.{run_within}
 use Rattle.fort_model.specs.Smashes.{Smashes}
 use Rattle.fort_model.specs.Storage.{Storage, Extent, Environment, load}
+use Rattle.fort_laws.specs.Actuals.{IsPart, AreTakenAs}
 use Rattle.fort_laws.specs.Frame.{IsPlaced, IsSoundUnit, IsSoundCall, AreSound, IsSmashedCell, OthersKept, Changes, RunsChangeOnlySmashed, RunsWithoutSmashingChangeNothing}
-use Rattle.fort_laws.proofs.FrameClaims.{IsPart, RunFrame, CallFrame}
+use Rattle.fort_laws.proofs.FrameClaims.{RunFrame, CallFrame}
 use Rattle.fort_laws.proofs.FrameParts.{IsOpen}
 use Rattle.fort_laws.proofs.FrameRuns.{run_frame}
 use Rattle.fort_laws.proofs.FrameSeats.{old_cells, at_fit, inner, begun, long, same_below, new_at, Seated, Place, old, new, place_of, old_of, old_within, Root, common, dummy, root, actual_open, smashed_open, shared_below, inside_by, callee_apart, callee_shapes}
-use Rattle.fort_laws.proofs.Kept.{AllMatch}
 use Rattle.fort_laws.proofs.StorageLaws.{width, widths, widths_apart, length-new_cells, copy_holds, at_passed, length-written_back, load-written_back, copies_hold}
 use Rattle.fort_laws.proofs.Tied.{at_most_or}
 
-copy_of : (t : Bool) (x : Taken) (e : Extent) → passed_by t x ≡ ByCopy e → x ≡ Cells e
+pub copy_of : (t : Bool) (x : Taken) (e : Extent) → passed_by t x ≡ ByCopy e → x ≡ Cells e
 copy_of true (Cells f) e h = cc
 copy_of false (Cells f) e h = absurd (cc)
 copy_of true (Fresh v) e h = absurd (cc)
@@ -36,7 +36,7 @@ pub record SmashesSome (units : List Routine) (j : ℕ) (g : Routine) : Type 0 w
 
 module _ (units : List Routine) (i j : ℕ) (c : Calls units i j) (of_caller : IsSoundUnit units i c.caller) (of_callee : IsSoundUnit units j c.callee) (of_call : IsSoundCall c)
     (env : Environment) (st : Storage) (placed : IsPlaced units i c.caller env st) (copies : ℕ → Bool) (xs : List Taken)
-    (fit : AllMatch env (IsPart c.caller env) c.site.actuals xs) where
+    (fit : AreTakenAs env (IsPart c.caller env) c.site.actuals xs) where
   abbrev pub passes : List Passed
   passes = passed copies 1 xs
 
@@ -53,11 +53,16 @@ module _ (units : List Routine) (i j : ℕ) (c : Calls units i j) (of_caller : I
   start_long : length start ≡ length st + length (new_cells st passes)
   start_long = long units i j c of_caller of_callee of_call env st placed copies xs fit
 
-  module _ (after : Storage) (kept : OthersKept (IsSmashedCell units j c.callee seats_in) start after) (k : ℕ) (lt : k < length st) (closed : MayChange k → ⊥) where
+  -- some cells, among which are those of names that the called unit smashes, and of their actuals
+  module _ (May : ℕ → Type 0)
+      (may_smashed : (d : DataName) → IsVisible c.callee d → Smashes units j d.name → (k : ℕ) → k < length st → IsIn k (seats_in d.name) → May k)
+      (may_actual : (d : DataName) → IsVisible c.callee d → (t : Seated units i j c of_caller of_callee of_call env st placed copies xs fit d.name) → Smashes units j d.name
+      → (e : Extent) → t.taken ≡ Cells e → (k : ℕ) → IsIn k e → May k)
+      (after : Storage) (kept : OthersKept (IsSmashedCell units j c.callee seats_in) start after) (k : ℕ) (lt : k < length st) (closed : May k → ⊥) where
     -- an old cell of no name that the calling unit smashes
     still : load after k ≡ load st k
     still =
-        kept k (let l = start_long in omega arith) (λ s. closed (smashed_open units i j c of_caller of_callee of_call env st placed copies xs fit s.its s.visible s.smashed k lt s.cell, record { its = s.its; visible = s.visible; smashed = s.smashed }))
+        kept k (let l = start_long in omega arith) (λ s. closed (may_smashed s.its s.visible s.smashed k lt s.cell))
         ∙ same_below units i j c of_caller of_callee of_call env st placed copies xs fit k lt
 
     module _ (n : ℕ) (e : Extent) (is : slice_get passes n ≡ Some (ByCopy e)) (inside : IsIn k e) where
@@ -86,7 +91,7 @@ module _ (units : List Routine) (i j : ℕ) (c : Calls units i j) (of_caller : I
           by_order t y q p (inr l) (inr g) =
               let at : n ≡ t.at = omega arith in
               let taken : t.taken ≡ Cells e = same_taken t.taken (Cells e) (sym t.is_taken ∙ (ap (slice_get xs) (sym at) ∙ is_cells)) in
-              closed (actual_open units i j c of_caller of_callee of_call env st placed copies xs fit s.its.name t s.smashed e taken k inside, record { its = s.its; visible = s.visible; smashed = s.smashed })
+              closed (may_actual s.its s.visible t s.smashed e taken k inside)
 
           by_place : (t : Seated units i j c of_caller of_callee of_call env st placed copies xs fit s.its.name) → Place units i j c of_caller of_callee of_call env st placed copies xs fit s.its.name t → ⊥
           by_place t (old f q p) =
@@ -123,14 +128,24 @@ module _ (units : List Routine) (i j : ℕ) (c : Calls units i j) (of_caller : I
         (copies_hold (length st) k after passes (length st) (λ n e is. (copy_within n e is, copied_same n e is)))
         ∙ still
 
+  module _ (May : ℕ → Type 0)
+      (may_smashed : (d : DataName) → IsVisible c.callee d → Smashes units j d.name → (k : ℕ) → k < length st → IsIn k (seats_in d.name) → May k)
+      (may_actual : (d : DataName) → IsVisible c.callee d → (t : Seated units i j c of_caller of_callee of_call env st placed copies xs fit d.name) → Smashes units j d.name
+      → (e : Extent) → t.taken ≡ Cells e → (k : ℕ) → IsIn k e → May k) where
+    pub call_changes_only : (o : Outcome Cell) → Changes (IsSmashedCell units j c.callee seats_in) start o
+        → Changes May st (and_then o (λ v after left. Ended v (take (length st) (written_back passes (length st) after)) left))
+    call_changes_only (Ended v after left) h = (
+      length-take-le (length st) (written_back passes (length st) after) (let a = length-written_back passes (length st) after in let b = h.0 in let l = start_long in omega arith),
+      λ k lt closed. get_or-take (length st) (written_back passes (length st) after) k Undefined lt ∙ back_same May may_smashed may_actual after h.1 k lt closed h.0,
+    )
+    call_changes_only (Erred kind card after) h = (let a = h.0 in let l = start_long in omega arith, λ k lt closed. still May may_smashed may_actual after h.1 k lt closed)
+    call_changes_only (Running after) h = (let a = h.0 in let l = start_long in omega arith, λ k lt closed. still May may_smashed may_actual after h.1 k lt closed)
+
   pub call_changes : (o : Outcome Cell) → Changes (IsSmashedCell units j c.callee seats_in) start o
       → Changes MayChange st (and_then o (λ v after left. Ended v (take (length st) (written_back passes (length st) after)) left))
-  call_changes (Ended v after left) h = (
-    length-take-le (length st) (written_back passes (length st) after) (let a = length-written_back passes (length st) after in let b = h.0 in let l = start_long in omega arith),
-    λ k lt closed. get_or-take (length st) (written_back passes (length st) after) k Undefined lt ∙ back_same after h.1 k lt closed h.0,
-  )
-  call_changes (Erred kind card after) h = (let a = h.0 in let l = start_long in omega arith, λ k lt closed. still after h.1 k lt closed)
-  call_changes (Running after) h = (let a = h.0 in let l = start_long in omega arith, λ k lt closed. still after h.1 k lt closed)
+  call_changes = call_changes_only MayChange
+      (λ d v s k lt inside. (smashed_open units i j c of_caller of_callee of_call env st placed copies xs fit d v s k lt inside, record { its = d; visible = v; smashed = s }))
+      (λ d v t s e taken k inside. (actual_open units i j c of_caller of_callee of_call env st placed copies xs fit d.name t s e taken k inside, record { its = d; visible = v; smashed = s }))
 
 -- what may change fewer cells may change more
 widened : (May More : ℕ → Type 0) (st : Storage) (o : Outcome Cell) → ((k : ℕ) → May k → More k) → Changes May st o → Changes More st o

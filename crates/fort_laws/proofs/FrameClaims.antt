@@ -1,6 +1,5 @@
 -- What is claimed of runs to a depth, and of the calls that they make.
-use Rattle.std.proofs.Common.{◌≡◌, ℕ, ◌+◌, ◌≤◌, Bool, List, Some, slice_get}
-use Rattle.fort_syntax.specs.declared.name.Name.{Name}
+use Rattle.std.proofs.Common.{◌≡◌, ℕ, Bool, List, Some, slice_get}
 use Rattle.fort_syntax.specs.declared.unit.DataName.{DataName}
 use Rattle.fort_syntax.specs.declared.unit.Line.{Line}
 use Rattle.fort_syntax.specs.declared.unit.Unit.{Unit as Routine}
@@ -11,19 +10,10 @@ use Rattle.fort_model.specs.Names.{unit_at}
 use Rattle.fort_model.specs.Passing.{Taken, passed, call}
 use Rattle.fort_model.specs.Processor.{Processor}
 use Rattle.fort_model.specs.Run.{run_within}
-use Rattle.fort_model.specs.Storage.{Storage, Extent, Environment}
+use Rattle.fort_model.specs.Storage.{Storage, Environment}
+use Rattle.fort_laws.specs.Actuals.{IsPart, AreTakenAs}
 use Rattle.fort_laws.specs.Frame.{IsPlaced, IsSmashedCell, Changes}
 use Rattle.fort_laws.proofs.FrameParts.{IsOpen}
-use Rattle.fort_laws.proofs.Kept.{AllMatch}
-
--- one cell of a data name
-pub record IsPart (u : Routine) (env : Environment) (x : Name) (e : Extent) : Type 0 where
-  pub its : DataName
-  pub among : IsAmong its u.names
-  pub name : its.name ≡ x
-  pub low : (env x).first ≤ e.first
-  pub high : e.first + e.size ≤ (env x).first + (env x).size
-  pub one : e.size ≡ 1
 
 -- a call in the text of a unit
 pub record IsCalled (u : Routine) (site : CallSite) : Type 0 where
@@ -39,5 +29,5 @@ RunFrame units p fuel =
 abbrev pub CallFrame : List Routine → Processor → ℕ → Type 0
 CallFrame units p fuel =
     (i : ℕ) (u : Routine) (env : Environment) (st : Storage) → slice_get units i ≡ Some u → IsPlaced units i u env st
-    → (site : CallSite) → IsCalled u site → (copies : ℕ → Bool) (xs : List Taken) → AllMatch env (IsPart u env) site.actuals xs → (n : ℕ)
+    → (site : CallSite) → IsCalled u site → (copies : ℕ → Bool) (xs : List Taken) → AreTakenAs env (IsPart u env) site.actuals xs → (n : ℕ)
     → Changes (IsOpen units i u env) st (call (run_within p units fuel) env (unit_at units (callee_of units site)) (passed copies 1 xs) st n)

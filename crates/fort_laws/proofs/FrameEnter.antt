@@ -162,25 +162,25 @@ module _ (units : List Routine) (i : ℕ) (u : Routine) (sound : IsSoundUnit uni
   abbrev pub entered : Storage
   entered = st ++ replicate (sum (own_sizes u env st)) Undefined
 
-  long : length entered ≡ length st + sum (own_sizes u env st)
+  pub long : length entered ≡ length st + sum (own_sizes u env st)
   long = length-append st (replicate (sum (own_sizes u env st)) Undefined) ∙ ap (λ (z : ℕ). length st + z) (length_copies (sum (own_sizes u env st)))
     where
       length_copies : (n : ℕ) → length (replicate n Undefined) ≡ n
       length_copies zero = refl
       length_copies (suc n) = ap suc (length_copies n)
 
-  same_below : (k : ℕ) → k < length st → load entered k ≡ load st k
+  pub same_below : (k : ℕ) → k < length st → load entered k ≡ load st k
   same_below k lt = get_or_append_left st (replicate (sum (own_sizes u env st)) Undefined) Undefined k lt
 
   clash : (r : Bool) → r ≡ true → r ≡ false → ⊥
   clash r a b = cc
 
-  visible_env : (d : DataName) → IsAmong d u.names → is_own d.role ≡ false → own_env d.name ≡ env d.name
+  pub visible_env : (d : DataName) → IsAmong d u.names → is_own d.role ≡ false → own_env d.name ≡ env d.name
   visible_env d m v = absent own_size env (own_names u) (length st) d.name (λ e o same.
       let r = own_among u.names e o in
       clash (is_own d.role) (ap (λ (z : DataName). is_own z.role) (sym (sound.one_name e d r.0 m same)) ∙ r.1) v)
 
-  own_place : (d : DataName) → IsAmong d u.names → is_own d.role ≡ true → PlacedAt own_size env (own_names u) (length st) d.name (own_env d.name)
+  pub own_place : (d : DataName) → IsAmong d u.names → is_own d.role ≡ true → PlacedAt own_size env (own_names u) (length st) d.name (own_env d.name)
   own_place d m o = placed_name own_size env (own_names u) (length st) d.name (d, among_own u.names d m o, refl)
 
   visible_within : (d : DataName) → IsAmong d u.names → is_own d.role ≡ false → (own_env d.name).first + (own_env d.name).size ≤ length st

@@ -16,13 +16,14 @@ use Rattle.fort_model.specs.Passing.{Taken, passed, call}
 use Rattle.fort_model.specs.Processor.{Processor}
 use Rattle.fort_model.specs.Run.{run_within}
 use Rattle.fort_model.specs.Storage.{Storage, Environment, load}
+use Rattle.fort_laws.specs.Actuals.{IsPart, AreTakenAs}
 use Rattle.fort_laws.specs.Frame.{IsPlaced, AreSound, Changes, FunctionsSmashNothing, EvaluationChangesNothing}
 use Rattle.fort_laws.proofs.FrameCalls.{call_changes, call_frame}
-use Rattle.fort_laws.proofs.FrameClaims.{IsPart, IsCalled, RunFrame}
+use Rattle.fort_laws.proofs.FrameClaims.{IsCalled, RunFrame}
 use Rattle.fort_laws.proofs.FrameRuns.{frames, parts_lie}
 use Rattle.fort_laws.proofs.References.{sites_are_references}
 use Rattle.fort_laws.proofs.FrameSeats.{callee_apart, callee_shapes}
-use Rattle.fort_laws.proofs.Kept.{AllMatch, AreIn, element_at, Comes, Keeps, keeps_evaluate}
+use Rattle.fort_laws.proofs.Kept.{AreIn, element_at, Comes, Keeps, keeps_evaluate}
 
 -- ---- a reference to a FUNCTION, where these smash nothing
 
@@ -52,7 +53,7 @@ function_is units f j g h e =
     left_true (is_function g) (same_name g.name f) (r.2 g (ap (slice_get units) (sym at) ∙ e))
 
 -- storage after, where it is that before
-abbrev IsStill : Storage → Outcome Cell → Type 0
+abbrev pub IsStill : Storage → Outcome Cell → Type 0
 IsStill st (Ended v after left) = after ≡ st
 IsStill st (Erred kind card after) = Unit {0}
 IsStill st (Running after) = Unit {0}
@@ -63,11 +64,11 @@ unchanged May st (Erred kind card after) none h = tt
 unchanged May st (Running after) none h = tt
 
 module _ (units : List Routine) (sound : AreSound units) (p : Processor) (harmless : FunctionsSmashNothing units) where
-  runs_at : (fuel : ℕ) → RunFrame units p fuel
+  pub runs_at : (fuel : ℕ) → RunFrame units p fuel
   runs_at fuel = (frames units sound p (call_frame units sound p) fuel).0
 
   module _ (fuel i : ℕ) (u : Routine) (env : Environment) (st : Storage) (is : slice_get units i ≡ Some u) (placed : IsPlaced units i u env st) (site : CallSite) (called : IsCalled u site) (reference : site.reference ≡ true)
-      (copies : ℕ → Bool) (xs : List Taken) (fit : AllMatch env (IsPart u env) site.actuals xs) (n : ℕ) where
+      (copies : ℕ → Bool) (xs : List Taken) (fit : AreTakenAs env (IsPart u env) site.actuals xs) (n : ℕ) where
     still_unit : (j : ℕ) → callee_of units site ≡ Some j → (o : Option Routine) → slice_get units j ≡ o → IsStill st (call (run_within p units fuel) env o (passed copies 1 xs) st n)
     still_unit j q None e = tt
     still_unit j q (Some g) e =
@@ -89,25 +90,25 @@ module _ (units : List Routine) (sound : AreSound units) (p : Processor) (harmle
 
   -- storage is that from which evaluation began
   module _ (fuel i : ℕ) (u : Routine) (env : Environment) (st0 : Storage) (is : slice_get units i ≡ Some u) (placed : IsPlaced units i u env st0) where
-    abbrev Begun : Storage → Type 0
+    abbrev pub Begun : Storage → Type 0
     Begun st = st ≡ st0
 
-    abbrev Any : Storage → Type 0
+    abbrev pub Any : Storage → Type 0
     Any st = Unit {0}
 
-    abbrev any : (st : Storage) → Begun st → Any st
+    abbrev pub any : (st : Storage) → Begun st → Any st
     any st h = tt
 
     record IsReference (site : CallSite) : Type 0 where
       called : IsCalled u site
       reference : site.reference ≡ true
 
-    still_comes : (st : Storage) (o : Outcome Cell) → st ≡ st0 → IsStill st o → Comes Begun Any any (λ _. Unit {0}) o
+    pub still_comes : (st : Storage) (o : Outcome Cell) → st ≡ st0 → IsStill st o → Comes Begun Any any (λ _. Unit {0}) o
     still_comes st (Ended v after left) e h = (h ∙ e, tt)
     still_comes st (Erred kind card after) e h = tt
     still_comes st (Running after) e h = tt
 
-    lies : (f : Name) (dims : List Dim) → applied u f ≡ Element dims → (st : Storage) → st ≡ st0 → (ss : List ℤ) → AreIn ss (dim_values env st dims)
+    pub lies : (f : Name) (dims : List Dim) → applied u f ≡ Element dims → (st : Storage) → st ≡ st0 → (ss : List ℤ) → AreIn ss (dim_values env st dims)
         → IsPart u env f (element_at (env f) ss (dim_values env st dims))
     lies f dims e st q ss within =
         parts_lie units sound p (call_frame units sound p) fuel (runs_at fuel) i u env st0 is placed f dims e st (ap length q, λ k lt closed. ap (λ (z : Storage). load z k) q) ss within

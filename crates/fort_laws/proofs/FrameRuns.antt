@@ -19,11 +19,12 @@ use Rattle.fort_model.specs.Run.{run, run_within, from_point, leave, go_to, at_l
 use Rattle.fort_model.specs.Sites.{calls_before}
 use Rattle.fort_model.specs.Smashes.{Smashes, set_by, sets}
 use Rattle.fort_model.specs.Storage.{Storage, Extent, Environment}
+use Rattle.fort_laws.specs.Actuals.{IsPart, AreTakenAs}
 use Rattle.fort_laws.specs.Frame.{IsPlaced, HasName, IsSoundUnit, AreSound, IsSmashedCell, Changes}
-use Rattle.fort_laws.proofs.FrameClaims.{IsPart, IsCalled, RunFrame, CallFrame}
+use Rattle.fort_laws.proofs.FrameClaims.{IsCalled, RunFrame, CallFrame}
 use Rattle.fort_laws.proofs.FrameEnter.{SameOrNot, same, other, same_or_not, own_env, entered, entered_placed, seen_late, seen_left}
 use Rattle.fort_laws.proofs.FrameParts.{ArePositive, IsOpen, Framed, Late, framed_late, framed_writes, first_in, element_within, positive, still_shaped, still_placed, loops_set}
-use Rattle.fort_laws.proofs.Kept.{AllMatch, AreIn, element_at, Comes, Keeps, does_stuck, keeps_give, keeps_step, keeps_then, keeps_before, keeps_perform}
+use Rattle.fort_laws.proofs.Kept.{AreIn, element_at, Comes, Keeps, does_stuck, keeps_give, keeps_step, keeps_then, keeps_before, keeps_perform}
 
 -- the data name that is an array before a bracket
 named_in : (ds : List DataName) (f : Name) (d : Dim) (dims : List Dim) → dims_in (data_name_in ds f) ≡ d ∷ dims → (e : DataName) × IsAmong e ds × (e.name ≡ f) × (e.dims ≡ d ∷ dims)
@@ -69,10 +70,10 @@ module _ (units : List Routine) (sound : AreSound units) (p : Processor) (calls 
     abbrev pub Kept : Storage → Type 0
     Kept st = Framed May st0 st
 
-    abbrev After : Storage → Type 0
+    abbrev pub After : Storage → Type 0
     After st = Late May st0 st
 
-    abbrev after : (st : Storage) → Kept st → After st
+    abbrev pub after : (st : Storage) → Kept st → After st
     after st h = framed_late May st0 st h
 
     of_unit : IsSoundUnit units i u
@@ -113,14 +114,14 @@ module _ (units : List Routine) (sound : AreSound units) (p : Processor) (calls 
       cell = subst (λ (z : Name). IsIn e.first (env z)) (sym part.name) (part.low, let h = part.high in let one = part.one in omega arith);
     }
 
-    calls_keep : (site : CallSite) → IsCalled u site → (k : ℕ) (xs : List Taken) → AllMatch env (IsPart u env) site.actuals xs
+    calls_keep : (site : CallSite) → IsCalled u site → (k : ℕ) (xs : List Taken) → AreTakenAs env (IsPart u env) site.actuals xs
         → Keeps Kept After after (call (run_within p units fuel) env (unit_at units (callee_of units site))
         (passed (p.copies u.name k) 1 xs))
     calls_keep site called k xs fit = record {
       from = λ st n h. comes_from May st0 st _ h (calls fuel runs i u env st is (still_placed units i u of_unit env st0 placed st h) site called (p.copies u.name k) xs fit n);
     }
 
-    keeps_line : (line : Line) (pc : ℕ) → IsAmong line u.lines
+    pub keeps_line : (line : Line) (pc : ℕ) → IsAmong line u.lines
         → Keeps Kept After after (perform (record { processor = p; units = units; unit = u; environment = env }) (run_within p units fuel) line.card pc (calls_before u pc) line.stmt)
     keeps_line line pc m =
         keeps_perform Kept After after (record { processor = p; units = units; unit = u; environment = env }) (run_within p units fuel) (IsPart u env) parts_lie (IsCalled u) calls_keep

@@ -23,11 +23,10 @@ use Rattle.fort_model.specs.Places.{dim_value, dim_values, stretch}
 use Rattle.fort_model.specs.Program.{has_common, has_role, is_in_common}
 use Rattle.fort_model.specs.Smashes.{Smashes, passes, shares}
 use Rattle.fort_model.specs.Storage.{Storage, Extent, Environment, load, with_extents}
+use Rattle.fort_laws.specs.Actuals.{IsPart, IsTakenAs, AreTakenAs}
 use Rattle.fort_laws.specs.Frame.{IsPlaced, HasName, IsSoundUnit, IsDim, DimAgrees, DimsAgree, IsSoundCall}
-use Rattle.fort_laws.proofs.FrameClaims.{IsPart}
 use Rattle.fort_laws.proofs.FrameEnter.{SameOrNot, same, other, same_or_not, fixed_good}
 use Rattle.fort_laws.proofs.FrameParts.{IsOpen, one_cell}
-use Rattle.fort_laws.proofs.Kept.{Matches, AllMatch}
 use Rattle.fort_laws.proofs.Tied.{at_most_or}
 use Rattle.fort_laws.proofs.StorageLaws.{width, widths, seat, seat_at, widths_apart, length-new_cells, copy_holds, value_holds, passed_at}
 
@@ -46,7 +45,7 @@ same_self x = pick (same_or_not x x)
 pub same_is : (x y : Name) → x ≡ y → same_name x y ≡ true
 same_is x y e = subst (λ (z : Name). same_name x z ≡ true) e (same_self x)
 
-found_in : (ds : List DataName) (d : DataName) → ((e : DataName) → IsAmong e ds → e.name ≡ d.name → e ≡ d) → IsAmong d ds → data_name_in ds d.name ≡ Some d
+pub found_in : (ds : List DataName) (d : DataName) → ((e : DataName) → IsAmong e ds → e.name ≡ d.name → e ≡ d) → IsAmong d ds → data_name_in ds d.name ≡ Some d
 found_in [] d one m = absurd (cc)
 found_in (e ∷ ds) d one m = by_name (same_or_not e.name d.name) m (λ r. found_in ds d (λ f k q. one f (suc k.0, k.1) q) r)
   where
@@ -66,7 +65,7 @@ is_common units i u sound d m x e r = ap (has_role is_in_common) (found units i 
 
 -- ---- extents of dummies
 
-extents_at : (ys : List Name) (es : List Extent) (env : Environment) (n : ℕ) (y : Name) (e : Extent) → ((k m : ℕ) (x : Name) → slice_get ys k ≡ Some x → slice_get ys m ≡ Some x → k ≡ m)
+pub extents_at : (ys : List Name) (es : List Extent) (env : Environment) (n : ℕ) (y : Name) (e : Extent) → ((k m : ℕ) (x : Name) → slice_get ys k ≡ Some x → slice_get ys m ≡ Some x → k ≡ m)
     → slice_get ys n ≡ Some y → slice_get es n ≡ Some e → with_extents ys es env y ≡ e
 extents_at [] es env n y e one h k = absurd (cc)
 extents_at (z ∷ ys) [] env n y e one h k = absurd (cc)
@@ -90,19 +89,19 @@ extents_other (z ∷ ys) (f ∷ es) env y h = by_name (same_or_not z y) (extents
 
 -- ---- what actuals are taken as
 
-pub fit_at : (env : Environment) (Part : Name → Extent → Type 0) (es : List Expr) (xs : List Taken) (n : ℕ) (e : Expr) → AllMatch env Part es xs → slice_get es n ≡ Some e
-    → (x : Taken) × (slice_get xs n ≡ Some x) × Matches env Part e x
+pub fit_at : (env : Environment) (Part : Name → Extent → Type 0) (es : List Expr) (xs : List Taken) (n : ℕ) (e : Expr) → AreTakenAs env Part es xs → slice_get es n ≡ Some e
+    → (x : Taken) × (slice_get xs n ≡ Some x) × IsTakenAs env Part e x
 fit_at env Part [] xs n e fit h = absurd (cc)
 fit_at env Part (f ∷ es) [] n e fit h = absurd fit
-fit_at env Part (f ∷ es) (x ∷ xs) zero e fit h = let q : f ≡ e = cc in (x, refl, subst (λ (z : Expr). Matches env Part z x) q fit.0)
+fit_at env Part (f ∷ es) (x ∷ xs) zero e fit h = let q : f ≡ e = cc in (x, refl, subst (λ (z : Expr). IsTakenAs env Part z x) q fit.0)
 fit_at env Part (f ∷ es) (x ∷ xs) (suc n) e fit h = fit_at env Part es xs n e fit.1 h
 
-pub at_fit : (env : Environment) (Part : Name → Extent → Type 0) (es : List Expr) (xs : List Taken) (n : ℕ) (x : Taken) → AllMatch env Part es xs → slice_get xs n ≡ Some x
-    → (e : Expr) × (slice_get es n ≡ Some e) × Matches env Part e x
+pub at_fit : (env : Environment) (Part : Name → Extent → Type 0) (es : List Expr) (xs : List Taken) (n : ℕ) (x : Taken) → AreTakenAs env Part es xs → slice_get xs n ≡ Some x
+    → (e : Expr) × (slice_get es n ≡ Some e) × IsTakenAs env Part e x
 at_fit env Part [] [] n x fit h = absurd (cc)
 at_fit env Part [] (y ∷ xs) n x fit h = absurd fit
 at_fit env Part (f ∷ es) [] n x fit h = absurd fit
-at_fit env Part (f ∷ es) (y ∷ xs) zero x fit h = let q : y ≡ x = cc in (f, refl, subst (λ (z : Taken). Matches env Part f z) q fit.0)
+at_fit env Part (f ∷ es) (y ∷ xs) zero x fit h = let q : y ≡ x = cc in (f, refl, subst (λ (z : Taken). IsTakenAs env Part f z) q fit.0)
 at_fit env Part (f ∷ es) (y ∷ xs) (suc n) x fit h = at_fit env Part es xs n x fit.1 h
 
 -- cells of the calling unit that an actual is taken as: of a name that stands in it
@@ -117,7 +116,7 @@ either : (a b : Bool) → a ≡ true → (a || b) ≡ true
 either true b h = refl
 either false b h = absurd (cc)
 
-pub old_cells : (u : Routine) (env : Environment) (actual : Expr) (e : Extent) → ((x : Name) → actual ≡ Var x → HasName u x) → Matches env (IsPart u env) actual (Cells e) → IsOld u env actual e
+pub old_cells : (u : Routine) (env : Environment) (actual : Expr) (e : Extent) → ((x : Name) → actual ≡ Var x → HasName u x) → IsTakenAs env (IsPart u env) actual (Cells e) → IsOld u env actual e
 old_cells u env (Const n) e named fit = absurd (cc)
 old_cells u env (Var y) e named fit =
     let h : HasName u y = named y refl in
@@ -152,7 +151,7 @@ old_cells u env (Or' q a r b) e named fit = absurd fit
 -- ---- dimensions of actuals
 
 -- an actual is a bare name, or it is none and has no dimensions
-whole_or_not : (u : Routine) (e : Expr) → ((y : Name) × (e ≡ Var y)) ⊎ ((dims_of_actual u e ≡ []) × ((y : Name) → e ≡ Var y → ⊥))
+pub whole_or_not : (u : Routine) (e : Expr) → ((y : Name) × (e ≡ Var y)) ⊎ ((dims_of_actual u e ≡ []) × ((y : Name) → e ≡ Var y → ⊥))
 whole_or_not u (Var y) = inl (y, refl)
 whole_or_not u (Const n) = inr (refl, λ y is. cc)
 whole_or_not u (Truth b) = inr (refl, λ y is. cc)
@@ -199,7 +198,7 @@ seat_size true (Fresh v) at = refl
 seat_size false (Fresh v) at = refl
 
 -- what is no whole array has one cell
-part_size : (u : Routine) (env : Environment) (e : Expr) (x : Taken) → dims_of_actual u e ≡ [] → ((y : Name) → e ≡ Var y → ⊥) → Matches env (IsPart u env) e x → taken_size x ≡ 1
+part_size : (u : Routine) (env : Environment) (e : Expr) (x : Taken) → dims_of_actual u e ≡ [] → ((y : Name) → e ≡ Var y → ⊥) → IsTakenAs env (IsPart u env) e x → taken_size x ≡ 1
 part_size u env e (Fresh v) d whole fit = refl
 part_size u env (Var y) (Cells f) d whole fit = absurd (whole y refl)
 part_size u env (Const n) (Cells f) d whole fit = absurd (cc)
@@ -232,7 +231,7 @@ fixed_values env inside st after (Named x ∷ ds) none_named = absurd (none_name
 
 module _ (units : List Routine) (i j : ℕ) (c : Calls units i j) (of_caller : IsSoundUnit units i c.caller) (of_callee : IsSoundUnit units j c.callee) (of_call : IsSoundCall c)
     (env : Environment) (st : Storage) (placed : IsPlaced units i c.caller env st) (copies : ℕ → Bool) (xs : List Taken)
-    (fit : AllMatch env (IsPart c.caller env) c.site.actuals xs) where
+    (fit : AreTakenAs env (IsPart c.caller env) c.site.actuals xs) where
   abbrev pub ps : List Passed
   ps = passed copies 1 xs
 
@@ -259,7 +258,7 @@ module _ (units : List Routine) (i j : ℕ) (c : Calls units i j) (of_caller : I
     pub is_actual : slice_get c.site.actuals at ≡ Some actual
     pub taken : Taken
     pub is_taken : slice_get xs at ≡ Some taken
-    pub fits : Matches env (IsPart c.caller env) actual taken
+    pub fits : IsTakenAs env (IsPart c.caller env) actual taken
     pub is_passed : slice_get ps at ≡ Some (passed_by (copies (1 + at)) taken)
     pub place : inner d ≡ seat (passed_by (copies (1 + at)) taken) (length st + widths ps at)
 
@@ -298,7 +297,7 @@ module _ (units : List Routine) (i j : ℕ) (c : Calls units i j) (of_caller : I
 
   pub old_of : (d : Name) (s : Seated d) (e : Extent) → s.taken ≡ Cells e → IsOld c.caller env s.actual e
   old_of d s e q =
-      old_cells c.caller env s.actual e (λ x is. of_call.names s.at x (s.is_actual ∙ ap Some is)) (subst (λ (z : Taken). Matches env (IsPart c.caller env) s.actual z) q s.fits)
+      old_cells c.caller env s.actual e (λ x is. of_call.names s.at x (s.is_actual ∙ ap Some is)) (subst (λ (z : Taken). IsTakenAs env (IsPart c.caller env) s.actual z) q s.fits)
 
   pub old_within : (actual : Expr) (e : Extent) → IsOld c.caller env actual e → e.first + e.size ≤ length st
   old_within actual e o = let w = (placed.shapes o.its o.among).within in let h = o.high in omega arith
@@ -361,10 +360,10 @@ module _ (units : List Routine) (i j : ℕ) (c : Calls units i j) (of_caller : I
       let has : HasName c.caller b.0 = of_call.names s.at b.0 is_actual in
       record { name = b.0; is = b.1; has = has; smashed = subst (λ (z : Name). Smashes units i z) (sym has.name) (passes c s.at s.dummy is_actual h) }
 
-  bare_cells : (d : Name) (s : Seated d) (b : Bare d s) (e : Extent) → s.taken ≡ Cells e → e ≡ env b.has.its.name
+  pub bare_cells : (d : Name) (s : Seated d) (b : Bare d s) (e : Extent) → s.taken ≡ Cells e → e ≡ env b.has.its.name
   bare_cells d s b e q =
-      let f : Matches env (IsPart c.caller env) (Var b.name) (Cells e) =
-      subst (λ (z : Expr). Matches env (IsPart c.caller env) z (Cells e)) b.is (subst (λ (z : Taken). Matches env (IsPart c.caller env) s.actual z) q s.fits) in
+      let f : IsTakenAs env (IsPart c.caller env) (Var b.name) (Cells e) =
+      subst (λ (z : Expr). IsTakenAs env (IsPart c.caller env) z (Cells e)) b.is (subst (λ (z : Taken). IsTakenAs env (IsPart c.caller env) s.actual z) q s.fits) in
       same_cells e (env b.name) f ∙ ap env (sym b.has.name)
     where
       same_cells : (e f : Extent) → Cells e ≡ Cells f → e ≡ f
@@ -376,7 +375,7 @@ module _ (units : List Routine) (i j : ℕ) (c : Calls units i j) (of_caller : I
       let b : Bare d s = bare d s h in
       record { its = b.has.its; among = b.has.among; smashed = b.smashed; cell = subst (λ (z : Extent). IsIn k z) (bare_cells d s b e q) inside }
 
-  shared_smashed : (d : DataName) → IsAmong d c.callee.names → d.role ≡ InCommon → (s : Shared d) → Smashes units j d.name → Smashes units i s.its.name
+  pub shared_smashed : (d : DataName) → IsAmong d c.callee.names → d.role ≡ InCommon → (s : Shared d) → Smashes units j d.name → Smashes units i s.its.name
   shared_smashed d m r s h =
       subst (λ (z : Name). Smashes units i z) (sym s.name)
       (shares c (is_common units i c.caller of_caller s.its s.among d.name s.name s.role) (is_common units j c.callee of_callee d m d.name refl r) h)
@@ -407,10 +406,10 @@ module _ (units : List Routine) (i j : ℕ) (c : Calls units i j) (of_caller : I
   pub inside_by : (k : ℕ) (e f : Extent) → e ≡ f → IsIn k e → IsIn k f
   inside_by k e f q h = subst (λ (z : Extent). IsIn k z) q h
 
-  old_inside : (k : ℕ) (actual : Expr) (e : Extent) (o : IsOld c.caller env actual e) → IsIn k e → IsIn k (env o.its.name)
+  pub old_inside : (k : ℕ) (actual : Expr) (e : Extent) (o : IsOld c.caller env actual e) → IsIn k e → IsIn k (env o.its.name)
   old_inside k actual e o h = (let l = o.low in let a = h.0 in omega arith, let l = o.high in let a = h.1 in omega arith)
 
-  shared_inside : (d : DataName) (s : Shared d) (k : ℕ) → IsIn k (inner d.name) → IsIn k (env s.its.name)
+  pub shared_inside : (d : DataName) (s : Shared d) (k : ℕ) → IsIn k (inner d.name) → IsIn k (env s.its.name)
   shared_inside d s k h = subst (λ (z : Name). IsIn k (env z)) (sym s.name) (inside_by k _ _ s.place h)
 
   pub shared_below : (d : DataName) (s : Shared d) (k : ℕ) → IsIn k (inner d.name) → k < length st
@@ -521,16 +520,16 @@ module _ (units : List Routine) (i j : ℕ) (c : Calls units i j) (of_caller : I
   agree_one (Fixed n) b h good const = (ap (dim_value env st) (sym h), refl)
   agree_one (Named z) b h good const = by_case (dim_case h.1 b h.4)
     where
-      x : (t : Taken) × (slice_get xs h.0 ≡ Some t) × Matches env (IsPart c.caller env) h.1 t
+      x : (t : Taken) × (slice_get xs h.0 ≡ Some t) × IsTakenAs env (IsPart c.caller env) h.1 t
       x = fit_at env (IsPart c.caller env) c.site.actuals xs h.0 h.1 fit h.3
 
       by_case : DimCase h.1 b → Agreed (Named z) b
       by_case (constant m e q) =
-          let t : x.0 ≡ Fresh (Int (pos m)) = subst (λ (f : Expr). Matches env (IsPart c.caller env) f x.0) e x.2 in
+          let t : x.0 ≡ Fresh (Int (pos m)) = subst (λ (f : Expr). IsTakenAs env (IsPart c.caller env) f x.0) e x.2 in
           let cell : load begun (inner z).first ≡ Int (pos m) = constant_cell z h.0 m x.0 h.2 x.1 t in
           (ap num cell ∙ ap (dim_value env st) (sym q), ap is_positive cell ∙ positive_constant m (const m q))
       by_case (variable y e q) =
-          let t : x.0 ≡ Cells (env y) = subst (λ (f : Expr). Matches env (IsPart c.caller env) f x.0) e x.2 in
+          let t : x.0 ≡ Cells (env y) = subst (λ (f : Expr). IsTakenAs env (IsPart c.caller env) f x.0) e x.2 in
           let cell : load begun (inner z).first ≡ load st (env y).first = variable_cell z h.0 y x.0 h.2 x.1 t (of_call.names h.0 y (h.3 ∙ ap Some e)) in
           (ap num cell ∙ ap (dim_value env st) (sym q), ap is_positive cell ∙ (ap (is_good_dim env st) (sym q) ∙ good))
 
@@ -576,7 +575,7 @@ module _ (units : List Routine) (i j : ℕ) (c : Calls units i j) (of_caller : I
       by_kind : ((y : Name) × (s.actual ≡ Var y)) ⊎ ((dims_of_actual c.caller s.actual ≡ []) × ((y : Name) → s.actual ≡ Var y → ⊥)) → ActualShape s.actual s.taken
       by_kind (inl w) =
           subst (λ (f : Expr). ActualShape f s.taken) (sym w.1)
-          (whole_shape w.0 s.taken (of_call.names s.at w.0 (s.is_actual ∙ ap Some w.1)) (subst (λ (f : Expr). Matches env (IsPart c.caller env) f s.taken) w.1 s.fits))
+          (whole_shape w.0 s.taken (of_call.names s.at w.0 (s.is_actual ∙ ap Some w.1)) (subst (λ (f : Expr). IsTakenAs env (IsPart c.caller env) f s.taken) w.1 s.fits))
       by_kind (inr w) = part_shape s.actual s.taken w.0 (part_size c.caller env s.actual s.taken w.0 w.1 s.fits)
 
   dummy_within : (d : Name) (s : Seated d) → Place d s → (inner d).first + (inner d).size ≤ length begun

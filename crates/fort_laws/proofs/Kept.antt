@@ -25,13 +25,14 @@ use Rattle.fort_model.specs.Sites.{calls_in}
 use Rattle.fort_model.specs.Flow.{target, Loop, loops_at, around}
 use Rattle.fort_model.specs.Calls.{CallSite, listed, own_site, sites_in, sites_in_row, sites_of, callee_of}
 use Rattle.fort_model.specs.Cells.{num, is_defined}
-use Rattle.fort_model.specs.Storage.{Storage, Extent, Environment, load, store}
+use Rattle.fort_model.specs.Storage.{Storage, Extent, load, store}
 use Rattle.fort_model.specs.Places.{dim_values, place}
 use Rattle.fort_model.specs.Processor.{Processor}
 use Rattle.fort_model.specs.Smashes.{set_name, set_by}
 use Rattle.fort_model.specs.Outcome.{Outcome, Ended, Erred, Running, and_then, Act, ◌>>=◌, ◌>>◌, give, check, step, stuck, held, put}
 use Rattle.fort_model.specs.Passing.{Taken, Cells, Fresh, passed, Caller, call}
 use Rattle.fort_model.specs.Evaluate.{Scene, read, value_of, valued, ranged, constant, divisor, operate, power_on, intrinsic_value, numbers, subscripts_in, element, fresh, call_at, apply, taken, values, actuals, evaluate}
+use Rattle.fort_laws.specs.Actuals.{IsTakenAs, AreTakenAs}
 use Rattle.fort_model.specs.Perform.{write_cell, assign, parameter, step_value, tests, go_on, pass_over, begin, select, result, perform}
 
 -- ---- what stands in joined lists
@@ -53,40 +54,6 @@ abbrev pub AreIn : List ℤ → List ℤ → Type 0
 AreIn [] ds = Unit {0}
 AreIn (s ∷ ss) [] = Unit {0}
 AreIn (s ∷ ss) (d ∷ ds) = (is_between (pos 1) d s ≡ true) × AreIn ss ds
-
--- What an expression is taken as: a bare name as its cells; a constant as a fresh number; an element as a part of
--- its array; every other expression as a fresh value.
-abbrev pub Matches : Environment → (Name → Extent → Type 0) → Expr → Taken → Type 0
-Matches env Part (Const c) x = x ≡ Fresh (Int (pos c))
-Matches env Part (Truth b) (Cells e) = ⊥
-Matches env Part (Truth b) (Fresh v) = Unit {0}
-Matches env Part (Var y) x = x ≡ Cells (env y)
-Matches env Part (Apply' f shape args) (Cells e) = Part f e
-Matches env Part (Apply' f shape args) (Fresh v) = Unit {0}
-Matches env Part (Paren' shape a) (Cells e) = ⊥
-Matches env Part (Paren' shape a) (Fresh v) = Unit {0}
-Matches env Part (Pos' shape a) (Cells e) = ⊥
-Matches env Part (Pos' shape a) (Fresh v) = Unit {0}
-Matches env Part (Neg' shape a) (Cells e) = ⊥
-Matches env Part (Neg' shape a) (Fresh v) = Unit {0}
-Matches env Part (Power' shape a n) (Cells e) = ⊥
-Matches env Part (Power' shape a n) (Fresh v) = Unit {0}
-Matches env Part (Bin' o q a r b) (Cells e) = ⊥
-Matches env Part (Bin' o q a r b) (Fresh v) = Unit {0}
-Matches env Part (Rel' o q a r b) (Cells e) = ⊥
-Matches env Part (Rel' o q a r b) (Fresh v) = Unit {0}
-Matches env Part (Not' shape a) (Cells e) = ⊥
-Matches env Part (Not' shape a) (Fresh v) = Unit {0}
-Matches env Part (And' q a r b) (Cells e) = ⊥
-Matches env Part (And' q a r b) (Fresh v) = Unit {0}
-Matches env Part (Or' q a r b) (Cells e) = ⊥
-Matches env Part (Or' q a r b) (Fresh v) = Unit {0}
-
-abbrev pub AllMatch : Environment → (Name → Extent → Type 0) → List Expr → List Taken → Type 0
-AllMatch env Part [] [] = Unit {0}
-AllMatch env Part [] (x ∷ xs) = ⊥
-AllMatch env Part (e ∷ es) [] = ⊥
-AllMatch env Part (e ∷ es) (x ∷ xs) = Matches env Part e x × AllMatch env Part es xs
 
 pub listed_row : (es : List Expr) → listed (row_of es) ≡ es
 listed_row [] = refl
@@ -235,7 +202,7 @@ module _ (Kept Late : Storage → Type 0) (late : (st : Storage) → Kept st →
   keeps_result s card true = does_then Kept (λ _. Unit {0}) held (λ st. check ResultCheck card (is_defined (load st (s.environment s.unit.name).first))) does_held
       (λ st _. keeps_check ResultCheck card _)
 
-  keeps_valued : (card : ℕ) (Q : Taken → Type 0) (a : Act Taken) → Does Q a → Keeps (valued card a)
+  pub keeps_valued : (card : ℕ) (Q : Taken → Type 0) (a : Act Taken) → Does Q a → Keeps (valued card a)
   keeps_valued card Q a h = does_then Q (λ _. Unit {0}) a _ h (λ x _. keeps_value_of card x)
 
   -- ---- parts with calls, where each call in the text keeps the property
@@ -244,16 +211,16 @@ module _ (Kept Late : Storage → Type 0) (late : (st : Storage) → Kept st →
       (parts_lie : (f : Name) (dims : List Dim) → applied s.unit f ≡ Element dims → (st : Storage) → Kept st → (ss : List ℤ) → AreIn ss (dim_values s.environment st dims)
       → Part f (element_at (s.environment f) ss (dim_values s.environment st dims)))
       (Called : CallSite → Type 0)
-      (calls_keep : (site : CallSite) → Called site → (k : ℕ) (xs : List Taken) → AllMatch s.environment Part site.actuals xs
+      (calls_keep : (site : CallSite) → Called site → (k : ℕ) (xs : List Taken) → AreTakenAs s.environment Part site.actuals xs
       → Keeps (call run s.environment (unit_at s.units (callee_of s.units site)) (passed (s.processor.copies s.unit.name k) 1 xs))) where
-    abbrev Fit : Expr → Taken → Type 0
-    Fit e x = Matches s.environment Part e x
+    abbrev pub Fit : Expr → Taken → Type 0
+    Fit e x = IsTakenAs s.environment Part e x
 
-    abbrev AllFit : List Expr → List Taken → Type 0
-    AllFit es xs = AllMatch s.environment Part es xs
+    abbrev pub AllFit : List Expr → List Taken → Type 0
+    AllFit es xs = AreTakenAs s.environment Part es xs
 
     -- each call among some is one of the text
-    abbrev Sited : List CallSite → Type 0
+    abbrev pub Sited : List CallSite → Type 0
     Sited sites = (site : CallSite) → IsAmong site sites → Called site
 
     sited_left : (xs ys : List CallSite) → Sited (xs ++ ys) → Sited xs
@@ -288,7 +255,7 @@ module _ (Kept Late : Storage → Type 0) (late : (st : Storage) → Kept st →
         does_fresh Q (λ _. Unit {0}) _ (keeps_call_at site (sited site (0, refl)) (suc k) xs hx) (λ c _. value c)
 
     mutual
-      does_taken : (card k : ℕ) (e : Expr) → Sited (sites_in s.unit e) → Does (Fit e) (taken s run card k e)
+      pub does_taken : (card k : ℕ) (e : Expr) → Sited (sites_in s.unit e) → Does (Fit e) (taken s run card k e)
       does_taken card k (Const c) h = does_fresh (Fit (Const c)) (λ v. v ≡ Int (pos c)) _ (does_constant s.processor card c) (λ v e. ap Fresh e)
       does_taken card k (Truth b) h = does_give (Fit (Truth b)) _ tt
       does_taken card k (Var x) h = does_give (Fit (Var x)) _ refl
@@ -332,7 +299,7 @@ module _ (Kept Late : Storage → Type 0) (late : (st : Storage) → Kept st →
           keeps_then _ _ (keeps_valued card (Fit e) _ (does_taken card k e (sited_left (sites_in s.unit e) (sites_in_row s.unit es) h))) λ c.
           keeps_then _ _ (keeps_values card _ es (sited_right (sites_in s.unit e) (sites_in_row s.unit es) h)) λ cs. keeps_give _
 
-      does_actuals : (card k : ℕ) {m : Count} (es : Row_of-Expr m) → Sited (sites_in_row s.unit es) → Does (AllFit (listed es)) (actuals s run card k es)
+      pub does_actuals : (card k : ℕ) {m : Count} (es : Row_of-Expr m) → Sited (sites_in_row s.unit es) → Does (AllFit (listed es)) (actuals s run card k es)
       does_actuals card k end_of-Expr h = does_give (AllFit []) _ tt
       does_actuals card k (more_of-Expr e es) h =
           does_then (Fit e) (AllFit (e ∷ listed es)) _ _ (does_taken card k e (sited_left (sites_in s.unit e) (sites_in_row s.unit es) h)) λ x fit.

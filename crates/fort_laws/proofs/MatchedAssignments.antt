@@ -37,7 +37,7 @@ use Rattle.fort_laws.proofs.Matching.{followed, matches_held, matches_made, matc
 use Rattle.fort_laws.proofs.MatchedPlaces.{AreOf, AreAsMany, matches_subscripts, place_is}
 use Rattle.fort_laws.proofs.MatchedTests.{maybe_is}
 use Rattle.fort_laws.proofs.PlaceBounds.{LiesIn, lies_in_array, one_less}
-use Rattle.fort_laws.proofs.Written.{standing_written, contents_written}
+use Rattle.fort_laws.proofs.Written.{standing_written, goods_written, contents_written}
 
 as_cell_of : (c : Cell) → as_cell (of_cell c) ≡ Some c
 as_cell_of (cell.Int z) = refl
@@ -45,7 +45,7 @@ as_cell_of (cell.Logical b) = refl
 as_cell_of cell.Undefined = refl
 
 module _ (fs : List Function) (values : Symbol → Value) (program : Program) (i : ℕ) (s : Scene) (dims : HasScalarDims s.unit s.environment)
-    (st : Storage) (now : Named Value) (stood : Stood s.unit s.environment now st) where
+    (st : Storage) (now : Named Value) (stood : Stood s.processor s.unit s.environment now st) where
   abbrev w : Sight Value
   w = sight (of_values fs values) program i s.unit
 
@@ -57,13 +57,13 @@ module _ (fs : List Function) (values : Symbol → Value) (program : Program) (i
     pub taken_is : t ≡ Cells (record { first = (s.environment a).first + before; size = 1 })
 
   pub matches_place : (card : ℕ) (q : Sort) (a : Name) (b : Dim) (bs : List Dim) → IsArray s.unit q a (b ∷ bs) → (vs : List Value) (cs : List Cell)
-      → AreOf s.unit s.environment st now stood.standing fs values program i s vs cs → AreAsMany s.unit s.environment st now stood.standing fs values program i s cs (b ∷ bs)
+      → AreOf s.processor s.unit s.environment st now stood.standing fs values program i s vs cs → AreAsMany s.processor s.unit s.environment st now stood.standing fs values program i s cs (b ∷ bs)
       → Matches (Same st (IsElement a)) (walk.place_checked w card now (b ∷ bs) vs) (run.element s.environment card (s.environment a) (b ∷ bs) cs) st
   matches_place card q a b bs h vs cs e many =
       matches_made (Same st (λ x t. IsElement a the_place t)) (Same st (IsElement a)) _ _ (λ _. the_place) st
       (matches_held (Same st (λ x t. IsElement a the_place t)) _ (λ x. followed (run.subscripts_in card (run.numbers cs) (dim_values s.environment x (b ∷ bs))) (λ _. give (Cells (taken_at x)))) st
       (matches_given (Same st (λ x y. AreWithin (run.numbers cs) (dim_values s.environment st (b ∷ bs)))) (Same st (λ x t. IsElement a the_place t)) _ _ (λ y. Cells (taken_at st)) st
-      (matches_subscripts s.unit s.environment st now stood.standing fs values program i s card vs cs (b ∷ bs) e many h.dims)
+      (matches_subscripts s.processor s.unit s.environment st now stood.standing fs values program i s card vs cs (b ∷ bs) e many h.dims)
       (λ x y after k. (k.0, is_element k.1))))
       (λ x t after k. k)
     where
@@ -91,26 +91,27 @@ module _ (fs : List Function) (values : Symbol → Value) (program : Program) (i
               let n : (s.environment a).size ≡ l.size = same_size in
               record {
                 before = k;
-                place_is = place_is s.unit s.environment st now stood.standing fs values program i s vs cs (b ∷ bs) e h.dims ∙ p;
+                place_is = place_is s.processor s.unit s.environment st now stood.standing fs values program i s vs cs (b ∷ bs) e h.dims ∙ p;
                 less = omega arith;
                 taken_is = ap (λ (z : ℤ). Cells (record { first = (s.environment a).first + count z; size = 1 })) (ap (λ (z : ℤ). z -ℤ pos 1) p ∙ one_less k);
               }
 
   -- an element is written
   pub element_written : (q : Sort) (a : Name) (b : Dim) (bs : List Dim) → IsArray s.unit q a (b ∷ bs) → MayBeWritten s.unit s.environment a → (p : Value) (t : Taken) → (h : IsElement a p t)
-      → (c : Cell) → MayBe q c → (v : Value) → v ≡ of_cell c
-      → Stood s.unit s.environment (with_name now a (sense.make3 (of_values fs values) f.Put (now a) p v)) (store st ((s.environment a).first + h.before) c)
+      → (c : Cell) → MayBe s.processor q c → (v : Value) → v ≡ of_cell c
+      → Stood s.processor s.unit s.environment (with_name now a (sense.make3 (of_values fs values) f.Put (now a) p v)) (store st ((s.environment a).first + h.before) c)
   element_written q a b bs h may p t e c sort v is = record {
-    standing = subst (λ (x : Value). Standing s.unit s.environment (store st ((s.environment a).first + e.before) c) (with_name now a x)) value_is written;
+    standing = subst (λ (x : Value). Standing s.processor s.unit s.environment (store st ((s.environment a).first + e.before) c) (with_name now a x)) value_is written;
+    good = goods_written s.processor s.unit s.environment st now stood.standing dims a h.data_of h.is may e.before e.less c (maybe_is s.processor s.unit s.environment dims _ _ c h.sort_is sort) stood.good;
     within = λ y d k. let n : length (store st ((s.environment a).first + e.before) c) ≡ length st = length-set st ((s.environment a).first + e.before) c in let m = stood.within y d k in omega arith;
   }
     where
       inside : (s.environment a).first + (s.environment a).size ≤ length st
       inside = stood.within a h.data_of h.is
 
-      written : Standing s.unit s.environment (store st ((s.environment a).first + e.before) c) (with_name now a (held_in h.data_of.dims (store st ((s.environment a).first + e.before) c) (s.environment a)))
+      written : Standing s.processor s.unit s.environment (store st ((s.environment a).first + e.before) c) (with_name now a (held_in h.data_of.dims (store st ((s.environment a).first + e.before) c) (s.environment a)))
       written =
-          standing_written s.unit s.environment st now stood.standing dims a h.data_of h.is may e.before e.less c (maybe_is s.unit s.environment dims _ _ c h.sort_is sort) e.less
+          standing_written s.processor s.unit s.environment st now stood.standing dims a h.data_of h.is may e.before e.less c (maybe_is s.processor s.unit s.environment dims _ _ c h.sort_is sort) e.less
           (let l = e.less in let m = inside in omega arith)
 
       value_is : held_in h.data_of.dims (store st ((s.environment a).first + e.before) c) (s.environment a) ≡ value.put (now a) (value.num p) v

@@ -22,6 +22,7 @@ use Rattle.fort_model.specs.Evaluate.{Scene}
 use Rattle.fort_model.specs.Events.{checks}
 use Rattle.fort_model.specs.Outcome.{give, check}
 use Rattle.fort_model.specs.Places.{dim_value, dim_values, place, place_from, stretch}
+use Rattle.fort_model.specs.Processor.{Processor}
 use Rattle.fort_model.specs.Program.{Program}
 use Rattle.fort_model.specs.Seen.{Named, meet}
 use Rattle.fort_model.specs.Senses.{of_values}
@@ -38,26 +39,26 @@ use Rattle.fort_laws.proofs.Matching.{stays_then, matches_see, matches_check, ma
 use Rattle.fort_laws.proofs.MatchedExpressions.{and_two}
 use Rattle.fort_laws.proofs.PlaceBounds.{LiesIn, one_less}
 
-sorted : (sort : Sort) (c : Cell) → MayBe sort c → is_defined c ≡ true → IsSort sort c
-sorted sort (cell.Int z) h d = h
-sorted sort (cell.Logical b) h d = h
-sorted Integer cell.Undefined h d = absurd (grind arith)
-sorted Logical cell.Undefined h d = absurd (grind arith)
+sorted : (p : Processor) (sort : Sort) (c : Cell) → MayBe p sort c → is_defined c ≡ true → IsSort p sort c
+sorted p sort (cell.Int z) h d = h
+sorted p sort (cell.Logical b) h d = h
+sorted p Integer cell.Undefined h d = absurd (grind arith)
+sorted p Logical cell.Undefined h d = absurd (grind arith)
 
 contents_get : (st : Storage) (first size k : ℕ) → k < size → slice_get (contents st first size) k ≡ Some (load st (first + k))
 contents_get st first zero k h = absurd (omega arith)
 contents_get st first (suc size) zero h = ap (λ (j : ℕ). Some (load st j)) (omega arith)
 contents_get st first (suc size) (suc k) h = contents_get st (suc first) size k (omega arith) ∙ ap (λ (j : ℕ). Some (load st j)) (omega arith)
 
-module _ (u : Routine) (env : Environment) (st : Storage) where
-  module _ (now : Named Value) (standing : Standing u env st now) where
+module _ (p : Processor) (u : Routine) (env : Environment) (st : Storage) where
+  module _ (now : Named Value) (standing : Standing p u env st now) where
     pub scalar_stands : (sort : Sort) (x : Name) → IsScalar u sort x → now x ≡ of_cell (load st (env x).first)
     scalar_stands sort x h = standing.names x h.data_of h.is ∙ ap (λ (ds : List Dim). held_in ds st (env x)) h.scalar
 
-    pub scalar_sort : (sort : Sort) (x : Name) → IsScalar u sort x → MayBe sort (load st (env x).first)
+    pub scalar_sort : (sort : Sort) (x : Name) → IsScalar u sort x → MayBe p sort (load st (env x).first)
     scalar_sort sort x h =
-        subst (λ (q : Sort). MayBe q (load st (env x).first)) h.sort_is
-        (subst (λ (j : ℕ). MayBe h.data_of.sort (load st j)) (omega arith) (standing.sorts x h.data_of h.is 0 (one_cell (env x).size one)))
+        subst (λ (q : Sort). MayBe p q (load st (env x).first)) h.sort_is
+        (subst (λ (j : ℕ). MayBe p h.data_of.sort (load st j)) (omega arith) (standing.sorts x h.data_of h.is 0 (one_cell (env x).size one)))
       where
         one : pos (env x).size ≡ pos 1
         one = standing.sizes x h.data_of h.is ∙ ap (λ (ds : List Dim). stretch (dim_values env st ds)) h.scalar
@@ -70,12 +71,12 @@ module _ (u : Routine) (env : Environment) (st : Storage) where
       here = sight (of_values fs values) program i u
 
       -- a cell is read
-      pub matches_read : (card j : ℕ) (v : Value) (sort : Sort) → v ≡ of_cell (load st j) → MayBe sort (load st j) → Matches (Same st (Of sort)) (walk.read here card v) (run.read card j) st
+      pub matches_read : (card j : ℕ) (v : Value) (sort : Sort) → v ≡ of_cell (load st j) → MayBe p sort (load st j) → Matches (Same st (Of p sort)) (walk.read here card v) (run.read card j) st
       matches_read card j v sort e may =
-          matches_held (Same st (Of sort)) _ (λ x. followed (check DefinedCheck card (is_defined (load x j))) (λ _. give (load x j))) st
-          (stays_then (λ x y. is_defined (load st j) ≡ true) (Same st (Of sort)) _ _ _ _ st
+          matches_held (Same st (Of p sort)) _ (λ x. followed (check DefinedCheck card (is_defined (load x j))) (λ _. give (load x j))) st
+          (stays_then (λ x y. is_defined (load st j) ≡ true) (Same st (Of p sort)) _ _ _ _ st
           (matches_check DefinedCheck card _ _ st (ap value.is_defined e))
-          (λ x y h. matches_see (Same st (Of sort)) v (load st j) st (refl, (e, sorted sort (load st j) may h))))
+          (λ x y h. matches_see (Same st (Of p sort)) v (load st j) st (refl, (e, sorted p sort (load st j) may h))))
 
       dim_is : (d : Dim) → AreDims u (d ∷ []) → value.num (places.dim (of_values fs values) now d) ≡ dim_value env st d
       dim_is (Fixed n) h = refl

@@ -2,7 +2,7 @@
 -- first check of the walk that is false is the error of the run.
 use Rattle.std.proofs.Common.{◌≡◌, ℕ, zero, suc, ◌+◌, ◌<◌, Bool, true, false, cond, not, ◌&&◌, ℤ, pos, negsuc, ◌+ℤ◌, ◌-ℤ◌, List, [], ◌∷◌, map, length, Option, Some, slice_get, refl, sym, ap, ◌∙◌, subst, arith, rules}
 use Rattle.std.proofs.lemmas.Int.{ints}
-use Rattle.std.specs.Prelude.{nat_lt, int_le, int_lt, ◌==◌}
+use Rattle.std.specs.Prelude.{int_le, int_lt, ◌==◌}
 use mathlib.Core.Former.{Count}
 use Rattle.formula.specs.declared.function.BuiltIn.TheVariants as f
 use Rattle.formula.specs.declared.value.Cell.{Cell}
@@ -25,6 +25,7 @@ use Rattle.fort_syntax.specs.declared.stmt.Param.{Param}
 use Rattle.fort_syntax.specs.declared.stmt.Stmt.{Stmt}
 use Rattle.fort_syntax.specs.declared.stmt.Stmt.TheVariants.{Subroutine, Function as FunctionHead, Declare, Dimension, Common as CommonBlock, Assign, GoTo, Computed, ArithIf, LogicalIf', Do, Continue, Call, Return, End, BlockIf, ElseIf, Else, EndIf}
 use Rattle.fort_model.specs.Cells.{num, same, is_defined, holds as run_holds}
+use Rattle.fort_model.specs.Arguments.{reference_sort}
 use Rattle.fort_model.specs.Conditions.{sight}
 use Rattle.fort_model.specs.Evaluate as run
 use Rattle.fort_model.specs.Evaluate.{Scene}
@@ -33,6 +34,7 @@ use Rattle.fort_model.specs.Names.{Applied, is_function, subroutine, unit_at}
 use Rattle.fort_model.specs.Outcome.{Act, Ended, give, check, step}
 use Rattle.fort_model.specs.Passing.{Taken, Caller, call, passed}
 use Rattle.fort_model.specs.Perform as perform
+use Rattle.fort_model.specs.Processor.{MeetsBound}
 use Rattle.fort_model.specs.Program.{Program}
 use Rattle.fort_model.specs.Seen.{Named, See, ◌>>=◌, ◌>>◌, see}
 use Rattle.fort_model.specs.Senses as sense
@@ -46,14 +48,17 @@ use Rattle.fort_model.specs.WalkCalls.{Sight, Operand}
 use Rattle.fort_model.specs.WalkExpr as walk
 use Rattle.fort_model.specs.WalkStmt as steps
 use Rattle.fort_model.specs.WalkStmt.{with_name}
+use Rattle.fort_laws.specs.Actuals.{ArePassed}
+use Rattle.fort_laws.specs.Called.{IsReferenceTo, IsCallTo}
 use Rattle.fort_laws.specs.GoodStatements.{MayBeWritten, Stood, HasScalarDims, AreGoodLoops, IsGoodElement, IsLeft, HasLabels, HasResult, IsGood, StatementsMatch}
 use Rattle.fort_laws.specs.Matches.{AllTrue, Matches, moves, Same}
-use Rattle.fort_laws.specs.Standing.{MayBe, Of, ActualsOf, CallsMatch}
+use Rattle.fort_laws.specs.Standing.{IsOf, MayBe, Of, CallsMatch}
 use Rattle.fort_laws.specs.StepMatches.{StepMatches, goes}
 use Rattle.fort_laws.specs.Typed.{IsScalar, IsArray, IsTyped, AreInteger, row_length}
 use Rattle.fort_laws.proofs.Matching.{matches_see, matches_check, matches_as, matches_held, matches_twice, stays_then, followed}
+use Rattle.fort_laws.proofs.Kept.{listed_row}
 use Rattle.fort_laws.proofs.MatchedAssignments.{IsElement, matches_place, element_written}
-use Rattle.fort_laws.proofs.MatchedExpressions.{integer_is, matches_ranged, and_two}
+use Rattle.fort_laws.proofs.MatchedExpressions.{integer_is, integer_between, matches_ranged, and_two}
 use Rattle.fort_laws.proofs.MatchedOperands.{operands_match, matches_valued, integers_match, actuals_match, are_of, as_many, Integers}
 use Rattle.fort_laws.proofs.MatchedPlaces.{scalar_stands}
 use Rattle.fort_laws.proofs.MatchedTests.{scalar_written, matches_variable, matches_parameter, matches_step_value, tests_match}
@@ -62,24 +67,25 @@ use Rattle.fort_laws.proofs.Stepping.{HasWay, step_after, step_stays, step_done,
 
 module _ (fs : List Function) (values : Symbol → Value) (program : Program) (i : ℕ) (s : Scene) (caller : Caller)
     (least : values LeastInteger ≡ Int s.processor.least) (greatest : values GreatestInteger ≡ Int s.processor.greatest) (strict : s.processor.lazy ≡ false)
-    (bounded : (n : ℕ) → nat_lt program.bound n ≡ false → int_le (pos n) s.processor.greatest ≡ true)
+    (bounded : MeetsBound s.processor program.bound)
     (dialects : s.processor.dialect ≡ program.dialect) (dims : HasScalarDims s.unit s.environment)
-    (IsReference : Sort → Name → Type 0) (IsCall : Name → List Expr → Type 0)
-    (references : (st : Storage) (now : Named Value) → Stood s.unit s.environment now st → CallsMatch fs values program i s caller st now IsReference)
-    (calls : (st : Storage) (now : Named Value) → Stood s.unit s.environment now st → (card k : ℕ) (g : Name) (args : List Expr) (xs : List (Operand Value)) (ts : List Taken) → IsCall g args → ActualsOf s st now xs ts
-    → Matches (λ r c after. Stood s.unit s.environment (r.0) after) (walk_call.call (sight (of_values fs values) program i s.unit) card (subroutine program.units g) now xs)
+    (IsReference : Sort → Name → List Expr → Type 0) (IsCall : Name → List Expr → Type 0)
+    (told : (q : Sort) (a : Name) (es : List Expr) → IsReference q a es → reference_sort s.unit.functions a ≡ Some q)
+    (references : (st : Storage) (now : Named Value) → Stood s.processor s.unit s.environment now st → CallsMatch fs values program i s caller st now IsReference)
+    (calls : (st : Storage) (now : Named Value) → Stood s.processor s.unit s.environment now st → (card k : ℕ) (g : Name) (args : List Expr) (xs : List (Operand Value)) (ts : List Taken) → IsCall g args → ArePassed s st now args xs ts
+    → Matches (λ r c after. Stood s.processor s.unit s.environment (r.0) after) (walk_call.call (sight (of_values fs values) program i s.unit) card (subroutine program.units g) now xs)
     (call caller s.environment (unit_at s.units (subroutine s.units g)) (passed (s.processor.copies s.unit.name k) 1 ts)) st) where
   abbrev w : Sight Value
   w = sight (of_values fs values) program i s.unit
 
   abbrev After : Named Value → Storage → Type 0
-  After = Stood s.unit s.environment
+  After = Stood s.processor s.unit s.environment
 
   abbrev Step : (List ℕ → Option ℕ) → (List ℕ → See Value (Named Value)) → Act (List ℕ) → Storage → Type 0
   Step to part act st = StepMatches (λ (cs : List ℕ). cs) to part act After st
 
   -- behind a statement
-  goes_behind : (card pc : ℕ) → AreGoodLoops s.unit s.environment (loops_at s.unit pc) → (now : Named Value) (st : Storage) → Stood s.unit s.environment now st
+  goes_behind : (card pc : ℕ) → AreGoodLoops s.unit s.environment (loops_at s.unit pc) → (now : Named Value) (st : Storage) → Stood s.processor s.unit s.environment now st
       → Step (behind s.unit pc) (λ cs. steps.behind w card pc now cs) (perform.go_on s card pc) st
   goes_behind card pc good now st stood =
       tests_match fs values program i s least greatest bounded dialects dims card (next_point s.unit pc) (loops_at s.unit pc) good now st stood
@@ -87,16 +93,16 @@ module _ (fs : List Function) (values : Symbol → Value) (program : Program) (i
   behind_way : (pc : ℕ) → HasWay (λ (cs : List ℕ). cs) (behind s.unit pc)
   behind_way pc = let t = through_all (next_point s.unit pc) (loops_at s.unit pc) in record { choice = t.choices; point = next_point s.unit pc; to = t.to }
 
-  module _ (st : Storage) (now : Named Value) (stood : Stood s.unit s.environment now st) where
+  module _ (st : Storage) (now : Named Value) (stood : Stood s.processor s.unit s.environment now st) where
     -- the value of a typed expression
-    evaluated : (e : Expr) (q : Sort) (card k : ℕ) → IsTyped s.unit IsReference q e → Matches (Same st (Of q)) (walk.value w card now e) (run.evaluate s caller card k e) st
+    evaluated : (e : Expr) (q : Sort) (card k : ℕ) → IsTyped s.unit IsReference q e → Matches (Same st (Of s.processor q)) (walk.value w card now e) (run.evaluate s caller card k e) st
     evaluated e q card k h =
-        matches_valued fs values program i s caller least greatest strict bounded st now stood.standing card q _ _
-        (operands_match fs values program i s caller least greatest strict bounded st now stood.standing IsReference (references st now stood) e q card k h)
+        matches_valued fs values program i s caller least greatest strict bounded st now stood.standing e card q _ _
+        (operands_match fs values program i s caller least greatest strict bounded st now stood.standing IsReference told (references st now stood) e q card k h)
 
     -- ---- assignments
 
-    may_be : (q : Sort) (v : Value) (c : Cell) → Of q v c → MayBe q c
+    may_be : (q : Sort) (v : Value) (c : Cell) → Of s.processor q v c → MayBe s.processor q c
     may_be q v (cell.Int z) h = h.1
     may_be q v (cell.Logical b) h = h.1
     may_be q v cell.Undefined h = tt
@@ -105,49 +111,49 @@ module _ (fs : List Function) (values : Symbol → Value) (program : Program) (i
     abbrev set_left : ℕ → ℕ → Expr → Cell → Act (Unit {0})
     set_left card k left c = followed (run.taken s caller card k left) (λ x. perform.assign x c)
 
-    set_scalar : (card k : ℕ) (q : Sort) (x : Name) → IsScalar s.unit q x → MayBeWritten s.unit s.environment x → (v : Value) (c : Cell) → Of q v c
-        → Matches (λ next y after. Stood s.unit s.environment next after) (steps.assign w card now (Var x) v) (set_left card k (Var x) c) st
+    set_scalar : (card k : ℕ) (q : Sort) (x : Name) → IsScalar s.unit q x → MayBeWritten s.unit s.environment x → (v : Value) (c : Cell) → Of s.processor q v c
+        → Matches (λ next y after. Stood s.processor s.unit s.environment next after) (steps.assign w card now (Var x) v) (set_left card k (Var x) c) st
     set_scalar card k q x h may v c e =
         moves (λ answers. answers) (with_name now x v) tt (store st (s.environment x).first c) 0 (λ answers. tt) (λ answers. refl) (λ answers. refl)
         (λ n. ap (λ (j : ℕ). Ended tt (store st (s.environment x).first c) j) (let z : 0 + n ≡ n = omega arith in z))
-        (scalar_written s.unit s.environment dims q x h may now st stood c (may_be q v c e) v e.0)
+        (scalar_written s.processor s.unit s.environment dims q x h may now st stood c (may_be q v c e) v e.0)
 
-    element_set : (card : ℕ) (q : Sort) (a : Name) (b : Dim) (bs : List Dim) → IsArray s.unit q a (b ∷ bs) → MayBeWritten s.unit s.environment a → (v : Value) (c : Cell) → Of q v c
+    element_set : (card : ℕ) (q : Sort) (a : Name) (b : Dim) (bs : List Dim) → IsArray s.unit q a (b ∷ bs) → MayBeWritten s.unit s.environment a → (v : Value) (c : Cell) → Of s.processor q v c
         → (p : Value) (t : Taken) → IsElement fs values program i s dims st now stood a p t
-        → Matches (λ next y after. Stood s.unit s.environment next after) (see (with_name now a (sense.make3 (of_values fs values) f.Put (now a) p v))) (perform.assign t c) st
+        → Matches (λ next y after. Stood s.processor s.unit s.environment next after) (see (with_name now a (sense.make3 (of_values fs values) f.Put (now a) p v))) (perform.assign t c) st
     element_set card q a b bs h may v c e p t g =
         moves (λ answers. answers) (with_name now a (sense.make3 (of_values fs values) f.Put (now a) p v)) tt (store st ((s.environment a).first + g.before) c) 0 (λ answers. tt) (λ answers. refl) (λ answers. refl)
         (λ n. ap (λ (x : Taken). perform.assign x c st (0 + n)) g.taken_is ∙ ap (λ (j : ℕ). Ended tt (store st ((s.environment a).first + g.before) c) j) (let z : 0 + n ≡ n = omega arith in z))
         (element_written fs values program i s dims st now stood q a b bs h may p t g c (may_be q v c e) v e.0)
 
     element_assigned : (card k : ℕ) (q : Sort) (a : Name) (b : Dim) (bs : List Dim) {m : Count} (args : Row_of-Expr m) → IsArray s.unit q a (b ∷ bs) → MayBeWritten s.unit s.environment a
-        → row_length args ≡ length (b ∷ bs) → AreInteger s.unit IsReference args → (v : Value) (c : Cell) → Of q v c
-        → Matches (λ next y after. Stood s.unit s.environment next after)
+        → row_length args ≡ length (b ∷ bs) → AreInteger s.unit IsReference args → (v : Value) (c : Cell) → Of s.processor q v c
+        → Matches (λ next y after. Stood s.processor s.unit s.environment next after)
         (walk.values w card now args >>= (λ is. walk.place_checked w card now (b ∷ bs) is >>= (λ p. see (with_name now a (sense.make3 (of_values fs values) f.Put (now a) p v)))))
         (followed (followed (run.values s caller card k args) (λ cs. run.element s.environment card (s.environment a) (b ∷ bs) cs)) (λ x. perform.assign x c)) st
     element_assigned card k q a b bs args h may many integers v c e =
-        matches_twice (λ next y after. Stood s.unit s.environment next after) _ (run.values s caller card k args) (λ cs. run.element s.environment card (s.environment a) (b ∷ bs) cs) (λ x. perform.assign x c) st
-        (stays_then (Integers fs values program i s caller least greatest strict bounded st now stood.standing IsReference (references st now stood) (row_length args)) (λ next y after. Stood s.unit s.environment next after) _ _ _ _ st
-        (integers_match fs values program i s caller least greatest strict bounded st now stood.standing IsReference (references st now stood) args card k integers)
-        (λ is cs g. stays_then (IsElement fs values program i s dims st now stood a) (λ next y after. Stood s.unit s.environment next after) _ _ _ _ st
+        matches_twice (λ next y after. Stood s.processor s.unit s.environment next after) _ (run.values s caller card k args) (λ cs. run.element s.environment card (s.environment a) (b ∷ bs) cs) (λ x. perform.assign x c) st
+        (stays_then (Integers fs values program i s caller least greatest strict bounded st now stood.standing IsReference told (references st now stood) (row_length args)) (λ next y after. Stood s.processor s.unit s.environment next after) _ _ _ _ st
+        (integers_match fs values program i s caller least greatest strict bounded st now stood.standing IsReference told (references st now stood) args card k integers)
+        (λ is cs g. stays_then (IsElement fs values program i s dims st now stood a) (λ next y after. Stood s.processor s.unit s.environment next after) _ _ _ _ st
         (matches_place fs values program i s dims st now stood card q a b bs h is cs
         (are_of fs values program i s caller least greatest strict bounded st now stood.standing is cs g.0)
         (as_many fs values program i s caller least greatest strict bounded st now stood.standing cs (b ∷ bs) (g.1 ∙ many)))
         (λ p t o. element_set card q a b bs h may v c e p t o)))
 
-    set_element : (card k : ℕ) (q : Sort) (a : Name) (x : _) (args : Row_of-Expr _) → IsGoodElement s.unit s.environment IsReference IsCall q a args → (v : Value) (c : Cell) → Of q v c
-        → Matches (λ next y after. Stood s.unit s.environment next after) (steps.assign w card now (Apply' a x args) v) (set_left card k (Apply' a x args) c) st
+    set_element : (card k : ℕ) (q : Sort) (a : Name) (x : _) (args : Row_of-Expr _) → IsGoodElement s.unit s.environment IsReference IsCall q a args → (v : Value) (c : Cell) → Of s.processor q v c
+        → Matches (λ next y after. Stood s.processor s.unit s.environment next after) (steps.assign w card now (Apply' a x args) v) (set_left card k (Apply' a x args) c) st
     set_element card k q a x args h v c e =
-        subst (λ (ds : List Dim). Matches (λ next y after. Stood s.unit s.environment next after)
+        subst (λ (ds : List Dim). Matches (λ next y after. Stood s.processor s.unit s.environment next after)
         (walk.values w card now args >>= (λ is. walk.place_checked w card now ds is >>= (λ p. see (with_name now a (sense.make3 (of_values fs values) f.Put (now a) p v)))))
         (set_left card k (Apply' a x args) c) st) (sym h.dims_are)
-        (subst (λ (kind : Applied). Matches (λ next y after. Stood s.unit s.environment next after)
+        (subst (λ (kind : Applied). Matches (λ next y after. Stood s.processor s.unit s.environment next after)
         (walk.values w card now args >>= (λ is. walk.place_checked w card now (h.dim ∷ h.dims) is >>= (λ p. see (with_name now a (sense.make3 (of_values fs values) f.Put (now a) p v)))))
         (followed (run.apply s caller card k a kind (run.values s caller card k args) (run.actuals s caller card (suc k) args)) (λ t. perform.assign t c)) st) (sym h.applied_is)
         (element_assigned card k q a h.dim h.dims args h.array h.may h.many h.integers v c e))
 
-    set_any : (card k : ℕ) (q : Sort) (left : Expr) → IsLeft s.unit s.environment IsReference IsCall q left → (v : Value) (c : Cell) → Of q v c
-        → Matches (λ next y after. Stood s.unit s.environment next after) (steps.assign w card now left v) (set_left card k left c) st
+    set_any : (card k : ℕ) (q : Sort) (left : Expr) → IsLeft s.unit s.environment IsReference IsCall q left → (v : Value) (c : Cell) → Of s.processor q v c
+        → Matches (λ next y after. Stood s.processor s.unit s.environment next after) (steps.assign w card now left v) (set_left card k left c) st
     set_any card k q (Var x) h v c e = set_scalar card k q x h.0 h.1 v c e
     set_any card k q (Apply' a x args) h v c e = set_element card k q a x args h v c e
     set_any card k q (Const n) h v c e = absurd h
@@ -165,15 +171,15 @@ module _ (fs : List Function) (values : Symbol → Value) (program : Program) (i
     assign_step : (card pc k : ℕ) (left right : Expr) → IsGood s.unit s.environment IsReference IsCall pc (Assign left right)
         → Step (leads s.processor.dialect s.unit pc (Assign left right)) (λ cs. steps.performed w card pc now (Assign left right) cs) (perform.perform s caller card pc k (Assign left right)) st
     assign_step card pc k left right h =
-        step_stays (λ (cs : List ℕ). cs) (behind s.unit pc) (Of h.0) After _ _ _ _ st (evaluated right h.0 card (k + calls_in s.unit left) h.2)
+        step_stays (λ (cs : List ℕ). cs) (behind s.unit pc) (Of s.processor h.0) After _ _ _ _ st (evaluated right h.0 card (k + calls_in s.unit left) h.2)
         (λ v c e. step_joined (λ (cs : List ℕ). cs) (behind s.unit pc) After _ (run.taken s caller card k left) (λ x. perform.assign x c) (λ _. perform.go_on s card pc) st
-        (step_after (λ (cs : List ℕ). cs) (behind s.unit pc) (λ next y after. Stood s.unit s.environment next after) After _ _ (λ next cs. steps.behind w card pc next cs) (λ _. perform.go_on s card pc) st
+        (step_after (λ (cs : List ℕ). cs) (behind s.unit pc) (λ next y after. Stood s.processor s.unit s.environment next after) After _ _ (λ next cs. steps.behind w card pc next cs) (λ _. perform.go_on s card pc) st
         (set_any card k h.0 left h.1 v c e)
         (λ next y after g. goes_behind card pc h.3 next after g) (behind_way pc))) (behind_way pc)
 
     -- ---- conditions
 
-    truth_is : (v : Value) (c : Cell) → Of Logical v c → holds v ≡ run_holds c
+    truth_is : (v : Value) (c : Cell) → Of s.processor Logical v c → holds v ≡ run_holds c
     truth_is v c e = ap holds e.0
 
     not_is : (b : Bool) → b ≡ false → not b ≡ true
@@ -190,7 +196,7 @@ module _ (fs : List Function) (values : Symbol → Value) (program : Program) (i
     branch_step : (card k pc : ℕ) (e : Expr) (stmt : Stmt) → IsTyped s.unit IsReference Logical e → (to : List ℕ → Option ℕ) → to (1 ∷ []) ≡ Some (next_point s.unit pc) → to (2 ∷ []) ≡ Some (next_branch s.unit pc)
         → Step to (λ cs. walk.value w card now e >>= (λ v. steps.taken w (steps.truth_fact w v cs) >> see now)) (followed (run.evaluate s caller card k e) (λ v. give (perform.truth_choice (run_holds v) ∷ []))) st
     branch_step card k pc e stmt h to one two =
-        step_stays (λ (cs : List ℕ). cs) to (Of Logical) After _ _ (λ v cs. steps.taken w (steps.truth_fact w v cs) >> see now) (λ v. give (perform.truth_choice (run_holds v) ∷ [])) st (evaluated e Logical card k h)
+        step_stays (λ (cs : List ℕ). cs) to (Of s.processor Logical) After _ _ (λ v cs. steps.taken w (steps.truth_fact w v cs) >> see now) (λ v. give (perform.truth_choice (run_holds v) ∷ [])) st (evaluated e Logical card k h)
         (λ v c g. known (run_holds c)
         (λ t. subst (λ (b : Bool). Step to (λ cs. steps.taken w (steps.truth_fact w v cs) >> see now) (give (perform.truth_choice b ∷ [])) st) (sym t)
         (fact_step to (1 ∷ []) (next_point s.unit pc) v (λ cs. steps.taken w (steps.truth_fact w v cs) >> see now) one refl (truth_is v c g ∙ t)))
@@ -203,8 +209,8 @@ module _ (fs : List Function) (values : Symbol → Value) (program : Program) (i
     sign_step : (card k pc : ℕ) (e : Expr) (l m n : ℕ) → IsTyped s.unit IsReference Integer e
         → Step (leads s.processor.dialect s.unit pc (ArithIf e l m n)) (λ cs. steps.performed w card pc now (ArithIf e l m n) cs) (perform.perform s caller card pc k (ArithIf e l m n)) st
     sign_step card k pc e l m n h =
-        step_stays (λ (cs : List ℕ). cs) to (Of Integer) After _ _ (λ v cs. steps.taken w (steps.sign_fact w v cs) >> see now) (λ v. give (perform.sign_choice v ∷ [])) st (evaluated e Integer card k h)
-        (λ v c g. by_sign v c (integer_is v c g) g)
+        step_stays (λ (cs : List ℕ). cs) to (Of s.processor Integer) After _ _ (λ v cs. steps.taken w (steps.sign_fact w v cs) >> see now) (λ v. give (perform.sign_choice v ∷ [])) st (evaluated e Integer card k h)
+        (λ v c g. by_sign v c (integer_is s.processor v c g) g)
         (record { choice = 1 ∷ []; point = target s.unit.lines l; to = refl })
       where
         to : List ℕ → Option ℕ
@@ -216,10 +222,10 @@ module _ (fs : List Function) (values : Symbol → Value) (program : Program) (i
         positive : (z : ℤ) → int_lt z (pos 0) ≡ false → value.same_value (Int z) (Int (pos 0)) ≡ false → int_lt (pos 0) z ≡ true
         positive z p q = grind (arith, ints)
 
-        same_of : (v : Value) (c : Cell) → Of Integer v c → value.same_value v (Int (pos 0)) ≡ same c (cell.Int (pos 0))
+        same_of : (v : Value) (c : Cell) → Of s.processor Integer v c → value.same_value v (Int (pos 0)) ≡ same c (cell.Int (pos 0))
         same_of v c g = ap (λ (x : Value). value.same_value x (Int (pos 0))) g.0
 
-        by_sign : (v : Value) (c : Cell) → v ≡ Int (num c) → Of Integer v c → Step to (part v) (give (perform.sign_choice c ∷ [])) st
+        by_sign : (v : Value) (c : Cell) → v ≡ Int (num c) → Of s.processor Integer v c → Step to (part v) (give (perform.sign_choice c ∷ [])) st
         by_sign v c is g =
             known (int_lt (num c) (pos 0))
             (λ t. subst (λ (b : Bool). Step to (part v) (give (cond b 1 (cond (same c (cell.Int (pos 0))) 2 3) ∷ [])) st) (sym t)
@@ -239,7 +245,7 @@ module _ (fs : List Function) (values : Symbol → Value) (program : Program) (i
     result_matches card true h =
         matches_held (Same st (λ x y. Unit {0})) _ (λ x. check ResultCheck card (is_defined (load x (s.environment s.unit.name).first))) st
         (matches_as (Same st (λ x y. is_defined (load st (s.environment s.unit.name).first) ≡ true)) (Same st (λ x y. Unit {0})) _ _ st (λ x y after k. (k.0, tt))
-        (matches_check ResultCheck card _ _ st (ap value.is_defined (scalar_stands s.unit s.environment st now stood.standing h.0 s.unit.name h.1))))
+        (matches_check ResultCheck card _ _ st (ap value.is_defined (scalar_stands s.processor s.unit s.environment st now stood.standing h.0 s.unit.name h.1))))
 
     return_step : (card pc k : ℕ) → HasResult s.unit s.environment IsReference IsCall (is_function s.unit)
         → Step (leads s.processor.dialect s.unit pc Return) (λ cs. steps.performed w card pc now Return cs) (perform.perform s caller card pc k Return) st
@@ -255,11 +261,12 @@ module _ (fs : List Function) (values : Symbol → Value) (program : Program) (i
     call_step card pc k g args h =
         step_split (λ (cs : List ℕ). cs) (behind s.unit pc) After (λ cs. steps.performed w card pc now (Call g args) cs) (run.actuals s caller card (suc k) (row_of args))
         (λ ys. call caller s.environment (unit_at s.units (subroutine s.units g)) (passed (s.processor.copies s.unit.name (suc k)) 1 ys)) (λ _. perform.go_on s card pc) st
-        (step_stays (λ (cs : List ℕ). cs) (behind s.unit pc) (ActualsOf s st now) After _ _
+        (step_stays (λ (cs : List ℕ). cs) (behind s.unit pc) (ArePassed s st now args) After _ _
         (λ xs cs. walk_call.call w card (subroutine program.units g) now xs >>= (λ after. steps.behind w card pc (after.0) cs))
         (λ ys. followed (call caller s.environment (unit_at s.units (subroutine s.units g)) (passed (s.processor.copies s.unit.name (suc k)) 1 ys)) (λ _. perform.go_on s card pc)) st
-        (actuals_match fs values program i s caller least greatest strict bounded st now stood.standing IsReference (references st now stood) (row_of args) card (suc k) h.1)
-        (λ xs ts o. step_after (λ (cs : List ℕ). cs) (behind s.unit pc) (λ r c after. Stood s.unit s.environment (r.0) after) After _ _ (λ r cs. steps.behind w card pc (r.0) cs) (λ _. perform.go_on s card pc) st
+        (subst (λ (es : List Expr). Matches (Same st (ArePassed s st now es)) (walk.operands w card now (row_of args)) (run.actuals s caller card (suc k) (row_of args)) st) (listed_row args)
+        (actuals_match fs values program i s caller least greatest strict bounded st now stood.standing IsReference told (references st now stood) (row_of args) card (suc k) h.1))
+        (λ xs ts o. step_after (λ (cs : List ℕ). cs) (behind s.unit pc) (λ r c after. Stood s.processor s.unit s.environment (r.0) after) After _ _ (λ r cs. steps.behind w card pc (r.0) cs) (λ _. perform.go_on s card pc) st
         (calls st now stood card (suc k) g args xs ts h.0 o) (λ r c after q. goes_behind card pc h.2 (r.0) after q) (behind_way pc)) (behind_way pc))
 
     -- ---- logical IF
@@ -276,7 +283,7 @@ module _ (fs : List Function) (values : Symbol → Value) (program : Program) (i
     if_step card pc k e x b h loops inner =
         step_as pair_of (λ (cs : List ℕ). cs) to After (λ c. steps.performed w card pc now (LogicalIf' e x (carried b)) (pair_of c)) (λ cs. steps.performed w card pc now (LogicalIf' e x (carried b)) cs) _ st
         pair_of (λ c. refl) (λ c. refl)
-        (step_stays pair_of to (Of Logical) After _ _ body act st (evaluated e Logical card k h)
+        (step_stays pair_of to (Of s.processor Logical) After _ _ body act st (evaluated e Logical card k h)
         (λ v c g. known (run_holds c)
         (λ t. subst (λ (z : Bool). StepMatches pair_of to (body v) (cond z yes no) After st) (sym t) (taken_on v (truth_is v c g ∙ t)))
         (λ t. subst (λ (z : Bool). StepMatches pair_of to (body v) (cond z yes no) After st) (sym t) (passed_by v (ap not (truth_is v c g ∙ t)))))
@@ -319,12 +326,12 @@ module _ (fs : List Function) (values : Symbol → Value) (program : Program) (i
     and_three false b c = refl
 
     module _ (card last pc : ℕ) (x : Name) (scalar : IsScalar s.unit Integer x) (may : MayBeWritten s.unit s.environment x) (loops : AreGoodLoops s.unit s.environment (loops_around s.unit last pc))
-        (m1 : Value) (c1 : Cell) (m2 : Value) (c2 : Cell) (m3 : Value) (c3 : Cell) (e1 : Of Integer m1 c1) (e2 : Of Integer m2 c2) (e3 : Of Integer m3 c3) where
+        (m1 : Value) (c1 : Cell) (m2 : Value) (c2 : Cell) (m3 : Value) (c3 : Cell) (e1 : Of s.processor Integer m1 c1) (e2 : Of s.processor Integer m2 c2) (e3 : IsOf m3 c3) where
       abbrev set_first : Storage
       set_first = store st (s.environment x).first (cell.Int (num c1))
 
-      first_set : Stood s.unit s.environment (with_name now x m1) set_first
-      first_set = scalar_written s.unit s.environment dims Integer x scalar may now st stood (cell.Int (num c1)) tt m1 (integer_is m1 c1 e1)
+      first_set : Stood s.processor s.unit s.environment (with_name now x m1) set_first
+      first_set = scalar_written s.processor s.unit s.environment dims Integer x scalar may now st stood (cell.Int (num c1)) (integer_between s.processor m1 c1 e1) m1 (integer_is s.processor m1 c1 e1)
 
       first_written : (n : ℕ) → perform.set_variable s x (cell.Int (num c1)) st n ≡ Ended tt set_first n
       first_written n = refl
@@ -361,19 +368,19 @@ module _ (fs : List Function) (values : Symbol → Value) (program : Program) (i
           step_stays (λ (cs : List ℕ). cs) (leads_do Common s.unit last pc) (λ y z. (int_le (pos 1) (num c1) && (int_le (num c1) (num c2) && int_le (pos 1) (num c3))) ≡ true) After _ _ (λ y cs. see (with_name now x m1))
           (λ y. followed (perform.set_variable s x (cell.Int (num c1))) (λ _. give [])) st
           (matches_check LoopCheck card _ _ st
-          ((λ j. (int_le (pos 1) (value.num (e1.0 j)) && (int_le (value.num (e1.0 j)) (value.num (e2.0 j)) && (int_le (pos 1) (value.num (e3.0 j)) && true))))
+          ((λ j. (int_le (pos 1) (value.num (e1.0 j)) && (int_le (value.num (e1.0 j)) (value.num (e2.0 j)) && (int_le (pos 1) (value.num (e3 j)) && true))))
           ∙ and_three (int_le (pos 1) (num c1)) (int_le (num c1) (num c2)) (int_le (pos 1) (num c3))))
           (λ y z g. step_written (λ (cs : List ℕ). cs) (leads_do Common s.unit last pc) After (λ cs. see (with_name now x m1)) (give []) st set_first (perform.set_variable s x (cell.Int (num c1))) first_written
           (step_done (λ (cs : List ℕ). cs) (leads_do Common s.unit last pc) After (λ cs. see (with_name now x m1)) [] (suc pc) (with_name now x m1) [] set_first refl refl refl first_set))
           (record { choice = []; point = suc pc; to = refl })
       begin_step SeventySeven =
           step_stays (λ (cs : List ℕ). cs) to (λ y z. int_le (pos 1) (num c3) ≡ true) After _ _ _ _ st
-          (matches_check LoopCheck card _ _ st (λ j. int_le (pos 1) (value.num (e3.0 j))))
-          (λ y z g. step_stays (λ (cs : List ℕ). cs) to (Of Integer) After _ _ _ _ st
+          (matches_check LoopCheck card _ _ st (λ j. int_le (pos 1) (value.num (e3 j))))
+          (λ y z g. step_stays (λ (cs : List ℕ). cs) to (Of s.processor Integer) After _ _ _ _ st
           (matches_ranged fs values program i s.unit s least greatest st card (sense.make2 (of_values fs values) f.Difference m2 m1) (num c2 -ℤ num c1) (λ j. Int (value.num (e2.0 j) -ℤ value.num (e1.0 j))))
-          (λ v a h. step_stays (λ (cs : List ℕ). cs) to (Of Integer) After _ _ _ _ st
+          (λ v a h. step_stays (λ (cs : List ℕ). cs) to (Of s.processor Integer) After _ _ _ _ st
           (matches_ranged fs values program i s.unit s least greatest st card (sense.make2 (of_values fs values) f.Plus (sense.make2 (of_values fs values) f.Difference m2 m1) m3) (num c2 -ℤ num c1 +ℤ num c3)
-          (λ j. Int (value.num (e2.0 j) -ℤ value.num (e1.0 j) +ℤ value.num (e3.0 j))))
+          (λ j. Int (value.num (e2.0 j) -ℤ value.num (e1.0 j) +ℤ value.num (e3 j))))
           (λ v2 a2 h2. step_written (λ (cs : List ℕ). cs) to After (λ cs. steps.entered w last pc (with_name now x m1) m1 m2 cs) _ st set_first (perform.set_variable s x (cell.Int (num c1))) first_written entered_step)
           way) way) way
         where
@@ -390,9 +397,9 @@ module _ (fs : List Function) (values : Symbol → Value) (program : Program) (i
     do_step : (card pc k l : ℕ) (x : Name) (first last : Param) (by : Option Param) → IsGood s.unit s.environment IsReference IsCall pc (Do l x first last by)
         → Step (leads s.processor.dialect s.unit pc (Do l x first last by)) (λ cs. steps.performed w card pc now (Do l x first last by) cs) (perform.perform s caller card pc k (Do l x first last by)) st
     do_step card pc k l x first last by h =
-        step_stays (λ (cs : List ℕ). cs) to (Of Integer) After _ _ _ _ st (matches_parameter fs values program i s least greatest bounded dialects dims st now stood card first h.2)
-        (λ m1 c1 e1. step_stays (λ (cs : List ℕ). cs) to (Of Integer) After _ _ _ _ st (matches_parameter fs values program i s least greatest bounded dialects dims st now stood card last h.3)
-        (λ m2 c2 e2. step_stays (λ (cs : List ℕ). cs) to (Of Integer) After _ _ _ _ st (matches_step_value fs values program i s least greatest bounded dialects dims st now stood card by h.4)
+        step_stays (λ (cs : List ℕ). cs) to (Of s.processor Integer) After _ _ _ _ st (matches_parameter fs values program i s least greatest bounded dialects dims st now stood card first h.2)
+        (λ m1 c1 e1. step_stays (λ (cs : List ℕ). cs) to (Of s.processor Integer) After _ _ _ _ st (matches_parameter fs values program i s least greatest bounded dialects dims st now stood card last h.3)
+        (λ m2 c2 e2. step_stays (λ (cs : List ℕ). cs) to IsOf After _ _ _ _ st (matches_step_value fs values program i s least greatest bounded dialects dims st now stood card by h.4)
         (λ m3 c3 e3. subst (λ (d : Dialect). Step to (λ cs. steps.begin w d card (target s.unit.lines l) pc now x m1 m2 m3 cs) (perform.begin s.processor.dialect s card (target s.unit.lines l) pc x (num c1) (num c2) (num c3)) st) dialects
         (begin_step card (target s.unit.lines l) pc x h.0 h.1 h.5 m1 c1 m2 c2 m3 c3 e1 e2 e3 s.processor.dialect))
         way) way) way
@@ -428,7 +435,7 @@ module _ (fs : List Function) (values : Symbol → Value) (program : Program) (i
     mapped_length [] = refl
     mapped_length (l ∷ ls) = ap suc (mapped_length ls)
 
-    between_is : (labels : ℕ) (v : Value) (c : Cell) → Of Integer v c → holds (steps.counts_label w labels v) ≡ is_between (pos 1) (pos labels) (num c)
+    between_is : (labels : ℕ) (v : Value) (c : Cell) → Of s.processor Integer v c → holds (steps.counts_label w labels v) ≡ is_between (pos 1) (pos labels) (num c)
     between_is labels v c e = (λ j. (int_le (pos 1) (value.num (e.0 j)) && (int_le (value.num (e.0 j)) (pos labels) && true))) ∙ and_two (int_le (pos 1) (num c)) (int_le (num c) (pos labels))
 
     -- a fact is met, by a choice
@@ -440,9 +447,9 @@ module _ (fs : List Function) (values : Symbol → Value) (program : Program) (i
         (λ answers. ap (λ (p : See Value (Named Value)). (p answers).value) is) (λ answers. ap (λ (p : See Value (Named Value)). (p answers).rest) is)
         (λ n. ap (λ (j : ℕ). Ended (list c) st j) (let z : 0 + n ≡ n = omega arith in z)) stood
 
-    module _ (card pc : ℕ) (ls : List ℕ) (v : Value) (c : Cell) (e : Of Integer v c) (some : HasLabels s.unit s.environment IsReference IsCall ls) (loops : AreGoodLoops s.unit s.environment (loops_at s.unit pc)) where
+    module _ (card pc : ℕ) (ls : List ℕ) (v : Value) (c : Cell) (e : Of s.processor Integer v c) (some : HasLabels s.unit s.environment IsReference IsCall ls) (loops : AreGoodLoops s.unit s.environment (loops_at s.unit pc)) where
       equal_fact : (h : Counts (length ls) (num c)) → holds (sense.make2 (of_values fs values) f.Equal v (sense.natural (of_values fs values) (suc h.before))) ≡ true
-      equal_fact h = ap (λ (x : Value). value.same_value x (Int (pos (suc h.before)))) (integer_is v c e ∙ ap (λ (z : ℤ). Int z) h.number) ∙ same_number (suc h.before)
+      equal_fact h = ap (λ (x : Value). value.same_value x (Int (pos (suc h.before)))) (integer_is s.processor v c e ∙ ap (λ (z : ℤ). Int z) h.number) ∙ same_number (suc h.before)
 
       abbrev chosen_part : Dialect → PairOf → See Value (Named Value)
       chosen_part d p = steps.select w d card pc now (length ls) v (p.0) (p.1)
@@ -511,7 +518,7 @@ module _ (fs : List Function) (values : Symbol → Value) (program : Program) (i
         → Step (leads s.processor.dialect s.unit pc (Computed ls x)) (λ cs. steps.performed w card pc now (Computed ls x) cs) (perform.perform s caller card pc k (Computed ls x)) st
     select_step card pc k ls x h =
         step_as pair_of (λ (cs : List ℕ). cs) to After (λ p. steps.performed w card pc now (Computed ls x) (pair_of p)) (λ cs. steps.performed w card pc now (Computed ls x) cs) _ st pair_of (λ p. refl) (λ p. refl)
-        (step_stays pair_of to (Of Integer) After _ _ (λ v p. steps.choice_check w program.dialect card (length ls) v >> steps.select w program.dialect card pc now (length ls) v (p.0) (p.1))
+        (step_stays pair_of to (Of s.processor Integer) After _ _ (λ v p. steps.choice_check w program.dialect card (length ls) v >> steps.select w program.dialect card pc now (length ls) v (p.0) (p.1))
         (λ c. perform.select s.processor.dialect s card pc (length ls) (num c)) st
         (matches_variable fs values program i s least greatest bounded dialects dims st now stood card x h.0)
         (λ v c e. subst (λ (d : Dialect). StepMatches pair_of to (λ p. steps.choice_check w d card (length ls) v >> steps.select w d card pc now (length ls) v (p.0) (p.1)) (perform.select s.processor.dialect s card pc (length ls) (num c)) After st) dialects
@@ -552,5 +559,5 @@ module _ (fs : List Function) (values : Symbol → Value) (program : Program) (i
     statement_matches End card pc k h = absurd h
 
 pub statements_match : StatementsMatch
-statements_match fs values program i s caller is_reference is_call least greatest strict bounded dialects dims references calls st now stood stmt card pc k good =
-    statement_matches fs values program i s caller least greatest strict bounded dialects dims (λ q a. is_reference q a ≡ true) (λ g args. is_call g args ≡ true) references calls st now stood stmt card pc k good
+statements_match fs values program i s caller least greatest strict bounded dialects dims references calls st now stood stmt card pc k good =
+    statement_matches fs values program i s caller least greatest strict bounded dialects dims (IsReferenceTo program i s.unit) (IsCallTo program i s.unit) (λ q a es r. r.told) references calls st now stood stmt card pc k good

@@ -1,6 +1,7 @@
 -- The tests of DOs behind a statement.
 use Rattle.std.proofs.Common.{◌≡◌, ℕ, suc, ◌+◌, ◌≤◌, Bool, true, false, cond, ℤ, pos, ◌+ℤ◌, List, [], ◌∷◌, length, Option, Some, None, refl, sym, ap, ◌∙◌, subst, arith, length-set}
 use Rattle.std.proofs.lemmas.Int.{ints}
+use Rattle.std.specs.List.{list_all}
 use Rattle.std.specs.Prelude.{nat_lt, int_le, int_lt, ◌==◌}
 use Rattle.formula.specs.declared.function.BuiltIn.TheVariants as f
 use Rattle.formula.specs.declared.value.Cell.{Cell}
@@ -27,6 +28,8 @@ use Rattle.fort_model.specs.Flow.{Loop, through}
 use Rattle.fort_model.specs.Outcome.{Act, Ended, give}
 use Rattle.fort_model.specs.Perform as perform
 use Rattle.fort_model.specs.Places.{stretch, dim_values}
+use Rattle.fort_model.specs.Fits.{is_good_dim}
+use Rattle.fort_model.specs.Processor.{Processor, MeetsBound}
 use Rattle.fort_model.specs.Program.{Program}
 use Rattle.fort_model.specs.Seen.{Named, See, ◌>>◌, see}
 use Rattle.fort_model.specs.Senses as sense
@@ -39,26 +42,28 @@ use Rattle.fort_model.specs.WalkStmt as steps
 use Rattle.fort_model.specs.WalkStmt.{with_name}
 use Rattle.fort_laws.specs.GoodStatements.{MayBeWritten, Stood, HasScalarDims, IsParameter, IsStep, IsGoodLoop, AreGoodLoops}
 use Rattle.fort_laws.specs.Matches.{Matches, moves, Same}
-use Rattle.fort_laws.specs.Standing.{MayBe, Of, Standing}
+use Rattle.fort_laws.specs.Standing.{IsOf, MayBe, Of, Standing}
 use Rattle.fort_laws.specs.StepMatches.{StepMatches}
 use Rattle.fort_laws.specs.Typed.{IsScalar}
-use Rattle.fort_laws.proofs.Matching.{matches_see, followed}
+use Rattle.fort_laws.proofs.InRange.{up_to_bound, has_zero}
+use Rattle.fort_laws.proofs.Matching.{matches_see, matches_as, followed}
 use Rattle.fort_laws.proofs.MatchedExpressions.{matches_constant, matches_large, matches_ranged}
 use Rattle.fort_laws.proofs.MatchedPlaces.{scalar_stands, scalar_sort, matches_read}
 use Rattle.fort_laws.proofs.Near.{known, through_all}
 use Rattle.fort_laws.proofs.Stepping.{HasWay, step_after, step_stays, step_done, step_step, step_as, step_chosen}
-use Rattle.fort_laws.proofs.Written.{standing_written, load_store_same}
+use Rattle.fort_laws.proofs.Written.{standing_written, goods_written, load_store_same}
 
 -- a scalar is written
-module _ (u : Routine) (env : Environment) (dims : HasScalarDims u env) where
-  pub maybe_is : (q r : Sort) (c : Cell) → q ≡ r → MayBe r c → MayBe q c
-  maybe_is q r c e h = subst (λ (z : Sort). MayBe z c) (sym e) h
+module _ (p : Processor) (u : Routine) (env : Environment) (dims : HasScalarDims u env) where
+  pub maybe_is : (q r : Sort) (c : Cell) → q ≡ r → MayBe p r c → MayBe p q c
+  maybe_is q r c e h = subst (λ (z : Sort). MayBe p z c) (sym e) h
 
-  pub scalar_written : (q : Sort) (x : Name) → IsScalar u q x → MayBeWritten u env x → (now : Named Value) (st : Storage) → Stood u env now st → (c : Cell) → MayBe q c → (v : Value) → v ≡ of_cell c
-      → Stood u env (with_name now x v) (store st (env x).first c)
+  pub scalar_written : (q : Sort) (x : Name) → IsScalar u q x → MayBeWritten u env x → (now : Named Value) (st : Storage) → Stood p u env now st → (c : Cell) → MayBe p q c → (v : Value) → v ≡ of_cell c
+      → Stood p u env (with_name now x v) (store st (env x).first c)
   scalar_written q x h may now st stood c sort v e = record {
-    standing = subst (λ (s : Storage). Standing u env s (with_name now x v)) at_first (subst (λ (y : Value). Standing u env after (with_name now x y)) (value_is ∙ sym e) written);
+    standing = subst (λ (s : Storage). Standing p u env s (with_name now x v)) at_first (subst (λ (y : Value). Standing p u env after (with_name now x y)) (value_is ∙ sym e) written);
     within = λ y d is. let n : length (store st (env x).first c) ≡ length st = length-set st (env x).first c in let w = stood.within y d is in omega arith;
+    good = λ y d is. subst (λ (s : Storage). list_all (is_good_dim env s) d.dims ≡ true) at_first (goods_written p u env st now stood.standing dims x h.data_of h.is may 0 (omega (arith, one)) c (maybe_is _ _ c h.sort_is sort) stood.good y d is);
   }
     where
       inside : (env x).first + (env x).size ≤ length st
@@ -76,8 +81,8 @@ module _ (u : Routine) (env : Environment) (dims : HasScalarDims u env) where
       at_first : after ≡ store st (env x).first c
       at_first = ap (λ (i : ℕ). store st i c) (omega arith)
 
-      written : Standing u env after (with_name now x (held_in h.data_of.dims after (env x)))
-      written = standing_written u env st now stood.standing dims x h.data_of h.is may 0 (omega (arith, one)) c (maybe_is _ _ c h.sort_is sort) (omega (arith, one)) (omega (arith, one, inside))
+      written : Standing p u env after (with_name now x (held_in h.data_of.dims after (env x)))
+      written = standing_written p u env st now stood.standing dims x h.data_of h.is may 0 (omega (arith, one)) c (maybe_is _ _ c h.sort_is sort) (omega (arith, one)) (omega (arith, one, inside))
 
       value_is : held_in h.data_of.dims after (env x) ≡ of_cell c
       value_is =
@@ -86,34 +91,35 @@ module _ (u : Routine) (env : Environment) (dims : HasScalarDims u env) where
 
 module _ (fs : List Function) (values : Symbol → Value) (program : Program) (i : ℕ) (s : Scene)
     (least : values LeastInteger ≡ Int s.processor.least) (greatest : values GreatestInteger ≡ Int s.processor.greatest)
-    (bounded : (n : ℕ) → nat_lt program.bound n ≡ false → int_le (pos n) s.processor.greatest ≡ true)
+    (bounded : MeetsBound s.processor program.bound)
     (dialects : s.processor.dialect ≡ program.dialect) (dims : HasScalarDims s.unit s.environment) where
   abbrev w : Sight Value
   w = sight (of_values fs values) program i s.unit
 
   -- what names then stand for, and the storage
   abbrev pub After : Named Value → Storage → Type 0
-  After = Stood s.unit s.environment
+  After = Stood s.processor s.unit s.environment
 
-  module _ (st : Storage) (now : Named Value) (stood : Stood s.unit s.environment now st) where
-    any_constant : (card n : ℕ) → Matches (Same st (Of Integer)) (walk.constant w card n) (run.constant s.processor card n) st
+  module _ (st : Storage) (now : Named Value) (stood : Stood s.processor s.unit s.environment now st) where
+    any_constant : (card n : ℕ) → Matches (Same st (Of s.processor Integer)) (walk.constant w card n) (run.constant s.processor card n) st
     any_constant card n =
-        known (nat_lt program.bound n)
-        (λ e. matches_large fs values program i s.unit s least greatest st card n e)
-        (λ e. matches_constant fs values program i s.unit s least greatest st card n e (bounded n e))
+        matches_as (Same st (λ v c. Of s.processor Integer v c × (c ≡ cell.Int (pos n)))) (Same st (Of s.processor Integer)) _ _ st (λ v c after k. (k.0, k.1.0))
+        (known (nat_lt program.bound n)
+        (λ e. matches_large fs values program i s.unit s least greatest st (has_zero s.processor program.bound bounded) card n e)
+        (λ e. matches_constant fs values program i s.unit s least greatest st card n e (up_to_bound s.processor program.bound bounded n e)))
 
-    pub matches_variable : (card : ℕ) (x : Name) → IsScalar s.unit Integer x → Matches (Same st (Of Integer)) (walk.read w card (now x)) (perform.variable s card x) st
+    pub matches_variable : (card : ℕ) (x : Name) → IsScalar s.unit Integer x → Matches (Same st (Of s.processor Integer)) (walk.read w card (now x)) (perform.variable s card x) st
     matches_variable card x h =
-        matches_read s.unit s.environment st now stood.standing fs values program i s card (s.environment x).first (now x) Integer
-        (scalar_stands s.unit s.environment st now stood.standing Integer x h) (scalar_sort s.unit s.environment st now stood.standing Integer x h)
+        matches_read s.processor s.unit s.environment st now stood.standing fs values program i s card (s.environment x).first (now x) Integer
+        (scalar_stands s.processor s.unit s.environment st now stood.standing Integer x h) (scalar_sort s.processor s.unit s.environment st now stood.standing Integer x h)
 
-    pub matches_parameter : (card : ℕ) (m : Param) → IsParameter s.unit m → Matches (Same st (Of Integer)) (steps.parameter w card now m) (perform.parameter s card m) st
+    pub matches_parameter : (card : ℕ) (m : Param) → IsParameter s.unit m → Matches (Same st (Of s.processor Integer)) (steps.parameter w card now m) (perform.parameter s card m) st
     matches_parameter card (param.Fixed n) h = any_constant card n
     matches_parameter card (param.Named x) h = matches_variable card x h
 
-    pub matches_step_value : (card : ℕ) (m : Option Param) → IsStep s.unit m → Matches (Same st (Of Integer)) (steps.step_value w card now m) (perform.step_value s card m) st
-    matches_step_value card None h = matches_see (Same st (Of Integer)) (Int (pos 1)) (cell.Int (pos 1)) st (refl, (refl, tt))
-    matches_step_value card (Some m) h = matches_parameter card m h
+    pub matches_step_value : (card : ℕ) (m : Option Param) → IsStep s.unit m → Matches (Same st IsOf) (steps.step_value w card now m) (perform.step_value s card m) st
+    matches_step_value card None h = matches_see (Same st IsOf) (Int (pos 1)) (cell.Int (pos 1)) st (refl, refl)
+    matches_step_value card (Some m) h = matches_as (Same st (Of s.processor Integer)) (Same st IsOf) _ _ st (λ x y after k. (k.0, k.1.0)) (matches_parameter card m h)
 
   -- a fact is met, and a cell written
   matches_written : (t : Value) (j : ℕ) (c : Cell) (st : Storage) → holds t ≡ true → Matches (λ x y after. after ≡ store st j c) (steps.taken w t) (perform.write_cell j c) st
@@ -146,18 +152,18 @@ module _ (fs : List Function) (values : Symbol → Value) (program : Program) (i
   left_is Common v c e = refl
   left_is SeventySeven v c e = e
 
-  left_may : (d : Dialect) (c : Cell) → MayBe Integer c → MayBe Integer (perform.left_with d c)
+  left_may : (d : Dialect) (c : Cell) → MayBe s.processor Integer c → MayBe s.processor Integer (perform.left_with d c)
   left_may Common c h = tt
   left_may SeventySeven c h = h
 
-  may_of : (c : Cell) → Of Integer (of_cell c) c → MayBe Integer c
-  may_of (cell.Int z) h = tt
+  may_of : (c : Cell) → Of s.processor Integer (of_cell c) c → MayBe s.processor Integer c
+  may_of (cell.Int z) h = h.1
   may_of (cell.Logical b) h = absurd h.1
   may_of cell.Undefined h = tt
 
-  module _ (card q : ℕ) (d : Loop) (ds : List Loop) (good : IsGoodLoop s.unit s.environment d) (st : Storage) (now : Named Value) (stood : Stood s.unit s.environment now st)
-      (sum : Value) (c : Cell) (last : Value) (b : Cell) (sum_is : Of Integer sum c) (last_is : Of Integer last b)
-      (rest : (next : Named Value) (after : Storage) → Stood s.unit s.environment next after
+  module _ (card q : ℕ) (d : Loop) (ds : List Loop) (good : IsGoodLoop s.unit s.environment d) (st : Storage) (now : Named Value) (stood : Stood s.processor s.unit s.environment now st)
+      (sum : Value) (c : Cell) (last : Value) (b : Cell) (sum_is : Of s.processor Integer sum c) (last_is : Of s.processor Integer last b)
+      (rest : (next : Named Value) (after : Storage) → Stood s.processor s.unit s.environment next after
       → StepMatches chosen_list (through q ds) (λ cs. steps.tests w card next ds cs) (perform.tests s card ds) After after) where
     abbrev part : Pair → See Value (Named Value)
     part c2 =
@@ -181,8 +187,8 @@ module _ (fs : List Function) (values : Symbol → Value) (program : Program) (i
         (step_after only_one (through q (d ∷ ds)) (λ x y after. after ≡ store st (s.environment d.variable).first c) After _ _ (λ x u. see (with_name now d.variable sum)) (λ y. give (1 ∷ [])) st
         (matches_written (sense.make2 (of_values fs values) f.AtMost sum last) (s.environment d.variable).first c st ((λ j. int_le (value.num (sum_is.0 j)) (value.num (last_is.0 j))) ∙ h))
         (λ x y after e. step_done only_one (through q (d ∷ ds)) After (λ u. see (with_name now d.variable sum)) tt (suc d.at) (with_name now d.variable sum) (1 ∷ []) after refl refl refl
-        (subst (λ (z : Storage). Stood s.unit s.environment (with_name now d.variable sum) z) (sym e)
-        (scalar_written s.unit s.environment dims Integer d.variable good.variable good.may now st stood c (may_of c (subst (λ (v : Value). Of Integer v c) sum_is.0 sum_is)) sum sum_is.0)))
+        (subst (λ (z : Storage). Stood s.processor s.unit s.environment (with_name now d.variable sum) z) (sym e)
+        (scalar_written s.processor s.unit s.environment dims Integer d.variable good.variable good.may now st stood c (may_of c (subst (λ (v : Value). Of s.processor Integer v c) sum_is.0 sum_is)) sum sum_is.0)))
         (record { choice = tt; point = suc d.at; to = refl }))
 
     abbrev two_and : List ℕ → List ℕ
@@ -201,9 +207,9 @@ module _ (fs : List Function) (values : Symbol → Value) (program : Program) (i
         (matches_written (sense.make2 (of_values fs values) f.Less last sum) (s.environment d.variable).first (perform.left_with s.processor.dialect c) st
         ((λ j. int_lt (value.num (last_is.0 j)) (value.num (sum_is.0 j))) ∙ not_at_most (num c) (num b) h))
         (λ x y after e. step_chosen chosen_list (through q ds) (through q (d ∷ ds)) After (λ cs. steps.tests w card (with_name now d.variable (steps.left_with w program.dialect sum)) ds cs) (perform.tests s card ds) after 2 (λ cs. refl)
-        (rest _ after (subst (λ (z : Storage). Stood s.unit s.environment (with_name now d.variable (steps.left_with w program.dialect sum)) z) (sym e)
-        (scalar_written s.unit s.environment dims Integer d.variable good.variable good.may now st stood (perform.left_with s.processor.dialect c)
-        (left_may s.processor.dialect c (may_of c (subst (λ (v : Value). Of Integer v c) sum_is.0 sum_is))) (steps.left_with w program.dialect sum) left_value))))
+        (rest _ after (subst (λ (z : Storage). Stood s.processor s.unit s.environment (with_name now d.variable (steps.left_with w program.dialect sum)) z) (sym e)
+        (scalar_written s.processor s.unit s.environment dims Integer d.variable good.variable good.may now st stood (perform.left_with s.processor.dialect c)
+        (left_may s.processor.dialect c (may_of c (subst (λ (v : Value). Of s.processor Integer v c) sum_is.0 sum_is))) (steps.left_with w program.dialect sum) left_value))))
         (let t = tests_way q ds in record { choice = t.choice; point = t.point; to = t.to }))
 
     tested : StepMatches pair_list (through q (d ∷ ds)) part (cond (int_le (num c) (num b)) again leave) After st
@@ -212,17 +218,17 @@ module _ (fs : List Function) (values : Symbol → Value) (program : Program) (i
         (λ e. subst (λ (t : Bool). StepMatches pair_list (through q (d ∷ ds)) part (cond t again leave) After st) (sym e) (go_again e))
         (λ e. subst (λ (t : Bool). StepMatches pair_list (through q (d ∷ ds)) part (cond t again leave) After st) (sym e) (go_leave e))
 
-  pub tests_match : (card q : ℕ) (ds : List Loop) → AreGoodLoops s.unit s.environment ds → (now : Named Value) (st : Storage) → Stood s.unit s.environment now st
+  pub tests_match : (card q : ℕ) (ds : List Loop) → AreGoodLoops s.unit s.environment ds → (now : Named Value) (st : Storage) → Stood s.processor s.unit s.environment now st
       → StepMatches chosen_list (through q ds) (λ cs. steps.tests w card now ds cs) (perform.tests s card ds) After st
   tests_match card q [] good now st stood = step_done chosen_list (through q []) After (λ cs. steps.tests w card now [] cs) [] q now [] st refl refl refl stood
   tests_match card q (d ∷ ds) good now st stood =
       step_as pair_list chosen_list (through q (d ∷ ds)) After (λ c. steps.tests w card now (d ∷ ds) (pair_list c)) (λ cs. steps.tests w card now (d ∷ ds) cs) (perform.tests s card (d ∷ ds)) st
       pair_list (λ c. refl) (λ c. refl)
       (step_step pair_list (through q (d ∷ ds)) After _ _ st
-      (step_stays pair_list (through q (d ∷ ds)) (Of Integer) After _ _ _ _ st (matches_variable st now stood card d.variable good.0.variable)
-      (λ v a ha. step_stays pair_list (through q (d ∷ ds)) (Of Integer) After _ _ _ _ st (matches_step_value st now stood card d.step good.0.step)
-      (λ by b hb. step_stays pair_list (through q (d ∷ ds)) (Of Integer) After _ _ _ _ st
-      (matches_ranged fs values program i s.unit s least greatest st card (sense.make2 (of_values fs values) f.Plus v by) (num a +ℤ num b) (λ j. Int (value.num (ha.0 j) +ℤ value.num (hb.0 j))))
-      (λ sum c hc. step_stays pair_list (through q (d ∷ ds)) (Of Integer) After _ _ _ _ st (matches_parameter st now stood card d.last good.0.last)
+      (step_stays pair_list (through q (d ∷ ds)) (Of s.processor Integer) After _ _ _ _ st (matches_variable st now stood card d.variable good.0.variable)
+      (λ v a ha. step_stays pair_list (through q (d ∷ ds)) IsOf After _ _ _ _ st (matches_step_value st now stood card d.step good.0.step)
+      (λ by b hb. step_stays pair_list (through q (d ∷ ds)) (Of s.processor Integer) After _ _ _ _ st
+      (matches_ranged fs values program i s.unit s least greatest st card (sense.make2 (of_values fs values) f.Plus v by) (num a +ℤ num b) (λ j. Int (value.num (ha.0 j) +ℤ value.num (hb j))))
+      (λ sum c hc. step_stays pair_list (through q (d ∷ ds)) (Of s.processor Integer) After _ _ _ _ st (matches_parameter st now stood card d.last good.0.last)
       (λ last e he. tested card q d ds good.0 st now stood sum c last e hc he (λ next after h. tests_match card q ds good.1 next after h))
       (pair_way q d ds)) (pair_way q d ds)) (pair_way q d ds)) (pair_way q d ds)))

@@ -83,7 +83,7 @@ module _ (dialect : Dialect) (u : Routine) (notes : Notes) where
     below : (x : ℕ) → list_any (eqb x) seen ≡ true → x < length u.lines
     free : (x : ℕ) → list_any (eqb x) seen ≡ true → Uncut dialect u notes x pc
 
-apart_all : (pc : ℕ) (seen : List ℕ) → ((x : ℕ) → list_any (eqb x) seen ≡ true → x ≢ pc) → AllByRecursion (λ y. eqb pc y ≡ false) seen
+pub apart_all : (pc : ℕ) (seen : List ℕ) → ((x : ℕ) → list_any (eqb x) seen ≡ true → x ≢ pc) → AllByRecursion (λ y. eqb pc y ≡ false) seen
 apart_all pc [] h = tt
 apart_all pc (y ∷ seen) h =
     (known (eqb pc y) (λ e. absurd (h y (ap (λ b. b || list_any (eqb y) seen) (same y)) (sym (equal pc y e)))) (λ e. e), apart_all pc seen (λ x m. h x (later x y (list_any (eqb x) seen) m)))
@@ -97,7 +97,7 @@ apart_all pc (y ∷ seen) h =
     later : (x k : ℕ) (b : Bool) → b ≡ true → (eqb x k || b) ≡ true
     later x k b e = known (eqb x k) (λ f. ap (λ c. c || b) f) (λ f. ap (λ c. c || b) f ∙ e)
 
-split_any : (x y : ℕ) (seen : List ℕ) {C : Type 0} → (eqb x y || list_any (eqb x) seen) ≡ true → (x ≡ y → C) → (list_any (eqb x) seen ≡ true → C) → C
+pub split_any : (x y : ℕ) (seen : List ℕ) {C : Type 0} → (eqb x y || list_any (eqb x) seen) ≡ true → (x ≡ y → C) → (list_any (eqb x) seen ≡ true → C) → C
 split_any x y seen h f g = known (eqb x y) (λ e. f (equal x y e)) (λ e. g (ap (λ b. b || list_any (eqb x) seen) (sym e) ∙ h))
   where
     equal : (k m : ℕ) → eqb k m ≡ true → k ≡ m

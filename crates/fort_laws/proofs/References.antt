@@ -10,7 +10,7 @@ use Rattle.fort_model.specs.Lists.{IsAmong}
 use Rattle.fort_model.specs.Names.{Applied, Element, BuiltIn, Reference, applied}
 use Rattle.fort_model.specs.Trees.{only}
 
-among_either : {A : Type 0} (a : A) (xs ys : List A) → IsAmong a (xs ++ ys) → IsAmong a xs ⊎ IsAmong a ys
+pub among_either : {A : Type 0} (a : A) (xs ys : List A) → IsAmong a (xs ++ ys) → IsAmong a xs ⊎ IsAmong a ys
 among_either a [] ys m = inr m
 among_either a (x ∷ xs) ys (zero, e) = inl (0, e)
 among_either {A = A} a (x ∷ xs) ys (suc k, e) = one_up (among_either a xs ys (k, e))
@@ -57,6 +57,6 @@ mutual
   sites_are_references u (And' q (only a) r (only b)) = are_both (sites_in u a) (sites_in u b) (sites_are_references u a) (sites_are_references u b)
   sites_are_references u (Or' q (only a) r (only b)) = are_both (sites_in u a) (sites_in u b) (sites_are_references u a) (sites_are_references u b)
 
-  row_references : (u : Routine) {m : Count} (es : Row_of-Expr m) (site : CallSite) → IsAmong site (sites_in_row u es) → site.reference ≡ true
+  pub row_references : (u : Routine) {m : Count} (es : Row_of-Expr m) (site : CallSite) → IsAmong site (sites_in_row u es) → site.reference ≡ true
   row_references u end_of-Expr = are_none
   row_references u (more_of-Expr e es) = are_both (sites_in u e) (sites_in_row u es) (sites_are_references u e) (row_references u es)

@@ -32,11 +32,11 @@ use Rattle.fort_laws.proofs.FrameSeats.{same_self, found}
 clash : (b : Bool) → b ≡ true → b ≡ false → ⊥
 clash b t f = cc
 
-neither : (a b : Bool) → (a || b) ≡ false → (a ≡ false) × (b ≡ false)
+pub neither : (a b : Bool) → (a || b) ≡ false → (a ≡ false) × (b ≡ false)
 neither true b h = absurd (cc)
 neither false b h = (refl, h)
 
-not_both : (a b : Bool) → (a && b) ≡ false → a ≡ true → b ≡ false
+pub not_both : (a b : Bool) → (a && b) ≡ false → a ≡ true → b ≡ false
 not_both true b h e = h
 not_both false b h e = absurd (cc)
 
@@ -44,20 +44,20 @@ both_are : (a b : Bool) → a ≡ true → b ≡ true → (a && b) ≡ true
 both_are true b e h = h
 both_are false b e h = absurd (cc)
 
-is_false : (b : Bool) → (b ≡ true → ⊥) → b ≡ false
+pub is_false : (b : Bool) → (b ≡ true → ⊥) → b ≡ false
 is_false true h = absurd (h refl)
 is_false false h = refl
 
-none_passes : {A : Type 0} (test : A → Bool) (xs : List A) (x : A) → list_any test xs ≡ false → IsAmong x xs → test x ≡ false
+pub none_passes : {A : Type 0} (test : A → Bool) (xs : List A) (x : A) → list_any test xs ≡ false → IsAmong x xs → test x ≡ false
 none_passes test [] x h m = absurd (cc)
 none_passes test (y ∷ ys) x h (zero, e) = let f : y ≡ x = cc in ap test (sym f) ∙ (neither (test y) (list_any test ys) h).0
 none_passes test (y ∷ ys) x h (suc k, e) = none_passes test ys x (neither (test y) (list_any test ys) h).1 (k, e)
 
-more_among : {A : Type 0} (t : Bool) (x y : A) (fewer : List A) → IsAmong x fewer → IsAmong x (cond t (y ∷ fewer) fewer)
+pub more_among : {A : Type 0} (t : Bool) (x y : A) (fewer : List A) → IsAmong x fewer → IsAmong x (cond t (y ∷ fewer) fewer)
 more_among true x y fewer m = (suc m.0, m.1)
 more_among false x y fewer m = m
 
-passes_filter : {A : Type 0} (test : A → Bool) (xs : List A) (x : A) → IsAmong x xs → test x ≡ true → IsAmong x (filter test xs)
+pub passes_filter : {A : Type 0} (test : A → Bool) (xs : List A) (x : A) → IsAmong x xs → test x ≡ true → IsAmong x (filter test xs)
 passes_filter test [] x m t = absurd (cc)
 passes_filter test (y ∷ ys) x (zero, e) t =
     let f : y ≡ x = cc in
@@ -66,7 +66,7 @@ passes_filter test (y ∷ ys) x (suc k, e) t = more_among (test y) x y (filter t
 
 -- ---- cards of broken rules
 
-card_found : (test : ℕ → Stmt → Bool) (pc : ℕ) (lines : List Line) (k : ℕ) (line : Line) → slice_get lines k ≡ Some line → test (pc + k) line.stmt ≡ true → IsAmong line.card (cards_of_lines test pc lines)
+pub card_found : (test : ℕ → Stmt → Bool) (pc : ℕ) (lines : List Line) (k : ℕ) (line : Line) → slice_get lines k ≡ Some line → test (pc + k) line.stmt ≡ true → IsAmong line.card (cards_of_lines test pc lines)
 card_found test pc [] k line e t = absurd (cc)
 card_found test pc (y ∷ ys) zero line e t =
     let f : y ≡ line = cc in
@@ -78,7 +78,7 @@ card_found test pc (y ∷ ys) (suc k) line e t =
     more_among (test pc y.stmt) line.card y.card (cards_of_lines test (suc pc) ys) (card_found test (suc pc) ys k line e (ap (λ (n : ℕ). test n line.stmt) (sym at) ∙ t))
 
 -- a rule on calls that no line breaks is broken by no call
-unbroken : (p : Program) (breaks : CallSite → ℕ → Routine → Bool) {i j : ℕ} (c : Calls p.units i j) → ((card : ℕ) → IsAmong card (at_lines c.caller (λ pc s. some_call p c.caller s breaks)) → ⊥)
+pub unbroken : (p : Program) (breaks : CallSite → ℕ → Routine → Bool) {i j : ℕ} (c : Calls p.units i j) → ((card : ℕ) → IsAmong card (at_lines c.caller (λ pc s. some_call p c.caller s breaks)) → ⊥)
     → breaks c.site j c.callee ≡ false
 unbroken p breaks {j = j} c none =
     let line_ok : some_call p c.caller c.line.stmt breaks ≡ false =
@@ -179,14 +179,14 @@ rules_pass_smashed_alone p keeps table shares = (λ i j c. passes_alone p keeps 
 
 -- ---- actuals match
 
-split : (a b : Bool) → (a && b) ≡ true → (a ≡ true) × (b ≡ true)
+pub split : (a b : Bool) → (a && b) ≡ true → (a ≡ true) × (b ≡ true)
 split true b h = (refl, h)
 split false b h = absurd (cc)
 
 same_number : (k n : ℕ) → (k == n) ≡ true → k ≡ n
 same_number k n t = search rules
 
-not_not : (b : Bool) → not b ≡ false → b ≡ true
+pub not_not : (b : Bool) → not b ≡ false → b ≡ true
 not_not true h = refl
 not_not false h = absurd (cc)
 
@@ -253,7 +253,7 @@ some_dim x (d ∷ ds) (suc k, e) = either (is_dim x d) (list_any (is_dim x) ds) 
     either true b h = refl
     either false b h = h
 
-passes_any : {A : Type 0} (test : A → Bool) (xs : List A) (x : A) → IsAmong x xs → test x ≡ true → list_any test xs ≡ true
+pub passes_any : {A : Type 0} (test : A → Bool) (xs : List A) (x : A) → IsAmong x xs → test x ≡ true → list_any test xs ≡ true
 passes_any test xs x m t = not_not (list_any test xs) (is_false (not (list_any test xs)) (λ n. clash (test x) t (none_passes test xs x (is_false (list_any test xs) (λ y. clash (not (list_any test xs)) n (ap not y))) m)))
 
 module _ (p : Program) (keeps : KeepsRules p) (table : HoldsSmashed p) (declared : AreDeclared p.units) where
@@ -294,6 +294,22 @@ module _ (p : Program) (keeps : KeepsRules p) (table : HoldsSmashed p) (declared
         is = r.1;
         dims = all_agree c.callee c.site.actuals d.dims (dims_of_actual c.caller r.0) (split (same_sort_as d.sort (sort_of_expr c.caller r.0)) (dims_agree c.callee c.site.actuals d.dims (dims_of_actual c.caller r.0)) one).1;
       }
+
+  -- actuals have the types of their dummies
+  pub sorts_agree : (i j : ℕ) (c : Calls p.units i j) (d : DataName) (n : ℕ) (e : Expr) → IsAmong d c.callee.names → slice_get c.callee.dummies n ≡ Some d.name → slice_get c.site.actuals n ≡ Some e
+      → same_sort_as d.sort (sort_of_expr c.caller e) ≡ true
+  sorts_agree i j c d n e m a b =
+      let kept : mismatches c.caller c.site j c.callee ≡ false = unbroken p (mismatches c.caller) c (λ card k. keeps BadArguments i card (record { unit = c.caller; is_unit = c.is_caller; breaks = k })) in
+      let fit : actuals_fit c.caller c.callee c.site.actuals ≡ true =
+      not_not (actuals_fit c.caller c.callee c.site.actuals) (neither (not (actuals_fit c.caller c.callee c.site.actuals)) (not (reference_fits c.caller c.callee c.site.reference)) kept).0 in
+      let r = fits_at c.callee c.site.actuals c.caller c.callee.dummies c.site.actuals n d.name fit a in
+      let data_is : data_name c.callee d.name ≡ Some d = found p.units j c.callee (sound_unit j c.callee c.is_callee) d m d.name refl in
+      let one = ap (λ (o : Option DataName). fits_dummy c.callee c.site.actuals c.caller o r.0) (sym data_is) ∙ r.2 in
+      ap (λ (x : Expr). same_sort_as d.sort (sort_of_expr c.caller x)) (same_actual e r.0 (sym b ∙ r.1))
+      ∙ (split (same_sort_as d.sort (sort_of_expr c.caller r.0)) (dims_agree c.callee c.site.actuals d.dims (dims_of_actual c.caller r.0)) one).0
+    where
+      same_actual : (x y : Expr) → Some x ≡ Some y → x ≡ y
+      same_actual x y q = cc
 
   are_sound : AreSound p.units
   are_sound = record {

@@ -1,8 +1,9 @@
 -- Runs from which no walk fails come to the next cut point.
-use Rattle.std.proofs.Common.{◌≡◌, ℕ, suc, ◌+◌, inl, inr, true, List, [], ◌∷◌, ◌++◌, map, Option, Some, None, slice_get, refl, sym, ap, ◌∙◌, subst, arith}
+use Rattle.std.proofs.Common.{◌≡◌, ℕ, zero, suc, Bool, true, false, ◌+◌, inl, inr, List, [], ◌∷◌, ◌++◌, map, Option, Some, None, slice_get, refl, sym, ap, ◌∙◌, subst, arith}
 use Rattle.formula.specs.declared.value.Value.{Value}
 use Rattle.formula.specs.declared.value.Value.TheVariants.{Undefined}
 use Rattle.formula.specs.Tree.{Tree}
+use Rattle.formula.specs.Values as value
 use Rattle.formula.specs.Values.{holds}
 use Rattle.formula.specs.Worth.{Function}
 use Rattle.fort_syntax.specs.declared.name.Name.{Name}
@@ -15,10 +16,12 @@ use Rattle.fort_syntax.specs.declared.stmt.Stmt.{Stmt}
 use Rattle.fort_syntax.specs.declared.stmt.Stmt.TheVariants.{Subroutine, Function as FunctionHead, Declare, Dimension, Common as CommonBlock, Assign, GoTo, Computed, ArithIf, LogicalIf', Do, Continue, Call, Return, End, BlockIf, ElseIf, Else, EndIf}
 use Rattle.fort_syntax.specs.declared.unit.Line.{Line}
 use Rattle.fort_syntax.specs.declared.unit.Unit.{Unit as Routine}
+use Rattle.fort_model.specs.Trees.{carried}
 use Rattle.fort_model.specs.Conditions.{sight}
 use Rattle.fort_model.specs.Evaluate.{Scene}
 use Rattle.fort_model.specs.Events.{Event, Check, Take, checks}
 use Rattle.fort_model.specs.Flow.{leads}
+use Rattle.fort_model.specs.Names.{is_function}
 use Rattle.fort_model.specs.Outcome.{Outcome, Ended, Act, and_then, step}
 use Rattle.fort_model.specs.Paths.{Cut, NoCut, AtEnd, AtAssert, cut_of, cut_in, cut_at, Edge, IsWay, over_or}
 use Rattle.fort_model.specs.Perform.{perform}
@@ -31,13 +34,16 @@ use Rattle.fort_model.specs.Storage.{Storage, Environment}
 use Rattle.fort_model.specs.Symbols.{Symbol}
 use Rattle.fort_model.specs.Walk.{arrive, walk_from, fall, perform_line, go_on, at_entry, not_negative}
 use Rattle.fort_model.specs.WalkCalls.{Sight}
+use Rattle.fort_model.specs.WalkExpr as walk
+use Rattle.fort_model.specs.WalkStmt as steps
 use Rattle.fort_model.specs.WalkStmt.{performed}
+use Rattle.fort_laws.specs.Called.{IsReferenceTo, IsCallTo}
 use Rattle.fort_laws.specs.GoodStatements.{Stood, IsGood, StatementsStep}
 use Rattle.fort_laws.specs.Matches.{AllTrue, FirstFails}
 use Rattle.fort_laws.specs.Segments.{NoCheckFails, IsSafe, KeepsUnsmashed, StatementsKeep, Arrives, at_end, at_assert, SafeRunsArrive}
 use Rattle.fort_laws.specs.StepMatches.{StepMatches, goes, stops}
 use Rattle.fort_laws.specs.Unfolded.{run_from}
-use Rattle.fort_laws.specs.Ways.{IsCutUp, AreExecutable, IsExecutable, Completed}
+use Rattle.fort_laws.specs.Ways.{IsReturn, IsCutUp, AreExecutable, IsExecutable, Completed}
 use Rattle.fort_laws.proofs.MatchedStatements.{statements_match}
 use Rattle.fort_laws.proofs.Matching.{followed, fails_later, fails_before}
 use Rattle.fort_laws.proofs.Near.{known, Near, near, near_all, complete, line_from, way_on}
@@ -72,7 +78,7 @@ pub rest_safe : (es fs : List (Event Value)) → AllTrue es → NoCheckFails (es
 rest_safe es fs t n kind card f = n kind card (fails_later kind card es fs t f)
 
 -- a statement whose parts have their types is executable
-good_is_executable : (u : Routine) (env : Environment) (IsReference : Sort → Name → Type 0) (IsCall : Name → List Expr → Type 0) (pc : ℕ) (stmt : Stmt) → IsGood u env IsReference IsCall pc stmt → IsExecutable stmt
+good_is_executable : (u : Routine) (env : Environment) (IsReference : Sort → Name → List Expr → Type 0) (IsCall : Name → List Expr → Type 0) (pc : ℕ) (stmt : Stmt) → IsGood u env IsReference IsCall pc stmt → IsExecutable stmt
 good_is_executable u env IsReference IsCall pc (Assign left right) h = tt
 good_is_executable u env IsReference IsCall pc (GoTo label) h = tt
 good_is_executable u env IsReference IsCall pc (Computed [] x) h = absurd h.1
@@ -169,6 +175,42 @@ module _ (fs : List Function) (values : Symbol → Value) (program : Program) (i
       told : Tree → Value
       told = note w.sense (at_entry w) now
 
+  -- at a RETURN of a FUNCTION its value is defined
+  result_true : (card : ℕ) (now : Named Value) (answers : Answers Value) (b : Bool) → b ≡ true → AllTrue ((steps.result w card now b answers).events ++ []) → value.is_defined (now s.unit.name) ≡ true
+  result_true card now answers true e h = h.0
+  result_true card now answers false e h = absurd (cc)
+
+  right_true : (es fs : List (Event Value)) → AllTrue (es ++ fs) → AllTrue fs
+  right_true [] fs h = h
+  right_true (Check kind card v ∷ es) fs h = right_true es fs h.1
+  right_true (Take v ∷ es) fs h = right_true es fs h.1
+
+  returned : (card pc : ℕ) (stmt : Stmt) (cs : List ℕ) (now : Named Value) (answers : Answers Value) → IsReturn stmt cs → is_function s.unit ≡ true
+      → AllTrue (performed w card pc now stmt cs answers).events → value.is_defined ((performed w card pc now stmt cs answers).value s.unit.name) ≡ true
+  returned card pc Return cs now answers r f h = result_true card now answers (is_function s.unit) f h
+  returned card pc (LogicalIf' e x (carried b)) [] now answers r f h = absurd r
+  returned card pc (LogicalIf' e x (carried b)) (zero ∷ cs) now answers r f h = absurd r
+  returned card pc (LogicalIf' e x (carried b)) (suc zero ∷ cs) now answers r f h =
+      returned card pc b cs now _ r f (right_true (walk.value w card now e answers).events _ h).1
+  returned card pc (LogicalIf' e x (carried b)) (suc (suc n) ∷ cs) now answers r f h = absurd r
+  returned card pc (Assign left right) cs now answers r f h = absurd r
+  returned card pc (GoTo label) cs now answers r f h = absurd r
+  returned card pc (Computed labels x) cs now answers r f h = absurd r
+  returned card pc (ArithIf e l m n) cs now answers r f h = absurd r
+  returned card pc (Do label x first last by) cs now answers r f h = absurd r
+  returned card pc Continue cs now answers r f h = absurd r
+  returned card pc (Call g args) cs now answers r f h = absurd r
+  returned card pc (BlockIf e) cs now answers r f h = absurd r
+  returned card pc (ElseIf e) cs now answers r f h = absurd r
+  returned card pc Else cs now answers r f h = absurd r
+  returned card pc EndIf cs now answers r f h = absurd r
+  returned card pc (Subroutine x xs) cs now answers r f h = absurd r
+  returned card pc (FunctionHead o x xs) cs now answers r f h = absurd r
+  returned card pc (Declare o items) cs now answers r f h = absurd r
+  returned card pc (Dimension items) cs now answers r f h = absurd r
+  returned card pc (CommonBlock groups) cs now answers r f h = absurd r
+  returned card pc End cs now answers r f h = absurd r
+
   -- ---- what a run from a point comes to
 
   module _ (clock : Option (List Value)) (pc : ℕ) (line : Line) (now : Named Value) (st : Storage) (e : slice_get s.unit.lines pc ≡ Some line) (safe : IsSafe fs values program i s clock pc now) where
@@ -184,16 +226,16 @@ module _ (fs : List Function) (values : Symbol → Value) (program : Program) (i
 
     module _ (cs : List ℕ) (q : ℕ) (to : leads s.processor.dialect s.unit pc line.stmt cs ≡ Some q) (pre : Answers Value → Answers Value) (next : Named Value) (after : Storage) (cost : ℕ)
         (true_all : (answers : Answers Value) → AllTrue (performed w line.card pc now line.stmt cs (pre answers)).events)
-        (value : (answers : Answers Value) → (performed w line.card pc now line.stmt cs (pre answers)).value ≡ next)
+        (value_is : (answers : Answers Value) → (performed w line.card pc now line.stmt cs (pre answers)).value ≡ next)
         (rest : (answers : Answers Value) → (performed w line.card pc now line.stmt cs (pre answers)).rest ≡ answers)
-        (runs : (n : ℕ) → perform s (run s.processor s.units) line.card pc (calls_before s.unit pc) line.stmt st (cost + n) ≡ Ended cs after n) (stood : Stood s.unit s.environment next after)
+        (runs : (n : ℕ) → perform s (run s.processor s.units) line.card pc (calls_before s.unit pc) line.stmt st (cost + n) ≡ Ended cs after n) (stood : Stood s.processor s.unit s.environment next after)
         (kept : KeepsUnsmashed fs values program i s next) where
       -- behind the statement no check fails
       safe_on : (way : List (List ℕ)) (answers : Answers Value) → over_or program.dialect s.unit notes (cut_at s.unit notes q) way (IsWay program.dialect s.unit notes q way)
           → NoCheckFails (arrive w clock line.card (cut_at s.unit notes q) next (walk_from w clock q next answers way))
       safe_on way answers over =
           subst (λ (a : Answers Value). NoCheckFails (arrive w clock line.card (cut_at s.unit notes q) next (walk_from w clock q next a way))) (rest answers)
-          (subst (λ (x : Named Value). NoCheckFails (arrive w clock line.card (cut_at s.unit notes q) x (walk_from w clock q x (performed w line.card pc now line.stmt cs (pre answers)).rest way))) (value answers)
+          (subst (λ (x : Named Value). NoCheckFails (arrive w clock line.card (cut_at s.unit notes q) x (walk_from w clock q x (performed w line.card pc now line.stmt cs (pre answers)).rest way))) (value_is answers)
           (rest_safe _ _ (true_all answers)
           (subst (λ (es : List (Event Value)). NoCheckFails es) (walk_is clock pc line cs q now (pre answers) way e (to_walk cs q to))
           (safe (cs ∷ way) (pre answers) (way_on program.dialect s.unit notes pc line cs q way e (to_walk cs q to) over)))))
@@ -206,7 +248,7 @@ module _ (fs : List Function) (values : Symbol → Value) (program : Program) (i
       longer more n = ap (run_from s.processor s.units s.unit s.environment pc st) (let same : suc cost + more + n ≡ suc cost + (more + n) = omega arith in same) ∙ runs_on (more + n)
 
       stepped : Arrives fs values program i s clock q after → Arrives fs values program i s clock pc st
-      stepped (at_end now2 last more card ends stood2 kept2 true2) = at_end now2 last (suc cost + more) card (λ n. longer more n ∙ ends n) stood2 kept2 true2
+      stepped (at_end now2 last more card ends stood2 kept2 true2 value2) = at_end now2 last (suc cost + more) card (λ n. longer more n ∙ ends n) stood2 kept2 true2 value2
       stepped (at_assert a q2 now2 last more card c goes2 stood2 kept2 true2) = at_assert a q2 now2 last (suc cost + more) card c (λ n. longer more n ∙ goes2 n) stood2 kept2 true2
 
       by_cut : (c : Cut) → cut_at s.unit notes q ≡ c → (cut_at s.unit notes q ≡ NoCut → IsSafe fs values program i s clock q next → Arrives fs values program i s clock q after)
@@ -220,13 +262,15 @@ module _ (fs : List Function) (values : Symbol → Value) (program : Program) (i
           (all_checks_true _ (only_at_end clock line.card next)
           (subst (λ (k : Cut). NoCheckFails (arrive w clock line.card k next [])) c
           (safe_on [] no_answers (subst (λ (k : Cut). over_or program.dialect s.unit notes k [] (IsWay program.dialect s.unit notes q [])) (sym c) refl))))
+          (λ returns is. subst (λ (x : Named Value). value.is_defined (x s.unit.name) ≡ true) (value_is no_answers)
+          (returned line.card pc line.stmt cs now (pre no_answers) (returns pc line cs q e (to_walk cs q to) (none_at q c)) is (true_all no_answers)))
       by_cut (AtAssert a) c on =
           at_assert a q next after (suc cost) line.card c runs_on stood kept
           (all_checks_true _ (only_at_assert clock line.card a next)
           (subst (λ (k : Cut). NoCheckFails (arrive w clock line.card k next [])) c
           (safe_on [] no_answers (subst (λ (k : Cut). over_or program.dialect s.unit notes k [] (IsWay program.dialect s.unit notes q [])) (sym c) refl))))
 
-  module _ (IsReference : Sort → Name → Type 0) (IsCall : Name → List Expr → Type 0)
+  module _ (IsReference : Sort → Name → List Expr → Type 0) (IsCall : Name → List Expr → Type 0)
       (steps : StatementsStep fs values program i s (run s.processor s.units) IsReference IsCall)
       (good : (pc : ℕ) (line : Line) → slice_get s.unit.lines pc ≡ Some line → IsGood s.unit s.environment IsReference IsCall pc line.stmt)
       (cut : IsCutUp program.dialect s.unit notes) (keep : StatementsKeep fs values program i s) where
@@ -235,8 +279,8 @@ module _ (fs : List Function) (values : Symbol → Value) (program : Program) (i
 
     by_step : (clock : Option (List Value)) (pc : ℕ) (line : Line) (now : Named Value) (st : Storage) → slice_get s.unit.lines pc ≡ Some line → KeepsUnsmashed fs values program i s now → IsSafe fs values program i s clock pc now
         → StepMatches (λ (cs : List ℕ). cs) (leads s.processor.dialect s.unit pc line.stmt) (λ cs. performed w line.card pc now line.stmt cs)
-        (perform s (run s.processor s.units) line.card pc (calls_before s.unit pc) line.stmt) (Stood s.unit s.environment) st
-        → ((cs : List ℕ) (q : ℕ) → Edge program.dialect s.unit pc cs q → cut_at s.unit notes q ≡ NoCut → (next : Named Value) (after : Storage) → Stood s.unit s.environment next after
+        (perform s (run s.processor s.units) line.card pc (calls_before s.unit pc) line.stmt) (Stood s.processor s.unit s.environment) st
+        → ((cs : List ℕ) (q : ℕ) → Edge program.dialect s.unit pc cs q → cut_at s.unit notes q ≡ NoCut → (next : Named Value) (after : Storage) → Stood s.processor s.unit s.environment next after
         → KeepsUnsmashed fs values program i s next → IsSafe fs values program i s clock q next → Arrives fs values program i s clock q after)
         → Arrives fs values program i s clock pc st
     by_step clock pc line now st e kept safe (goes cs q to pre next after cost t v r runs stood) on =
@@ -248,13 +292,13 @@ module _ (fs : List Function) (values : Symbol → Value) (program : Program) (i
         (complete program.dialect s.unit notes executable pc (near_all program.dialect s.unit notes cut pc) line cs q e (to_walk clock pc line now st e safe cs q to)) (pre no_answers) kind card (f no_answers))
 
     arrives : (clock : Option (List Value)) (pc : ℕ) → Near program.dialect s.unit notes pc → (line : Line) (now : Named Value) (st : Storage) → slice_get s.unit.lines pc ≡ Some line
-        → Stood s.unit s.environment now st → KeepsUnsmashed fs values program i s now → IsSafe fs values program i s clock pc now → Arrives fs values program i s clock pc st
+        → Stood s.processor s.unit s.environment now st → KeepsUnsmashed fs values program i s now → IsSafe fs values program i s clock pc now → Arrives fs values program i s clock pc st
     arrives clock pc (near h) line now st e stood kept safe =
         by_step clock pc line now st e kept safe (steps st now stood line.stmt line.card pc (calls_before s.unit pc) (good pc line e))
         (λ cs q edge c next after stood2 kept2 safe2. let l = line_from program.dialect s.unit notes q c in arrives clock q (h cs q edge c) l.0 next after l.1 stood2 kept2 safe2)
 
 pub safe_runs_arrive : SafeRunsArrive
-safe_runs_arrive fs values program i s is_reference is_call least greatest strict bounded dialects dims references calls good cut keep clock pc line now st e stood kept safe =
-    arrives fs values program i s dialects (λ q a. is_reference q a ≡ true) (λ g args. is_call g args ≡ true)
-    (statements_match fs values program i s (run s.processor s.units) is_reference is_call least greatest strict bounded dialects dims references calls) good cut keep clock pc
+safe_runs_arrive fs values program i s least greatest strict bounded dialects dims references calls good cut keep clock pc line now st e stood kept safe =
+    arrives fs values program i s dialects (IsReferenceTo program i s.unit) (IsCallTo program i s.unit)
+    (statements_match fs values program i s (run s.processor s.units) least greatest strict bounded dialects dims references calls) good cut keep clock pc
     (near_all program.dialect s.unit (notes_of program i) cut pc) line now st e stood kept safe

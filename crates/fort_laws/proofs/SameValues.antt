@@ -60,4 +60,3 @@ module _ (fs : List Function) (values others : Symbol → Value) (least : values
 pub equal_all : (xs : List Value) → Pairwise Equal xs xs
 equal_all [] = tt
 equal_all (x ∷ xs) = (refl, equal_all xs)
-

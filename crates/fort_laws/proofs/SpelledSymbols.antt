@@ -3,10 +3,9 @@ use Rattle.std.proofs.Common.{◌≡◌, ℕ, zero, suc, ◌+◌, ◌-◌, ◌*�
 use Rattle.std.specs.Prelude.{◌==◌, if◌then◌else◌}
 use Rattle.std.proofs.lemmas.Bool.Decides.{nat_tests}
 use Rattle.std.specs.Cmp.Lexicographic.{same_text}
-use Rattle.formula.specs.declared.value.Value.{Value}
 use Rattle.formula.specs.Atoms.{same_bytes}
 use Rattle.fort_model.specs.Symbols.{Symbol, LeastInteger, GreatestInteger, AtEntry, AtStart, ByCall, counted_on, digits_back, backwards, numeral, word_of}
-use Rattle.fort_laws.specs.ValidConditions.{Spell, WordsTellSymbols}
+use Rattle.fort_laws.specs.ValidConditions.{WordsTellSymbols}
 
 -- ---- texts from the end
 

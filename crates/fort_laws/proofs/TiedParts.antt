@@ -32,7 +32,7 @@ use Rattle.fort_laws.proofs.Tied.{Tied, tied_then, tied_before, tied_give, tied_
 
 -- ---- parts without calls
 
-abbrev Sure : {A : Type 0} → ℕ → Act A → Type 0
+abbrev pub Sure : {A : Type 0} → ℕ → Act A → Type 0
 Sure bound a = Tied bound a a
 
 sure_then : {A B : Type 0} (bound : ℕ) (a : Act A) (c : A → Act B) → Sure bound a → ((v : A) → Sure bound (c v)) → Sure bound (a >>= c)
@@ -48,20 +48,20 @@ module _ (bound : ℕ) where
   sure_read : (card i : ℕ) → Sure bound (read card i)
   sure_read card i = sure_then bound held _ (tied_held bound) (λ st. sure_before bound _ _ (tied_check bound DefinedCheck card _) (tied_give bound _))
 
-  sure_value_of : (card : ℕ) (x : Taken) → Sure bound (value_of card x)
+  pub sure_value_of : (card : ℕ) (x : Taken) → Sure bound (value_of card x)
   sure_value_of card (Cells e) = sure_read card e.first
   sure_value_of card (Fresh c) = tied_give bound c
 
-  sure_ranged : (p : Processor) (card : ℕ) (z : ℤ) → Sure bound (ranged p card z)
+  pub sure_ranged : (p : Processor) (card : ℕ) (z : ℤ) → Sure bound (ranged p card z)
   sure_ranged p card z = sure_before bound _ _ (tied_check bound RangeCheck card _) (tied_give bound _)
 
-  sure_constant : (p : Processor) (card c : ℕ) → Sure bound (constant p card c)
+  pub sure_constant : (p : Processor) (card c : ℕ) → Sure bound (constant p card c)
   sure_constant p card c = sure_before bound _ _ (tied_check bound RangeCheck card _) (tied_give bound _)
 
   sure_divisor : (card : ℕ) (c : Cell) → Sure bound (divisor card c)
   sure_divisor card c = tied_check bound DivisorCheck card _
 
-  sure_operate : (p : Processor) (card : ℕ) (o : BinOp) (a b : Cell) → Sure bound (operate p card o a b)
+  pub sure_operate : (p : Processor) (card : ℕ) (o : BinOp) (a b : Cell) → Sure bound (operate p card o a b)
   sure_operate p card Add a b = sure_ranged p card _
   sure_operate p card Sub a b = sure_ranged p card _
   sure_operate p card Mul a b = sure_ranged p card _
@@ -71,7 +71,7 @@ module _ (bound : ℕ) where
   sure_power_on p card base zero product = tied_give bound _
   sure_power_on p card base (suc more) product = sure_then bound _ _ (sure_ranged p card _) (λ c. sure_power_on p card base more _)
 
-  sure_intrinsic : (p : Processor) (card : ℕ) (i : Intrinsic) (cs : List Cell) → Sure bound (intrinsic_value p card i cs)
+  pub sure_intrinsic : (p : Processor) (card : ℕ) (i : Intrinsic) (cs : List Cell) → Sure bound (intrinsic_value p card i cs)
   sure_intrinsic p card Absolute [] = tied_give bound _
   sure_intrinsic p card Absolute (a ∷ []) = sure_ranged p card _
   sure_intrinsic p card Absolute (a ∷ b ∷ cs) = tied_give bound _
@@ -89,17 +89,17 @@ module _ (bound : ℕ) where
   sure_subscripts card (s ∷ ss) [] = tied_give bound tt
   sure_subscripts card (s ∷ ss) (d ∷ ds) = sure_before bound _ _ (tied_check bound SubscriptCheck card _) (sure_subscripts card ss ds)
 
-  sure_element : (env : Environment) (card : ℕ) (array : Extent) (dims : List Dim) (cs : List Cell) → Sure bound (element env card array dims cs)
+  pub sure_element : (env : Environment) (card : ℕ) (array : Extent) (dims : List Dim) (cs : List Cell) → Sure bound (element env card array dims cs)
   sure_element env card array dims cs = sure_then bound held _ (tied_held bound) (λ st. sure_before bound _ _ (sure_subscripts card (numbers cs) (dim_values env st dims)) (tied_give bound _))
 
-  sure_write : (i : ℕ) (c : Cell) → Sure bound (write_cell i c)
+  pub sure_write : (i : ℕ) (c : Cell) → Sure bound (write_cell i c)
   sure_write i c = sure_then bound held _ (tied_held bound) (λ st. tied_put bound _)
 
-  sure_assign : (x : Taken) (c : Cell) → Sure bound (assign x c)
+  pub sure_assign : (x : Taken) (c : Cell) → Sure bound (assign x c)
   sure_assign (Cells e) c = sure_write e.first c
   sure_assign (Fresh v) c = tied_stuck bound
 
-  sure_variable : (s : Scene) (card : ℕ) (x : Name) → Sure bound (variable s card x)
+  pub sure_variable : (s : Scene) (card : ℕ) (x : Name) → Sure bound (variable s card x)
   sure_variable s card x = sure_read card _
 
   sure_parameter : (s : Scene) (card : ℕ) (m : Param) → Sure bound (parameter s card m)
@@ -128,7 +128,7 @@ module _ (bound : ℕ) where
   sure_pass_over : (s : Scene) (last pc : ℕ) → Sure bound (pass_over s last pc)
   sure_pass_over s last pc = sure_tests s _ _
 
-  sure_begin : (d : Dialect) (s : Scene) (card last pc : ℕ) (x : Name) (m1 m2 m3 : ℤ) → Sure bound (begin d s card last pc x m1 m2 m3)
+  pub sure_begin : (d : Dialect) (s : Scene) (card last pc : ℕ) (x : Name) (m1 m2 m3 : ℤ) → Sure bound (begin d s card last pc x m1 m2 m3)
   sure_begin Common s card last pc x m1 m2 m3 =
       sure_before bound _ _ (tied_check bound LoopCheck card _) (sure_before bound _ _ (sure_write _ _) (tied_give bound _))
   sure_begin SeventySeven s card last pc x m1 m2 m3 =
@@ -138,12 +138,12 @@ module _ (bound : ℕ) where
       (sure_before bound _ _ (sure_write _ _)
       (sure_cond bound _ _ _ (tied_give bound _) (sure_then bound _ _ (sure_pass_over s last pc) λ choices. tied_give bound _)))))
 
-  sure_select : (d : Dialect) (s : Scene) (card pc labels : ℕ) (i : ℤ) → Sure bound (select d s card pc labels i)
+  pub sure_select : (d : Dialect) (s : Scene) (card pc labels : ℕ) (i : ℤ) → Sure bound (select d s card pc labels i)
   sure_select Common s card pc labels i = sure_before bound _ _ (tied_check bound ChoiceCheck card _) (tied_give bound _)
   sure_select SeventySeven s card pc labels i =
       sure_cond bound _ _ _ (tied_give bound _) (sure_then bound _ _ (sure_go_on s card pc) λ choices. tied_give bound _)
 
-  sure_result : (s : Scene) (card : ℕ) (b : Bool) → Sure bound (result s card b)
+  pub sure_result : (s : Scene) (card : ℕ) (b : Bool) → Sure bound (result s card b)
   sure_result s card false = tied_give bound tt
   sure_result s card true = sure_then bound held _ (tied_held bound) (λ st. tied_check bound ResultCheck card _)
 

@@ -14,17 +14,17 @@ use Rattle.fort_laws.proofs.TiedParts.{tied_perform}
 
 -- ---- outcomes
 
-abbrev IsEnded : {A : Type 0} → Outcome A → Type 0
+abbrev pub IsEnded : {A : Type 0} → Outcome A → Type 0
 IsEnded (Ended a st n) = Unit {0}
 IsEnded (Erred kind card st) = ⊥
 IsEnded (Running st) = ⊥
 
-abbrev left_of : {A : Type 0} → ℕ → Outcome A → ℕ
+abbrev pub left_of : {A : Type 0} → ℕ → Outcome A → ℕ
 left_of d (Ended a st n) = n
 left_of d (Erred kind card st) = d
 left_of d (Running st) = d
 
-abbrev with_left : {A : Type 0} → Outcome A → ℕ → Outcome A
+abbrev pub with_left : {A : Type 0} → Outcome A → ℕ → Outcome A
 with_left (Ended a st n) k = Ended a st k
 with_left (Erred kind card st) k = Erred kind card st
 with_left (Running st) k = Running st

@@ -1,24 +1,21 @@
 -- Where an exact list of conditions is valid, no walk along a path fails at a check.
-use Rattle.std.proofs.Common.{◌≡◌, ℕ, zero, suc, ◌+◌, ◌<◌, ◌≤◌, ◌⊎◌, inl, inr, Bool, true, false, cond, not, ◌&&◌, IsTrue, List, [], ◌∷◌, ◌++◌, length, Option, Some, None, slice_get, refl, sym, ap, ◌∙◌, subst, arith, rules}
-use Rattle.std.specs.Prelude.{◌==◌, nat_le}
+use Rattle.std.proofs.Common.{◌≡◌, ℕ, zero, suc, ◌+◌, ◌<◌, ◌≤◌, inl, inr, Bool, true, false, cond, not, IsTrue, List, [], ◌∷◌, ◌++◌, length, Some, slice_get, refl, sym, ap, ◌∙◌, subst, arith, rules}
+use Rattle.std.specs.Prelude.{◌==◌}
 use Rattle.formula.specs.declared.value.Value.{Value}
-use Rattle.formula.specs.Values.{holds}
-use Rattle.formula.specs.Worth.{Function, Valuation, nothing_known, is_false_under, IsValid}
+use Rattle.formula.specs.Worth.{Function, Valuation, nothing_known, is_false_under}
 use Rattle.formula.proofs.OnSheet.{assignments_suffice}
 use Rattle.fort_syntax.specs.declared.condition.Kind.{Kind}
 use Rattle.fort_syntax.specs.declared.name.Name.{Name}
 use Rattle.fort_syntax.specs.declared.unit.Unit.{Unit as Routine}
-use Rattle.fort_model.specs.Conditions.{Condition, sight, walked, walked_by, checks_of, Site, sites_from, sites_along, sites_of_units, AreExactFor, IsExact, AreValid, are_all_paths}
+use Rattle.fort_model.specs.Conditions.{Condition, walked, walked_by, checks_of, Site, sites_from, sites_along, sites_of_units, AreExactFor, AreValid, are_all_paths}
 use Rattle.fort_model.specs.Events.{Event, Check, Take, Verdict, Fails, Off, verdict, verdict_from, fails_at, labels}
 use Rattle.fort_model.specs.Lists.{IsAmong}
-use Rattle.fort_model.specs.Paths.{Path, IsPath, ArePathsInOrder}
+use Rattle.fort_model.specs.Paths.{Path, IsPath}
 use Rattle.fort_model.specs.Program.{Program, notes_of}
 use Rattle.fort_model.specs.Senses.{of_values, by_words}
-use Rattle.fort_model.specs.Symbols.{Symbol, LeastInteger, GreatestInteger, AtEntry}
-use Rattle.fort_model.specs.Walk.{walk}
+use Rattle.fort_model.specs.Symbols.{LeastInteger, GreatestInteger, AtEntry}
 use Rattle.fort_laws.specs.Matches.{FirstFails}
 use Rattle.fort_laws.specs.Segments.{NoCheckFails}
-use Rattle.fort_laws.specs.FewSymbols.{PathsAreSafe}
 use Rattle.fort_laws.specs.ValidConditions.{Spell, ValidConditionsMakePathsSafe}
 use Rattle.fort_laws.proofs.BothWalks.{walks_alike}
 use Rattle.fort_laws.proofs.Exact.{checks_do_not_depend_on_values}

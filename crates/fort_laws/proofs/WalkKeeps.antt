@@ -69,7 +69,7 @@ in_filter test (z ∷ zs) y h = by_test (test z) refl h (λ k. later (in_filter 
     by_test false e k on = on k
     by_test true e k on = by_name e (same_or_not y z) k on
 
-in_around : (pc : ℕ) (ds : List Loop) (d : Loop) → IsAmong d (around pc ds) → IsAmong d ds
+pub in_around : (pc : ℕ) (ds : List Loop) (d : Loop) → IsAmong d (around pc ds) → IsAmong d ds
 in_around pc [] d m = m
 in_around pc (e ∷ ds) d m = by_test (nat_lt e.at pc) m (λ k. later (in_around pc ds d k))
   where

@@ -1,5 +1,6 @@
 -- Where named values stand for cells, and a cell of a name is written, the name's new value stands for its cells.
-use Rattle.std.proofs.Common.{◌≡◌, ◌≢◌, ℕ, zero, suc, ◌+◌, ◌<◌, ◌≤◌, Bool, false, cond, ℤ, pos, List, [], ◌∷◌, length, Some, slice_set, eqb, ◌⊎◌, inl, inr, refl, sym, ap, ◌∙◌, subst, arith, get_or-set_same, get_or-set_other}
+use Rattle.std.proofs.Common.{◌≡◌, ◌≢◌, ℕ, zero, suc, ◌+◌, ◌<◌, ◌≤◌, Bool, true, false, cond, ◌&&◌, ℤ, pos, List, [], ◌∷◌, length, Some, slice_set, eqb, ◌⊎◌, inl, inr, refl, sym, ap, ◌∙◌, subst, arith, get_or-set_same, get_or-set_other}
+use Rattle.std.specs.List.{list_all}
 use Rattle.formula.specs.declared.value.Cell.{Cell}
 use Rattle.formula.specs.declared.value.Cell.TheVariants as cell
 use Rattle.formula.specs.declared.value.Value.{Value}
@@ -12,8 +13,10 @@ use Rattle.fort_syntax.specs.declared.unit.DataName.{DataName}
 use Rattle.fort_syntax.specs.declared.unit.Unit.{Unit as Routine}
 use Rattle.fort_model.specs.Cells.{num}
 use Rattle.fort_model.specs.Correct.{held_in}
+use Rattle.fort_model.specs.Fits.{is_good_dim, is_positive}
 use Rattle.fort_model.specs.Names.{same_name, data_name}
 use Rattle.fort_model.specs.Places.{dim_values, stretch}
+use Rattle.fort_model.specs.Processor.{Processor}
 use Rattle.fort_model.specs.Seen.{Named}
 use Rattle.fort_model.specs.Storage.{Storage, Environment, load, store, contents}
 use Rattle.fort_model.specs.WalkStmt.{with_name}
@@ -49,14 +52,14 @@ contents_written st c first (suc size) (suc k) h l =
     ∙ ap (λ (x : Cell). x ∷ contents (store st (suc first + k) c) (suc first) size) (load_store_other st (suc first + k) first c (λ e. absurd (omega (arith, e))))
     ∙ ap (λ (xs : List Cell). load st first ∷ xs) (contents_written st c (suc first) size k (omega arith) (omega arith))
 
-equal_or_not : (j k : ℕ) → (j ≡ k) ⊎ (j ≢ k)
+pub equal_or_not : (j k : ℕ) → (j ≡ k) ⊎ (j ≢ k)
 equal_or_not j k = known (eqb j k) (λ e. inl (grind arith)) (λ e. inr (grind arith))
 
 -- ---- names
 
-module _ (u : Routine) (env : Environment) where
-  module _ (st : Storage) (now : Named Value) (standing : Standing u env st now) (dims : (y : Name) (d : DataName) → data_name u y ≡ Some d → DimsAreScalars u env d.dims)
-      (x : Name) (dx : DataName) (is : data_name u x ≡ Some dx) (may : MayBeWritten u env x) (k : ℕ) (less : k < (env x).size) (c : Cell) (sort : MayBe dx.sort c) where
+module _ (p : Processor) (u : Routine) (env : Environment) where
+  module _ (st : Storage) (now : Named Value) (standing : Standing p u env st now) (dims : (y : Name) (d : DataName) → data_name u y ≡ Some d → DimsAreScalars u env d.dims)
+      (x : Name) (dx : DataName) (is : data_name u x ≡ Some dx) (may : MayBeWritten u env x) (k : ℕ) (less : k < (env x).size) (c : Cell) (sort : MayBe p dx.sort c) where
     abbrev after : Storage
     after = store st ((env x).first + k) c
 
@@ -74,6 +77,19 @@ module _ (u : Routine) (env : Environment) where
       where
         at_first : load after ((env z).first + 0) ≡ load st ((env z).first + 0) → load after (env z).first ≡ load st (env z).first
         at_first e = let same : (env z).first + 0 ≡ (env z).first = omega arith in sym (ap (load after) same) ∙ e ∙ ap (load st) same
+
+    goods_same : (ds : List Dim) → DimsAreOther u env x ds → DimsAreScalars u env ds → list_all (is_good_dim env after) ds ≡ list_all (is_good_dim env st) ds
+    goods_same [] h g = refl
+    goods_same (Fixed n ∷ ds) h g = goods_same ds h g
+    goods_same (Adjustable z ∷ ds) h g =
+        ap (λ (v : Cell). is_positive v && list_all (is_good_dim env after) ds) (at_first (other_cell z g.0.0 g.0.1 h.0 0 g.0.2)) ∙ ap (λ (b : Bool). is_positive (load st (env z).first) && b) (goods_same ds h.1 g.1)
+      where
+        at_first : load after ((env z).first + 0) ≡ load st ((env z).first + 0) → load after (env z).first ≡ load st (env z).first
+        at_first e = let same : (env z).first + 0 ≡ (env z).first = omega arith in sym (ap (load after) same) ∙ e ∙ ap (load st) same
+
+    -- adjustable dimensions are still at least 1
+    pub goods_written : ((y : Name) (d : DataName) → data_name u y ≡ Some d → list_all (is_good_dim env st) d.dims ≡ true) → (y : Name) (d : DataName) → data_name u y ≡ Some d → list_all (is_good_dim env after) d.dims ≡ true
+    goods_written good y d e = goods_same d.dims (may.no_dim y d e) (dims y d e) ∙ good y d e
 
     one_cell : (y : Name) (d : DataName) → data_name u y ≡ Some d → d.dims ≡ [] → 1 ≤ (env y).size
     one_cell y d e p = at_least_one (env y).size (standing.sizes y d e ∙ ap (λ (ds : List Dim). stretch (dim_values env st ds)) p)
@@ -94,7 +110,7 @@ module _ (u : Routine) (env : Environment) where
     abbrev pub new_value : Value
     new_value = held_in dx.dims after (env x)
 
-    pub standing_written : k < (env x).size → (env x).first + k < length st → Standing u env after (with_name now x new_value)
+    pub standing_written : k < (env x).size → (env x).first + k < length st → Standing p u env after (with_name now x new_value)
     standing_written _ inside = record { names = names; sizes = sizes; sorts = sorts }
       where
         names : (y : Name) (d : DataName) → data_name u y ≡ Some d → with_name now x new_value y ≡ held_in d.dims after (env y)
@@ -109,19 +125,19 @@ module _ (u : Routine) (env : Environment) where
         sizes : (y : Name) (d : DataName) → data_name u y ≡ Some d → pos (env y).size ≡ stretch (dim_values env after d.dims)
         sizes y d e = standing.sizes y d e ∙ ap stretch (sym (dims_same d.dims (may.no_dim y d e) (dims y d e)))
 
-        sorts : (y : Name) (d : DataName) → data_name u y ≡ Some d → (j : ℕ) → j < (env y).size → MayBe d.sort (load after ((env y).first + j))
+        sorts : (y : Name) (d : DataName) → data_name u y ≡ Some d → (j : ℕ) → j < (env y).size → MayBe p d.sort (load after ((env y).first + j))
         sorts y d e j h = by_name (same_or_not x y)
           where
-            at_place : (j ≡ k) ⊎ (j ≢ k) → d ≡ dx → x ≡ y → MayBe d.sort (load after ((env y).first + j))
-            at_place (inl q) one p =
-                subst (λ (z : Name). MayBe d.sort (load after ((env z).first + j))) p
-                (subst (λ (i : ℕ). MayBe d.sort (load after ((env x).first + i))) (sym q)
-                (subst (λ (v : Cell). MayBe d.sort v) (sym (load_store_same st ((env x).first + k) c inside)) (subst (λ (z : DataName). MayBe z.sort c) (sym one) sort)))
-            at_place (inr n) one p =
-                subst (λ (v : Cell). MayBe d.sort v)
-                (sym (load_store_other st ((env x).first + k) ((env y).first + j) c (λ q. n (let same : (env x).first ≡ (env y).first = ap (λ (z : Name). (env z).first) p in omega (arith, q, same)))))
+            at_place : (j ≡ k) ⊎ (j ≢ k) → d ≡ dx → x ≡ y → MayBe p d.sort (load after ((env y).first + j))
+            at_place (inl q) one same_names =
+                subst (λ (z : Name). MayBe p d.sort (load after ((env z).first + j))) same_names
+                (subst (λ (i : ℕ). MayBe p d.sort (load after ((env x).first + i))) (sym q)
+                (subst (λ (v : Cell). MayBe p d.sort v) (sym (load_store_same st ((env x).first + k) c inside)) (subst (λ (z : DataName). MayBe p z.sort c) (sym one) sort)))
+            at_place (inr n) one same_names =
+                subst (λ (v : Cell). MayBe p d.sort v)
+                (sym (load_store_other st ((env x).first + k) ((env y).first + j) c (λ q. n (let same : (env x).first ≡ (env y).first = ap (λ (z : Name). (env z).first) same_names in omega (arith, q, same)))))
                 (standing.sorts y d e j h)
 
-            by_name : SameOrNot x y → MayBe d.sort (load after ((env y).first + j))
-            by_name (same p t) = let one : d ≡ dx = cc in at_place (equal_or_not j k) one p
-            by_name (other n t) = subst (λ (v : Cell). MayBe d.sort v) (sym (other_cell y d e t j h)) (standing.sorts y d e j h)
+            by_name : SameOrNot x y → MayBe p d.sort (load after ((env y).first + j))
+            by_name (same e2 t) = let one : d ≡ dx = cc in at_place (equal_or_not j k) one e2
+            by_name (other n t) = subst (λ (v : Cell). MayBe p d.sort v) (sym (other_cell y d e t j h)) (standing.sorts y d e j h)

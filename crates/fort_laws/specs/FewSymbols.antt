@@ -1,5 +1,5 @@
 -- Which symbols a walk reads, and how conditions that hold give walks that do not fail.
-use Rattle.std.specs.Prelude.{ℕ, ◌≡◌, Bool, true, false, nat_lt, int_le, pos, List, Option, Some, slice_get}
+use Rattle.std.specs.Prelude.{ℕ, ◌≡◌, false, List, Option, Some, slice_get}
 use Rattle.formula.specs.declared.value.Value.{Value}
 use Rattle.formula.specs.Worth.{Function}
 use Rattle.fort_syntax.specs.declared.name.Name.{Name}
@@ -8,6 +8,7 @@ use Rattle.fort_model.specs.Conditions.{sight}
 use Rattle.fort_model.specs.Evaluate.{Scene}
 use Rattle.fort_model.specs.Events.{takes}
 use Rattle.fort_model.specs.Paths.{Path, IsPath}
+use Rattle.fort_model.specs.Processor.{MeetsBound}
 use Rattle.fort_model.specs.Program.{Program, notes_of}
 use Rattle.fort_model.specs.Seen.{Named, Answers}
 use Rattle.fort_model.specs.Senses.{of_values}
@@ -15,6 +16,7 @@ use Rattle.fort_model.specs.Symbols.{Symbol, LeastInteger, GreatestInteger, AtEn
 use Rattle.fort_model.specs.Walk.{at_entry, entry_facts, smashed_in_order, walk_from, walk}
 use Rattle.fort_model.specs.WalkPlaces.{sorts}
 use Rattle.fort_model.specs.Storage.{Storage}
+use Rattle.fort_laws.specs.Called.{IsReferenceTo, IsCallTo}
 use Rattle.fort_laws.specs.GoodStatements.{Stood, HasScalarDims, ReferencesMatch, CallStatementsMatch, IsGood}
 use Rattle.fort_laws.specs.Matches.{AllTrue}
 use Rattle.fort_laws.specs.Segments.{NoCheckFails, seen, KeepsUnsmashed}
@@ -22,8 +24,6 @@ use Rattle.fort_laws.specs.WholeRuns.{IsSafeIn, AssertsAreSafe, BlocksAreCommon,
 use Rattle.fort_laws.specs.Ways.{IsCutUp}
 use Rattle.fort_model.specs.Run.{run}
 use Rattle.fort_model.specs.Smashes.{HoldsSmashed}
-use Rattle.fort_syntax.specs.declared.dialect.Sort.{Sort}
-use Rattle.fort_syntax.specs.declared.expr.Expr.{Expr}
 use Rattle.fort_syntax.specs.declared.unit.Line.{Line}
 use Rattle.formula.specs.declared.value.Value.TheVariants.{Int}
 
@@ -49,7 +49,7 @@ PathsMakeEntriesSafe =
 -- what a walk takes of smashed names at an ASSERT is true where names stand for cells: each has its type
 abbrev pub SortsHold : List Function → (Symbol → Value) → Program → ℕ → Scene → Type 0
 SortsHold fs values program i s =
-    (now : Named Value) (st : Storage) → Stood s.unit s.environment now st → KeepsUnsmashed fs values program i s now
+    (now : Named Value) (st : Storage) → Stood s.processor s.unit s.environment now st → KeepsUnsmashed fs values program i s now
     → AllTrue (takes (sorts (seen fs values program i s).sense s.unit now (smashed_in_order (seen fs values program i s))))
 
 -- and so is it at an ASSERT that is true, whatever its names stand for
@@ -62,15 +62,15 @@ PathsMakeAssertsSafe =
 -- match, statements to be good, and what is taken at the entry to be true.
 abbrev pub SafePathsEnd : Type 0
 SafePathsEnd =
-    (fs : List Function) (values : Symbol → Value) (program : Program) (i : ℕ) (s : Scene) (is_reference : Sort → Name → Bool) (is_call : Name → List Expr → Bool)
+    (fs : List Function) (values : Symbol → Value) (program : Program) (i : ℕ) (s : Scene)
     → values LeastInteger ≡ Int s.processor.least → values GreatestInteger ≡ Int s.processor.greatest → s.processor.lazy ≡ false
-    → ((n : ℕ) → nat_lt program.bound n ≡ false → int_le (pos n) s.processor.greatest ≡ true)
+    → MeetsBound s.processor program.bound
     → s.processor.dialect ≡ program.dialect → HasScalarDims s.unit s.environment
-    → ReferencesMatch fs values program i s (run s.processor s.units) (λ q a. is_reference q a ≡ true) → CallStatementsMatch fs values program i s (run s.processor s.units) (λ g args. is_call g args ≡ true)
-    → ((pc : ℕ) (line : Line) → slice_get s.unit.lines pc ≡ Some line → IsGood s.unit s.environment (λ q a. is_reference q a ≡ true) (λ g args. is_call g args ≡ true) pc line.stmt)
+    → ReferencesMatch fs values program i s (run s.processor s.units) (IsReferenceTo program i s.unit) → CallStatementsMatch fs values program i s (run s.processor s.units) (IsCallTo program i s.unit)
+    → ((pc : ℕ) (line : Line) → slice_get s.unit.lines pc ≡ Some line → IsGood s.unit s.environment (IsReferenceTo program i s.unit) (IsCallTo program i s.unit) pc line.stmt)
     → IsCutUp program.dialect s.unit (notes_of program i)
     → HoldsSmashed program → slice_get program.units i ≡ Some s.unit → BlocksAreCommon s.unit
     → (parts : ℕ) → ClocksHave fs values program i s parts
     → PathsAreSafe fs program i s.unit → SortsHold fs values program i s
-    → (st : Storage) → AllTrue (takes (entry_facts (seen fs values program i s))) → Stood s.unit s.environment (at_entry (seen fs values program i s)) st
+    → (st : Storage) → AllTrue (takes (entry_facts (seen fs values program i s))) → Stood s.processor s.unit s.environment (at_entry (seen fs values program i s)) st
     → ComesToEnd fs values program i s 0 st

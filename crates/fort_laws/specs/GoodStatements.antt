@@ -1,7 +1,8 @@
 -- Statements whose parts have the types that their places demand, and which write only what may be written; and that walks and
 -- strict runs then perform them alike.
-use Rattle.std.specs.Prelude.{ℕ, ◌+◌, ◌≤◌, ◌≡◌, Bool, true, false, nat_lt, int_le, pos, List, [], ◌∷◌, length, Option, Some, None}
+use Rattle.std.specs.Prelude.{ℕ, ◌+◌, ◌≤◌, ◌≡◌, Bool, true, false, List, [], ◌∷◌, length, Option, Some, None}
 use mathlib.Core.Former.{Count}
+use Rattle.std.specs.List.{list_all}
 use Rattle.formula.specs.declared.value.Value.{Value}
 use Rattle.formula.specs.declared.value.Value.TheVariants.{Int}
 use Rattle.formula.specs.Worth.{Function}
@@ -20,11 +21,12 @@ use Rattle.fort_syntax.specs.declared.unit.DataName.{DataName}
 use Rattle.fort_syntax.specs.declared.unit.Unit.{Unit as Routine}
 use Rattle.fort_model.specs.Conditions.{sight}
 use Rattle.fort_model.specs.Evaluate.{Scene}
-use Rattle.fort_model.specs.Fits.{IsIn}
+use Rattle.fort_model.specs.Fits.{IsIn, is_good_dim}
 use Rattle.fort_model.specs.Flow.{leads, target, Loop, loops_at, loops_around}
 use Rattle.fort_model.specs.Names.{Element, applied, data_name, dims_of, is_function, same_name, subroutine, unit_at}
 use Rattle.fort_model.specs.Passing.{Taken, Caller, call, passed}
 use Rattle.fort_model.specs.Perform.{perform}
+use Rattle.fort_model.specs.Processor.{Processor, MeetsBound}
 use Rattle.fort_model.specs.Program.{Program}
 use Rattle.fort_model.specs.Seen.{Named}
 use Rattle.fort_model.specs.Senses.{of_values}
@@ -34,8 +36,10 @@ use Rattle.fort_model.specs.Trees.{carried, row_of}
 use Rattle.fort_model.specs.WalkCalls as walk
 use Rattle.fort_model.specs.WalkCalls.{Operand}
 use Rattle.fort_model.specs.WalkStmt.{performed}
+use Rattle.fort_laws.specs.Actuals.{ArePassed}
+use Rattle.fort_laws.specs.Called.{IsReferenceTo, IsCallTo}
 use Rattle.fort_laws.specs.Matches.{Matches}
-use Rattle.fort_laws.specs.Standing.{Standing, ActualsOf, CallsMatch}
+use Rattle.fort_laws.specs.Standing.{Standing, CallsMatch}
 use Rattle.fort_laws.specs.StepMatches.{StepMatches}
 use Rattle.fort_laws.specs.Typed.{IsScalar, IsArray, IsTyped, AreInteger, AreActual, row_length}
 use Rattle.fort_laws.specs.Ways.{IsExecutable}
@@ -58,9 +62,10 @@ module _ (u : Routine) (env : Environment) where
   DimsAreScalars (Fixed n ∷ ds) = DimsAreScalars ds
   DimsAreScalars (Adjustable z ∷ ds) = ((d : DataName) × (data_name u z ≡ Some d) × (1 ≤ (env z).size)) × DimsAreScalars ds
 
--- named values stand for cells, which lie in the storage
-pub record Stood (u : Routine) (env : Environment) (now : Named Value) (st : Storage) : Type 0 where
-  pub standing : Standing u env st now
+-- named values stand for cells, which lie in the storage; adjustable dimensions are at least 1
+pub record Stood (p : Processor) (u : Routine) (env : Environment) (now : Named Value) (st : Storage) : Type 0 where
+  pub standing : Standing p u env st now
+  pub good : (x : Name) (d : DataName) → data_name u x ≡ Some d → list_all (is_good_dim env st) d.dims ≡ true
   pub within : (x : Name) (d : DataName) → data_name u x ≡ Some d → (env x).first + (env x).size ≤ length st
 
 -- what is wanted of a unit: its adjustable dimensions are scalars of it
@@ -91,7 +96,7 @@ AreGoodLoops u env (d ∷ ds) = IsGoodLoop u env d × AreGoodLoops u env ds
 
 -- ---- statements
 
-module _ (u : Routine) (env : Environment) (IsReference : Sort → Name → Type 0) (IsCall : Name → List Expr → Type 0) where
+module _ (u : Routine) (env : Environment) (IsReference : Sort → Name → List Expr → Type 0) (IsCall : Name → List Expr → Type 0) where
   -- the left side of an assignment: a scalar or an element of a type, whose name may be written
   pub record IsGoodElement (q : Sort) (a : Name) {m : Count} (args : Row_of-Expr m) : Type 0 where
     pub dim : Dim
@@ -144,29 +149,29 @@ module _ (fs : List Function) (values : Symbol → Value) (program : Program) (i
   -- what is wanted of CALLs: the walk and the run of a call match, and named values stand for cells afterwards
   abbrev pub CallStatementsMatch : (Name → List Expr → Type 0) → Type 0
   CallStatementsMatch IsCall =
-      (st : Storage) (now : Named Value) → Stood s.unit s.environment now st
-      → (card k : ℕ) (g : Name) (args : List Expr) (xs : List (Operand Value)) (ts : List Taken) → IsCall g args → ActualsOf s st now xs ts
-      → Matches (λ r c after. Stood s.unit s.environment (r.0) after) (walk.call (sight (of_values fs values) program i s.unit) card (subroutine program.units g) now xs)
+      (st : Storage) (now : Named Value) → Stood s.processor s.unit s.environment now st
+      → (card k : ℕ) (g : Name) (args : List Expr) (xs : List (Operand Value)) (ts : List Taken) → IsCall g args → ArePassed s st now args xs ts
+      → Matches (λ r c after. Stood s.processor s.unit s.environment (r.0) after) (walk.call (sight (of_values fs values) program i s.unit) card (subroutine program.units g) now xs)
       (call caller s.environment (unit_at s.units (subroutine s.units g)) (passed (s.processor.copies s.unit.name k) 1 ts)) st
 
-  abbrev pub ReferencesMatch : (Sort → Name → Type 0) → Type 0
-  ReferencesMatch IsReference = (st : Storage) (now : Named Value) → Stood s.unit s.environment now st → CallsMatch fs values program i s caller st now IsReference
+  abbrev pub ReferencesMatch : (Sort → Name → List Expr → Type 0) → Type 0
+  ReferencesMatch IsReference = (st : Storage) (now : Named Value) → Stood s.processor s.unit s.environment now st → CallsMatch fs values program i s caller st now IsReference
 
   -- a statement at a point, by choices that lead on
-  abbrev pub StatementsStep : (Sort → Name → Type 0) → (Name → List Expr → Type 0) → Type 0
+  abbrev pub StatementsStep : (Sort → Name → List Expr → Type 0) → (Name → List Expr → Type 0) → Type 0
   StatementsStep IsReference IsCall =
-      (st : Storage) (now : Named Value) → Stood s.unit s.environment now st
+      (st : Storage) (now : Named Value) → Stood s.processor s.unit s.environment now st
       → (stmt : Stmt) (card pc k : ℕ) → IsGood s.unit s.environment IsReference IsCall pc stmt
       → StepMatches (λ (cs : List ℕ). cs) (leads s.processor.dialect s.unit pc stmt) (λ cs. performed (sight (of_values fs values) program i s.unit) card pc now stmt cs)
-      (perform s caller card pc k stmt) (Stood s.unit s.environment) st
+      (perform s caller card pc k stmt) (Stood s.processor s.unit s.environment) st
 
 -- On a strict processor of the program's dialect that has all integers up to the bound, where named values stand for cells and calls
--- match, all statements do. Which references and CALLs there are is told by tests.
+-- match, all statements do.
 abbrev pub StatementsMatch : Type 0
 StatementsMatch =
-    (fs : List Function) (values : Symbol → Value) (program : Program) (i : ℕ) (s : Scene) (caller : Caller) (is_reference : Sort → Name → Bool) (is_call : Name → List Expr → Bool)
+    (fs : List Function) (values : Symbol → Value) (program : Program) (i : ℕ) (s : Scene) (caller : Caller)
     → values LeastInteger ≡ Int s.processor.least → values GreatestInteger ≡ Int s.processor.greatest → s.processor.lazy ≡ false
-    → ((n : ℕ) → nat_lt program.bound n ≡ false → int_le (pos n) s.processor.greatest ≡ true)
+    → MeetsBound s.processor program.bound
     → s.processor.dialect ≡ program.dialect → HasScalarDims s.unit s.environment
-    → ReferencesMatch fs values program i s caller (λ q a. is_reference q a ≡ true) → CallStatementsMatch fs values program i s caller (λ g args. is_call g args ≡ true)
-    → StatementsStep fs values program i s caller (λ q a. is_reference q a ≡ true) (λ g args. is_call g args ≡ true)
+    → ReferencesMatch fs values program i s caller (IsReferenceTo program i s.unit) → CallStatementsMatch fs values program i s caller (IsCallTo program i s.unit)
+    → StatementsStep fs values program i s caller (IsReferenceTo program i s.unit) (IsCallTo program i s.unit)

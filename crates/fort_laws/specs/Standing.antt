@@ -1,10 +1,10 @@
 -- Where named values stand for the cells of a unit's names, and what expressions then come to.
-use Rattle.std.specs.Prelude.{ℕ, ◌+◌, ◌<◌, ◌≡◌, Bool, true, false, nat_lt, int_le, pos, List, [], ◌∷◌, Some}
+use Rattle.std.specs.Prelude.{ℕ, ◌+◌, ◌<◌, ◌≡◌, true, false, pos, List, Some}
 use Rattle.formula.specs.declared.value.Cell.{Cell}
 use Rattle.formula.specs.declared.value.Cell.TheVariants as cell
 use Rattle.formula.specs.declared.value.Value.{Value}
 use Rattle.formula.specs.declared.value.Value.TheVariants.{Int}
-use Rattle.formula.specs.Values.{of_cell}
+use Rattle.formula.specs.Values.{is_between, of_cell}
 use Rattle.formula.specs.Worth.{Function}
 use Rattle.fort_syntax.specs.declared.name.Name.{Name}
 use Rattle.fort_syntax.specs.declared.dialect.Sort.{Sort}
@@ -19,6 +19,7 @@ use Rattle.fort_model.specs.Evaluate.{Scene}
 use Rattle.fort_model.specs.Names.{data_name, function, unit_at}
 use Rattle.fort_model.specs.Passing.{Taken, Cells, Fresh, Caller, call, passed}
 use Rattle.fort_model.specs.Places.{dim_values, stretch}
+use Rattle.fort_model.specs.Processor.{Processor, MeetsBound}
 use Rattle.fort_model.specs.Program.{Program}
 use Rattle.fort_model.specs.Seen.{Named}
 use Rattle.fort_model.specs.Senses.{of_values}
@@ -27,6 +28,8 @@ use Rattle.fort_model.specs.Symbols.{Symbol, LeastInteger, GreatestInteger}
 use Rattle.fort_model.specs.WalkCalls as walk_call
 use Rattle.fort_model.specs.WalkCalls.{Sight, Operand, Bare, Part, Computed}
 use Rattle.fort_model.specs.WalkExpr as walk
+use Rattle.fort_laws.specs.Actuals.{ArePassed}
+use Rattle.fort_laws.specs.Called.{IsReferenceTo}
 use Rattle.fort_laws.specs.Matches.{Matches, Same}
 use Rattle.fort_laws.specs.Typed.{IsTyped}
 
@@ -34,65 +37,49 @@ use Rattle.fort_laws.specs.Typed.{IsTyped}
 abbrev pub IsOf : Value → Cell → Type 0
 IsOf v c = v ≡ of_cell c
 
--- a cell holds a value of a type
-abbrev pub IsSort : Sort → Cell → Type 0
-IsSort Integer (cell.Int z) = Unit {0}
-IsSort Integer (cell.Logical b) = ⊥
-IsSort Integer cell.Undefined = ⊥
-IsSort Logical (cell.Int z) = ⊥
-IsSort Logical (cell.Logical b) = Unit {0}
-IsSort Logical cell.Undefined = ⊥
+-- a cell holds a value of a type; an integer is one of the processor's
+abbrev pub IsSort : Processor → Sort → Cell → Type 0
+IsSort p Integer (cell.Int z) = is_between p.least p.greatest z ≡ true
+IsSort p Integer (cell.Logical b) = ⊥
+IsSort p Integer cell.Undefined = ⊥
+IsSort p Logical (cell.Int z) = ⊥
+IsSort p Logical (cell.Logical b) = Unit {0}
+IsSort p Logical cell.Undefined = ⊥
 
 -- a value is that of a cell, which holds a value of a type
-abbrev pub Of : Sort → Value → Cell → Type 0
-Of sort v c = IsOf v c × IsSort sort c
+abbrev pub Of : Processor → Sort → Value → Cell → Type 0
+Of p sort v c = IsOf v c × IsSort p sort c
 
 -- a cell is undefined or holds a value of a type
-abbrev pub MayBe : Sort → Cell → Type 0
-MayBe sort (cell.Int z) = IsSort sort (cell.Int z)
-MayBe sort (cell.Logical b) = IsSort sort (cell.Logical b)
-MayBe sort cell.Undefined = Unit {0}
+abbrev pub MayBe : Processor → Sort → Cell → Type 0
+MayBe p sort (cell.Int z) = IsSort p sort (cell.Int z)
+MayBe p sort (cell.Logical b) = IsSort p sort (cell.Logical b)
+MayBe p sort cell.Undefined = Unit {0}
 
-module _ (u : Routine) (env : Environment) (st : Storage) where
+module _ (p : Processor) (u : Routine) (env : Environment) (st : Storage) where
   -- the named values stand for the cells of the unit's names, which have their sizes and types
   pub record Standing (now : Named Value) : Type 0 where
     pub names : (x : Name) (d : DataName) → data_name u x ≡ Some d → now x ≡ held_in d.dims st (env x)
     pub sizes : (x : Name) (d : DataName) → data_name u x ≡ Some d → pos (env x).size ≡ stretch (dim_values env st d.dims)
-    pub sorts : (x : Name) (d : DataName) → data_name u x ≡ Some d → (k : ℕ) → k < (env x).size → MayBe d.sort (load st ((env x).first + k))
+    pub sorts : (x : Name) (d : DataName) → data_name u x ≡ Some d → (k : ℕ) → k < (env x).size → MayBe p d.sort (load st ((env x).first + k))
 
 module _ (s : Scene) (st : Storage) (now : Named Value) where
   -- an operand of a walk and what a run takes: a value of a type, in a cell or fresh
   abbrev pub OperandOf : Sort → Operand Value → Taken → Type 0
-  OperandOf q (Bare x v) (Cells e) = (e ≡ s.environment x) × (v ≡ now x) × (v ≡ of_cell (load st e.first)) × MayBe q (load st e.first)
+  OperandOf q (Bare x v) (Cells e) = (e ≡ s.environment x) × (v ≡ now x) × (v ≡ of_cell (load st e.first)) × MayBe s.processor q (load st e.first)
   OperandOf q (Bare x v) (Fresh c) = ⊥
-  OperandOf q (Part v) (Cells e) = (v ≡ of_cell (load st e.first)) × MayBe q (load st e.first)
+  OperandOf q (Part v) (Cells e) = (v ≡ of_cell (load st e.first)) × MayBe s.processor q (load st e.first) × (e.size ≡ 1)
   OperandOf q (Part v) (Fresh c) = ⊥
   OperandOf q (Computed v) (Cells e) = ⊥
-  OperandOf q (Computed v) (Fresh c) = Of q v c
-
-  -- an actual is taken unread
-  abbrev pub ActualOf : Operand Value → Taken → Type 0
-  ActualOf (Bare x v) (Cells e) = (e ≡ s.environment x) × (v ≡ now x)
-  ActualOf (Bare x v) (Fresh c) = ⊥
-  ActualOf (Part v) (Cells e) = v ≡ of_cell (load st e.first)
-  ActualOf (Part v) (Fresh c) = ⊥
-  ActualOf (Computed v) (Cells e) = ⊥
-  ActualOf (Computed v) (Fresh c) = IsOf v c
-
-  -- operands and what is taken for them
-  abbrev pub ActualsOf : List (Operand Value) → List Taken → Type 0
-  ActualsOf [] [] = Unit {0}
-  ActualsOf [] (t ∷ ts) = ⊥
-  ActualsOf (x ∷ xs) [] = ⊥
-  ActualsOf (x ∷ xs) (t ∷ ts) = ActualOf x t × ActualsOf xs ts
+  OperandOf q (Computed v) (Fresh c) = Of s.processor q v c
 
 module _ (fs : List Function) (values : Symbol → Value) (program : Program) (i : ℕ) (s : Scene) (caller : Caller) (st : Storage) (now : Named Value)
-    (IsReference : Sort → Name → Type 0) where
+    (IsReference : Sort → Name → List Expr → Type 0) where
   -- what is wanted of a reference: its walk and its run match, and leave the storage as it is
   abbrev pub CallsMatch : Type 0
   CallsMatch =
-      (card k : ℕ) (q : Sort) (a : Name) (xs : List (Operand Value)) (ts : List Taken) → IsReference q a → ActualsOf s st now xs ts
-      → Matches (Same st (λ r c. Of q (r.1) c)) (walk_call.call (sight (of_values fs values) program i s.unit) card (function program.units a) now xs)
+      (card k : ℕ) (q : Sort) (a : Name) (es : List Expr) (xs : List (Operand Value)) (ts : List Taken) → IsReference q a es → ArePassed s st now es xs ts
+      → Matches (Same st (λ r c. Of s.processor q (r.1) c)) (walk_call.call (sight (of_values fs values) program i s.unit) card (function program.units a) now xs)
       (call caller s.environment (unit_at s.units (function s.units a)) (passed (s.processor.copies s.unit.name k) 1 ts)) st
 
   -- an expression of a type comes to values that belong together, in the storage as it was; or its first check that is false is
@@ -100,15 +87,14 @@ module _ (fs : List Function) (values : Symbol → Value) (program : Program) (i
   abbrev pub ExpressionMatches : Type 0
   ExpressionMatches =
       (e : Expr) (q : Sort) (card k : ℕ) → IsTyped s.unit IsReference q e
-      → Matches (Same st (Of q)) (walk.value (sight (of_values fs values) program i s.unit) card now e) (run.evaluate s caller card k e) st
+      → Matches (Same st (Of s.processor q)) (walk.value (sight (of_values fs values) program i s.unit) card now e) (run.evaluate s caller card k e) st
 
 -- On a strict processor that has all integers up to the bound, where named values stand for cells and references to functions
--- match, all expressions do. What references there are is told by a test.
+-- match, all expressions do.
 abbrev pub ExpressionsMatch : Type 0
 ExpressionsMatch =
     (fs : List Function) (values : Symbol → Value) (program : Program) (i : ℕ) (s : Scene) (caller : Caller) (st : Storage) (now : Named Value)
-    (is_reference : Sort → Name → Bool)
     → values LeastInteger ≡ Int s.processor.least → values GreatestInteger ≡ Int s.processor.greatest → s.processor.lazy ≡ false
-    → ((n : ℕ) → nat_lt program.bound n ≡ false → int_le (pos n) s.processor.greatest ≡ true)
-    → Standing s.unit s.environment st now
-    → CallsMatch fs values program i s caller st now (λ q a. is_reference q a ≡ true) → ExpressionMatches fs values program i s caller st now (λ q a. is_reference q a ≡ true)
+    → MeetsBound s.processor program.bound
+    → Standing s.processor s.unit s.environment st now
+    → CallsMatch fs values program i s caller st now (IsReferenceTo program i s.unit) → ExpressionMatches fs values program i s caller st now (IsReferenceTo program i s.unit)

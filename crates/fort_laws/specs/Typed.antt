@@ -10,6 +10,7 @@ use Rattle.fort_syntax.specs.declared.stmt.Dim.{Dim}
 use Rattle.fort_syntax.specs.declared.stmt.Dim.TheVariants.{Fixed, Named as Adjustable}
 use Rattle.fort_syntax.specs.declared.unit.DataName.{DataName}
 use Rattle.fort_syntax.specs.declared.unit.Unit.{Unit as Routine}
+use Rattle.fort_model.specs.Calls.{listed}
 use Rattle.fort_model.specs.Names.{Applied, Element, BuiltIn, Reference, Intrinsic, Absolute, Modulo, Greatest, Least, applied, data_name}
 use Rattle.fort_model.specs.Trees.{only}
 
@@ -57,13 +58,13 @@ module _ (u : Routine) where
   IsActual e typed = typed
 
   -- references to functions of a type are told apart
-  module _ (IsReference : Sort → Name → Type 0) where
+  module _ (IsReference : Sort → Name → List Expr → Type 0) where
     -- an array has as many subscripts as dimensions; an intrinsic function its number of arguments
-    abbrev pub IsApplied : Sort → Name → Applied → ℕ → Type 0 → Type 0 → Type 0
-    IsApplied q a (Element []) n are_values are_actuals = ⊥
-    IsApplied q a (Element (d ∷ ds)) n are_values are_actuals = IsArray q a (d ∷ ds) × (n ≡ length (d ∷ ds)) × are_values
-    IsApplied q a (BuiltIn g) n are_values are_actuals = (q ≡ Integer) × IsCount g n × are_values
-    IsApplied q a Reference n are_values are_actuals = IsReference q a × are_actuals
+    abbrev pub IsApplied : Sort → Name → Applied → ℕ → List Expr → Type 0 → Type 0 → Type 0
+    IsApplied q a (Element []) n es are_values are_actuals = ⊥
+    IsApplied q a (Element (d ∷ ds)) n es are_values are_actuals = IsArray q a (d ∷ ds) × (n ≡ length (d ∷ ds)) × are_values
+    IsApplied q a (BuiltIn g) n es are_values are_actuals = (q ≡ Integer) × IsCount g n × are_values
+    IsApplied q a Reference n es are_values are_actuals = IsReference q a es × are_actuals
 
     -- an expression of a type, all of whose parts have the types that their places demand
     abbrev mutual
@@ -71,9 +72,9 @@ module _ (u : Routine) where
       IsTyped q (Const n) = q ≡ Integer
       IsTyped q (TruthConstant b) = q ≡ Logical
       IsTyped q (Var x) = IsScalar q x
-      IsTyped q (Apply' a _ args) = IsApplied q a (applied u a) (row_length args) (AreInteger args) (AreActual args)
+      IsTyped q (Apply' a _ args) = IsApplied q a (applied u a) (row_length args) (listed args) (AreInteger args) (AreActual args)
       IsTyped q (Paren' _ (only a)) = IsTyped q a
-      IsTyped q (Pos' _ (only a)) = IsTyped q a
+      IsTyped q (Pos' _ (only a)) = (q ≡ Integer) × IsTyped Integer a
       IsTyped q (Neg' _ (only a)) = (q ≡ Integer) × IsTyped Integer a
       IsTyped q (Power' _ (only a) n) = (q ≡ Integer) × IsTyped Integer a
       IsTyped q (Bin' o _ (only a) _ (only b)) = (q ≡ Integer) × (IsTyped Integer a × IsTyped Integer b)

@@ -1,10 +1,11 @@
 -- How the flow of a unit without uncut cycles goes on.
-use Rattle.std.specs.Prelude.{ℕ, ◌≡◌, List, [], ◌∷◌, Some, slice_get}
+use Rattle.std.specs.Prelude.{ℕ, zero, suc, ◌≡◌, List, [], ◌∷◌, Some, None, slice_get}
 use Rattle.fort_syntax.specs.declared.dialect.Dialect.{Dialect}
 use Rattle.fort_syntax.specs.declared.stmt.Stmt.{Stmt}
 use Rattle.fort_syntax.specs.declared.stmt.Stmt.TheVariants.{Assign, GoTo, Computed, ArithIf, LogicalIf', Do, Continue, Call, Return, BlockIf, ElseIf, Else, EndIf}
 use Rattle.fort_syntax.specs.declared.unit.Line.{Line}
 use Rattle.fort_syntax.specs.declared.unit.Unit.{Unit as Routine}
+use Rattle.fort_model.specs.Trees.{carried}
 use Rattle.fort_model.specs.Flow.{leads}
 use Rattle.fort_model.specs.Paths.{IsWay, Uncut}
 use Rattle.fort_model.specs.Program.{Notes}
@@ -30,6 +31,17 @@ IsExecutable _ = ⊥
 -- all statements of a unit are executable
 abbrev pub AreExecutable : Routine → Type 0
 AreExecutable u = (pc : ℕ) (line : Line) → slice_get u.lines pc ≡ Some line → IsExecutable line.stmt
+
+-- a RETURN, alone or behind a condition that is true
+abbrev pub IsReturn : Stmt → List ℕ → Type 0
+IsReturn Return cs = Unit {0}
+IsReturn (LogicalIf' e _ (carried s)) (suc zero ∷ cs) = IsReturn s cs
+IsReturn _ _ = ⊥
+
+-- the end of a unit is led to by RETURNs alone
+abbrev pub EndsByReturn : Dialect → Routine → Type 0
+EndsByReturn dialect u =
+    (pc : ℕ) (line : Line) (cs : List ℕ) (q : ℕ) → slice_get u.lines pc ≡ Some line → leads dialect u pc line.stmt cs ≡ Some q → slice_get u.lines q ≡ None → IsReturn line.stmt cs
 
 -- no statement lies on an uncut cycle
 abbrev pub IsCutUp : Dialect → Routine → Notes → Type 0

@@ -1,15 +1,14 @@
 -- Runs from a point to the end of a unit, over its ASSERTs.
-use Rattle.std.specs.Prelude.{ℕ, ◌+◌, ◌≡◌, Bool, true, false, nat_lt, int_le, pos, List, [], map, length, Some, None, slice_get}
+use Rattle.std.specs.Prelude.{ℕ, ◌+◌, ◌≡◌, true, false, List, [], map, length, Some, None, slice_get}
 use Rattle.formula.specs.declared.value.Value.{Value}
 use Rattle.formula.specs.declared.value.Value.TheVariants.{Int}
 use Rattle.formula.specs.Worth.{Function}
 use Rattle.fort_syntax.specs.declared.name.Name.{Name}
-use Rattle.fort_syntax.specs.declared.dialect.Sort.{Sort}
-use Rattle.fort_syntax.specs.declared.expr.Expr.{Expr}
 use Rattle.fort_syntax.specs.declared.unit.Line.{Line}
 use Rattle.fort_model.specs.Evaluate.{Scene}
 use Rattle.fort_model.specs.Outcome.{Ended}
 use Rattle.fort_model.specs.Paths.{AtEnd, AtAssert, cut_at, over_or, IsWay}
+use Rattle.fort_model.specs.Processor.{MeetsBound}
 use Rattle.fort_model.specs.Program.{Program, Assertion, notes_of, has_common, commons}
 use Rattle.fort_model.specs.Run.{run}
 use Rattle.fort_model.specs.Seen.{Named, Answers}
@@ -20,9 +19,10 @@ use Rattle.fort_syntax.specs.declared.unit.Unit.{Unit as Routine}
 use Rattle.fort_model.specs.Storage.{Storage}
 use Rattle.fort_model.specs.Symbols.{Symbol, LeastInteger, GreatestInteger}
 use Rattle.fort_model.specs.Walk.{arrive, at_entry, walk_from}
+use Rattle.fort_laws.specs.Called.{IsReferenceTo, IsCallTo}
 use Rattle.fort_laws.specs.GoodStatements.{Stood, HasScalarDims, ReferencesMatch, CallStatementsMatch, IsGood}
 use Rattle.fort_laws.specs.Matches.{AllTrue}
-use Rattle.fort_laws.specs.Segments.{NoCheckFails, seen, IsSafe, KeepsUnsmashed, StatementsKeep}
+use Rattle.fort_laws.specs.Segments.{NoCheckFails, seen, IsSafe, KeepsUnsmashed, HasValue, StatementsKeep}
 use Rattle.fort_laws.specs.Unfolded.{run_from}
 use Rattle.fort_laws.specs.Ways.{IsCutUp}
 
@@ -39,7 +39,7 @@ module _ (fs : List Function) (values : Symbol → Value) (program : Program) (i
   abbrev pub AssertsAreSafe : Type 0
   AssertsAreSafe =
       (a : Assertion) (q : ℕ) (now : Named Value) (st : Storage) → cut_at s.unit (notes_of program i) q ≡ AtAssert a
-      → Stood s.unit s.environment now st → KeepsUnsmashed fs values program i s now → IsTrueAt a now → IsSafe fs values program i s (Some (clock_of a now)) q now
+      → Stood s.processor s.unit s.environment now st → KeepsUnsmashed fs values program i s now → IsTrueAt a now → IsSafe fs values program i s (Some (clock_of a now)) q now
 
   -- the clocks of all ASSERTs have so many parts
   abbrev pub ClocksHave : ℕ → Type 0
@@ -58,23 +58,24 @@ module _ (fs : List Function) (values : Symbol → Value) (program : Program) (i
     pub cost : ℕ
     pub card : ℕ
     pub ends : (n : ℕ) → run_from s.processor s.units s.unit s.environment pc st (cost + n) ≡ Ended tt after n
-    pub stood : Stood s.unit s.environment now after
+    pub stood : Stood s.processor s.unit s.environment now after
     pub kept : KeepsUnsmashed fs values program i s now
     pub met : AllTrue (arrive (seen fs values program i s) None card AtEnd now [])
+    pub value : (slice_get s.unit.lines pc ≡ None → ⊥) → HasValue fs values program i s now
 
 -- What `SafeRunsArrive` takes is taken; clocks of all ASSERTs have equally many parts, and no way from a true ASSERT fails. Then a run
 -- from a point from which no way fails comes to the end of the unit.
 abbrev pub SafeRunsEnd : Type 0
 SafeRunsEnd =
-    (fs : List Function) (values : Symbol → Value) (program : Program) (i : ℕ) (s : Scene) (is_reference : Sort → Name → Bool) (is_call : Name → List Expr → Bool)
+    (fs : List Function) (values : Symbol → Value) (program : Program) (i : ℕ) (s : Scene)
     → values LeastInteger ≡ Int s.processor.least → values GreatestInteger ≡ Int s.processor.greatest → s.processor.lazy ≡ false
-    → ((n : ℕ) → nat_lt program.bound n ≡ false → int_le (pos n) s.processor.greatest ≡ true)
+    → MeetsBound s.processor program.bound
     → s.processor.dialect ≡ program.dialect → HasScalarDims s.unit s.environment
-    → ReferencesMatch fs values program i s (run s.processor s.units) (λ q a. is_reference q a ≡ true) → CallStatementsMatch fs values program i s (run s.processor s.units) (λ g args. is_call g args ≡ true)
-    → ((pc : ℕ) (line : Line) → slice_get s.unit.lines pc ≡ Some line → IsGood s.unit s.environment (λ q a. is_reference q a ≡ true) (λ g args. is_call g args ≡ true) pc line.stmt)
+    → ReferencesMatch fs values program i s (run s.processor s.units) (IsReferenceTo program i s.unit) → CallStatementsMatch fs values program i s (run s.processor s.units) (IsCallTo program i s.unit)
+    → ((pc : ℕ) (line : Line) → slice_get s.unit.lines pc ≡ Some line → IsGood s.unit s.environment (IsReferenceTo program i s.unit) (IsCallTo program i s.unit) pc line.stmt)
     → IsCutUp program.dialect s.unit (notes_of program i) → StatementsKeep fs values program i s
     → (parts : ℕ) → ClocksHave fs values program i s parts → AssertsAreSafe fs values program i s
-    → (pc : ℕ) (now : Named Value) (st : Storage) → Stood s.unit s.environment now st → KeepsUnsmashed fs values program i s now
+    → (pc : ℕ) (now : Named Value) (st : Storage) → Stood s.processor s.unit s.environment now st → KeepsUnsmashed fs values program i s now
     → IsSafeIn fs values program i s pc now → ComesToEnd fs values program i s pc st
 
 -- what is wanted of a unit: what stands in its COMMON blocks are COMMON entities

@@ -1,28 +1,44 @@
 //! Laws of runs and walks: what holds of every deck.
 #![tactic(auto)]
 
+mod calls;
 mod clocks;
+mod decks;
 mod exactness;
 mod expressions;
+mod formed;
 mod frames;
+mod lazy;
 mod places;
+mod programs;
+mod ready_rows;
 mod segments;
 mod statements;
 mod steps;
 mod symbols;
+mod units;
 mod ways;
 
+pub use calls::{calls_are_matched, unit_calls_match};
 pub use clocks::clocks_fall_only_so_often;
+pub use decks::{
+    blocks_are_common, calls_agree, decks_are_correct, ends_are_returns, statements_are_typed,
+    well_formed_is_declared,
+};
 pub use exactness::{
     checks_do_not_depend_on_values, conditions_are_exact, valid_conditions_make_paths_safe,
     words_tell_symbols,
 };
 pub use expressions::expressions_match;
+pub use formed::formed_units_have_names;
 pub use frames::{
     evaluation_changes_nothing, rules_make_sound, rules_pass_smashed_alone,
     runs_change_only_smashed, runs_without_smashing_change_nothing,
 };
+pub use lazy::lazy_runs_follow_strict_ones;
 pub use places::elements_lie_in_arrays;
+pub use programs::{programs_are_correct, strict_programs_are_correct};
+pub use ready_rows::inc_is_ready;
 pub use segments::{safe_runs_arrive, safe_runs_end, statements_keep};
 pub use statements::statements_match;
 pub use steps::{
@@ -31,4 +47,5 @@ pub use steps::{
 pub use symbols::{
     paths_make_asserts_safe, paths_make_entries_safe, safe_paths_end, walks_read_few_symbols,
 };
+pub use units::{safe_units_are_right, safe_units_end, smashed_have_types};
 pub use ways::{statements_lead_on, ways_can_be_completed};
