@@ -93,7 +93,7 @@ items_both (x ∷ xs) ys b =
     ap (λ zs. cond (same_name (name_of_block x.block) b) x.items [] ++ zs) (items_both xs ys b)
     ∙ sym (append_assoc (cond (same_name (name_of_block x.block) b) x.items []) (items_of_block_in xs b) (items_of_block_in ys b))
 
-tabled_of : (table : List (Name × List Name)) (lines : List Line) (b : Name)
+pub tabled_of : (table : List (Name × List Name)) (lines : List Line) (b : Name)
     → listed (tabled table lines) b ≡ listed table b ++ names_of_items (items_of_block_in (gathered groups_by lines) b)
 tabled_of table [] b = sym (no_more (listed table b))
 tabled_of table (line ∷ lines) b =

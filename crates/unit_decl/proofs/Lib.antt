@@ -17,3 +17,7 @@ pub mod CarriedLabels
 pub mod RoleFacts
 pub mod UseScanned
 pub mod UseSteps
+pub mod OnceNames
+pub mod UnitMade
+pub mod NotePlaces
+pub mod EntriesRead

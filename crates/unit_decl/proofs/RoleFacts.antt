@@ -70,15 +70,12 @@ references_both scope (o ∷ xs) ys =
     one_name (is_reference scope o) o (kept (is_reference scope) (xs ++ ys)) (kept (is_reference scope) xs) (references_in scope ys)
     (references_both scope xs ys)
 
-references_gathered : (scope : Scope) (lines : List Line) (x : Name)
-    → is_among x (gathered (λ s. references_in scope (uses_of s)) lines) ≡ is_among x (references_in scope (gathered uses_of lines))
-references_gathered scope [] x = refl
-references_gathered scope (line ∷ lines) x =
-    let here = references_in scope (uses_of line.stmt) in
-    among_both x here (gathered (λ s. references_in scope (uses_of s)) lines)
-    ∙ ap (λ b. is_among x here || b) (references_gathered scope lines x)
-    ∙ sym (among_both x here (references_in scope (gathered uses_of lines)))
-    ∙ ap (is_among x) (sym (references_both scope (uses_of line.stmt) (gathered uses_of lines)))
+pub references_listed : (scope : Scope) (lines : List Line)
+    → gathered (λ s. references_in scope (uses_of s)) lines ≡ references_in scope (gathered uses_of lines)
+references_listed scope [] = refl
+references_listed scope (line ∷ lines) =
+    ap (λ xs. references_in scope (uses_of line.stmt) ++ xs) (references_listed scope lines)
+    ∙ sym (references_both scope (uses_of line.stmt) (gathered uses_of lines))
 
 -- ---- COMMON entities
 
@@ -94,11 +91,11 @@ commons_gathered (line ∷ lines) =
 
 -- ---- data names
 
-own_if : (f : Bool) (x own : Name) → is_among x (cond f (own ∷ []) []) ≡ (f && same_name x own)
+pub own_if : (f : Bool) (x own : Name) → is_among x (cond f (own ∷ []) []) ≡ (f && same_name x own)
 own_if true x own = or_false (same_name x own)
 own_if false x own = refl
 
-held_is : (unit : Segment) (x : Name)
+pub held_is : (unit : Segment) (x : Name)
     → is_among x (held_by unit) ≡ (is_among x (dummies_of unit) || is_among x (commons_of unit) || (is_function unit && same_name x (own_name unit)))
 held_is unit x =
     among_both x (dummies_of unit ++ commons_of unit) (own_value_of unit)
@@ -179,7 +176,7 @@ roles_made unit scope dummies commons names references lines assigned function s
     let is_common = λ (x : Name). ap (is_among x) c ∙ given_of_all commons_by [] unit x ∙ ap (is_among x) (commons_gathered unit) in
     let is_name = λ (x : Name). ap (is_among x) n ∙ given_of_all names_in [] unit x in
     let is_used = λ (x : Name).
-    ap (is_among x) r ∙ given_of_all (λ t. references_in (scope_by scope) (uses_of t)) [] unit x ∙ references_gathered (scope_by scope) unit x
+    ap (is_among x) r ∙ given_of_all (λ t. references_in (scope_by scope) (uses_of t)) [] unit x ∙ ap (is_among x) (references_listed (scope_by scope) unit)
     ∙ ap (λ t. is_among x (references_in t (gathered uses_of unit))) s in
     λ i. record {
       own = own;

@@ -1,5 +1,5 @@
 -- What the statements and notes of a deck are read as, the deck that they make, and their first fault.
-use Rattle.std.specs.Prelude.{ℕ, ◌≡◌, ◌⊎◌, nat_lt, Bool, true, ◌&&◌, IsTrue, List, [], ◌∷◌, Option, Some, None, ⊤}
+use Rattle.std.specs.Prelude.{◌≡◌, ◌⊎◌, List, [], ◌∷◌, Some, None, ⊤}
 use Rattle.fort_syntax.specs.declared.cards.Entry.{Entry}
 use Rattle.fort_syntax.specs.declared.cards.Entry.TheVariants.{Statement, Note}
 use Rattle.fort_syntax.specs.declared.deck.Deck.{Deck}

@@ -13,4 +13,6 @@ pub mod PlainForms
 pub mod Labels
 pub mod UseScans
 pub mod Roles
+pub mod UnitParts
 pub mod Decks
+pub mod Readings

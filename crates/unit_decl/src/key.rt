@@ -1,6 +1,6 @@
 // What sets and tables are searched by.
-ghost use Rattle.std.specs.Prelude.{◌≡◌};
-ghost use Rattle.fort_syntax.specs.Units.{name_of_block};
+ghost use Rattle.std.specs.Prelude.{◌≡◌, IfSome};
+ghost use Rattle.fort_syntax.specs.Units.{name_of_block, block_of_name};
 
 use fort_syntax::{BlockName, Name};
 use std::hash::{Hash, Hasher};
@@ -10,6 +10,16 @@ use std::marker::Model;
 #[derive(Drop)]
 pub(crate) struct Key {
     name: Option<Name>,
+}
+
+fn named(name: &Name) -> BlockName
+    ensures { result ≡ block_of_name name.now }
+{
+    if name.as_bytes().is_empty() {
+        BlockName::Slashes
+    } else {
+        BlockName::Named(*name)
+    }
 }
 
 impl Model for Key {
@@ -34,6 +44,23 @@ impl Key {
         match block {
             BlockName::Bare | BlockName::Slashes => Key { name: None },
             BlockName::Named(name) => Key { name: Some(*name) },
+        }
+    }
+
+    /// The name, where it has letters.
+    pub(crate) fn name(&self) -> Option<Name>
+        ensures { IfSome result (λ name. name ≡ self.now) }
+    {
+        self.name
+    }
+
+    /// The block of this name, blank COMMON as `Slashes`.
+    pub(crate) fn block(&self) -> BlockName
+        ensures { result ≡ block_of_name self.now }
+    {
+        match &self.name {
+            None => BlockName::Slashes,
+            Some(name) => named(name),
         }
     }
 

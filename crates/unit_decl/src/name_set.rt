@@ -35,6 +35,13 @@ impl NameSet {
         }
     }
 
+    /// The names in the order in which they came.
+    pub(crate) fn keys(&self) -> &[Key]
+        ensures { result.now ≡ self.now }
+    {
+        self.set.as_slice()
+    }
+
     /// Whether a name is in the set.
     pub fn has(&self, name: &Name) -> bool
         ensures { result ≡ is_among name.now self.now }

@@ -1,8 +1,8 @@
 // What names and labels of a unit are.
 ghost use Rattle.std.specs.Prelude.{◌≡◌, ◌&&◌, [], IfOk, OnOk};
-ghost use Rattle.fort_syntax.specs.Scopes.{same_name};
+ghost use Rattle.fort_syntax.specs.Scopes.{same_name, once};
 ghost use Rattle.fort_syntax.specs.NameRules.{commons_by};
-ghost use Rattle.fort_syntax.specs.Units.{names_in, own_name, references_in};
+ghost use Rattle.fort_syntax.specs.Units.{gathered, names_in, own_name, references_in, references_of};
 ghost use Rattle.fort_syntax.specs.Uses.{uses_of};
 ghost use Rattle.fort_syntax.specs.UseRules.{is_assigned, assigns};
 ghost use Rattle.unit_decl.specs.Commons.{given_from};
@@ -151,7 +151,9 @@ fn assigned_in(alloc: Global, own: &[u8], unit: &[Line]) -> Result<bool, NoMemor
 
 /// What names and labels of a unit are.
 pub fn roles_of(alloc: Global, unit: &[Line]) -> Result<Roles, NoMemory>
-    ensures { IfOk result (λ roles. use_facts_by roles (own_name unit.now) ≡ use_facts_of unit.now) }
+    ensures facts { IfOk result (λ roles. use_facts_by roles (own_name unit.now) ≡ use_facts_of unit.now) }
+    ensures names { IfOk result (λ roles. roles.names ≡ once (gathered names_in unit.now)) }
+    ensures references { IfOk result (λ roles. roles.references ≡ references_of unit.now) }
 {
     let Ok(scope) = scope_of(alloc, unit) else {
         return Err(NoMemory);
