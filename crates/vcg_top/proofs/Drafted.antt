@@ -5,7 +5,7 @@ use Rattle.formula.specs.declared.node.Node.{Node}
 use Rattle.formula.specs.declared.node.TermId.{TermId}
 use Rattle.formula.specs.Tree.{Tree}
 use Rattle.formula.specs.Pool.{AllBelow, Grows, IsIn, tree_of}
-use Rattle.formula.proofs.Grown.{AllBelow-Grows, Grows-trans, Grows-refl, IsIn-Grows, tree_of-Grows}
+use Rattle.formula.proofs.Grown.{AllBelow-Grows, Grows-trans, IsIn-Grows, tree_of-Grows}
 use Rattle.vcg_top.specs.declared.check.Binding.{Binding}
 use Rattle.vcg_top.specs.declared.check.Check.{Check}
 use Rattle.vcg_top.specs.Conditions.{CheckTree, check}

@@ -3,10 +3,10 @@ ghost use Rattle.std.specs.Prelude.{◌≡◌, IfOk, Err};
 ghost use Rattle.fort_syntax.specs.declared.refusal.Fault.{Fault};
 ghost use Rattle.vcg_top.specs.Answers.{IsDeckIn, IsFaultIn};
 
-use unit_decl::units;
 use card_deck::cards;
 use fort_syntax::{Deck, Dialect, Refusal};
 use std::alloc::Global;
+use unit_decl::units;
 
 /// The deck of some bytes. An error says their first fault, those of cards before all others, or
 /// that memory was wanted and not had.
