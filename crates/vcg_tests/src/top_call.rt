@@ -1,5 +1,5 @@
 // The top call over memory: texts, words, slow ends, and ends that fail.
-use crate::decks::{INC, INC_TEXT, OTHER, OTHER_TEXT};
+use crate::decks::{BLOCK_IF, FREE, FREE_TEXT, INC, INC_TEXT, OTHER, OTHER_TEXT, REFUSED};
 use edge_io::{MemSink, MemSource, Sink, Source};
 use std::alloc::Global;
 use std::test::Fail;
@@ -45,10 +45,61 @@ fn the_text_is_the_same_at_every_pace(rt: HostRuntime) -> Result<(), Fail> {
     Ok(())
 }
 
+/// The status and the text for a deck.
+fn answer(alloc: Global, words: &[&str], deck: &[u8]) -> Result<(Status, Vec<u8>), Fail> {
+    let mut source = source_of(alloc, deck, &[], 10_000)?;
+    let mut sink = sink_of(alloc, &[], 10_000)?;
+    let status = call(alloc, words, &mut source, &mut sink)?;
+    Ok((status, Vec::from_slice(alloc, sink.bytes())?))
+}
+
+#[test]
+fn decks_are_spelled_freely(rt: HostRuntime) -> Result<(), Fail> {
+    let alloc = rt.alloc();
+    let calls: [(&[&str], &[u8], &[u8]); 3] = [
+        (&["vc"], FREE, FREE_TEXT),
+        (&["vc", "77"], FREE, FREE_TEXT),
+        (&["vc", "77"], INC, INC_TEXT),
+    ];
+    for (words, deck, wanted) in calls {
+        let (status, text) = answer(alloc, words, deck)?;
+        assert_eq!(rt; status, Status::Done);
+        assert_eq!(rt; text.as_slice(), wanted);
+    }
+    Ok(())
+}
+
+#[test]
+fn the_first_fault_is_told(rt: HostRuntime) -> Result<(), Fail> {
+    let alloc = rt.alloc();
+    for (deck, wanted) in REFUSED {
+        let (status, text) = answer(alloc, &["vc", "77"], deck)?;
+        assert_eq!(rt; status, Status::Refused);
+        assert_eq!(rt; text.as_slice(), wanted);
+    }
+    let (status, text) = answer(alloc, &["vc"], BLOCK_IF)?;
+    assert_eq!(rt; status, Status::Refused);
+    assert_eq!(rt;
+        text.as_slice(),
+        b"REFUSED 7 Excluded THEN CARD 2\n".as_slice()
+    );
+    let (status, text) = answer(alloc, &["vc", "77"], BLOCK_IF)?;
+    assert_eq!(rt; status, Status::Refused);
+    assert_eq!(rt; text.as_slice(), OTHER_TEXT);
+    Ok(())
+}
+
 #[test]
 fn other_words_do_nothing(rt: HostRuntime) -> Result<(), Fail> {
     let alloc = rt.alloc();
-    let calls: [&[&str]; 4] = [&[], &["VC"], &["vc", "vc"], &["made", "x"]];
+    let calls: [&[&str]; 6] = [
+        &[],
+        &["VC"],
+        &["vc", "vc"],
+        &["vc", "66"],
+        &["77", "vc"],
+        &["vc", "77", "77"],
+    ];
     for words in calls {
         let mut source = source_of(alloc, INC, &[], 10_000)?;
         let mut sink = sink_of(alloc, &[], 10_000)?;

@@ -5,7 +5,7 @@ use Rattle.formula.specs.declared.node.Node.{Node}
 use Rattle.formula.specs.declared.node.TermId.{TermId}
 use Rattle.formula.specs.Tree.{Tree}
 use Rattle.formula.specs.Pool.{AllBelow, Grows, IsIn, tree_of}
-use Rattle.formula.proofs.Grown.{AllBelow-Grows, Grows-trans, Grows-refl, IsIn-Grows, tree_of-Grows}
+use Rattle.formula.proofs.Grown.{AllBelow-Grows, Grows-trans, IsIn-Grows, tree_of-Grows}
 use Rattle.vcg_top.specs.declared.check.Binding.{Binding}
 use Rattle.vcg_top.specs.declared.check.Check.{Check}
 use Rattle.vcg_top.specs.Conditions.{CheckTree, check}
@@ -82,13 +82,6 @@ AllBelow-append n (x ∷ ids) id h k = (h.0, AllBelow-append n ids id h.1 k)
 pub trees_in-append : (pool : List Node) (ids : List TermId) (id : TermId) → trees_in pool (ids ++ id ∷ []) ≡ trees_in pool ids ++ tree_of pool id ∷ []
 trees_in-append pool [] id = refl
 trees_in-append pool (x ∷ ids) id = ap (λ r. tree_of pool x ∷ r) (trees_in-append pool ids id)
-
-pub AddsTerms-none : (pool : List Node) (ids : List TermId) → AllBelow (length pool) ids → AddsTerms pool pool ids ids []
-AddsTerms-none pool ids h = record {
-  grows = Grows-refl pool;
-  known = h;
-  is = (let whole : trees_in pool ids ≡ trees_in pool ids ++ [] = grind (arith, common_steps) in whole);
-}
 
 pub AddsTerms-trans : (a b c : List Node) (x y z : List TermId) (p q : List Tree) → AddsTerms a b x y p → AddsTerms b c y z q → AddsTerms a c x z (p ++ q)
 AddsTerms-trans a b c x y z p q s t = record {

@@ -1,6 +1,8 @@
 pub mod Drafted
 pub mod Evaluated
 pub mod Found
+pub mod OneDeck
+pub mod Operations
 pub mod PathMade
 pub mod Rebound
 pub mod Sized
@@ -9,4 +11,3 @@ pub mod Steps
 pub mod TermsRead
 pub mod Replies
 pub mod Taken
-pub mod Words

@@ -1,5 +1,5 @@
 -- Terms of notes under the bindings.
-use Rattle.std.proofs.Common.{◌≡◌, ℕ, ◌-◌, ◌<◌, ◌≤◌, length, take, drop, get_or, sym, subst, arith, Bool, true, false, if◌then◌else◌, Option, Some, List, [], ◌∷◌, ◌++◌, map, refl, ap, ◌∙◌}
+use Rattle.std.proofs.Common.{◌≡◌, ℕ, ◌-◌, ◌≤◌, length, take, drop, get_or, sym, subst, arith, Bool, true, false, if◌then◌else◌, Option, Some, List, [], ◌∷◌, ◌++◌, map, refl, ap, ◌∙◌}
 use Rattle.std.proofs.lemmas.Grind.{common_steps}
 use Rattle.formula.specs.declared.node.Node.{Node}
 use Rattle.formula.specs.declared.node.TermId.{TermId}
@@ -49,9 +49,6 @@ first_rest (x ∷ xs) d h = grind (arith, common_steps)
 
 pub rest_below : (n : ℕ) (ids rest : List TermId) (first : TermId) → ids ≡ first ∷ rest → AllBelow n ids → AllBelow n rest
 rest_below n ids rest first e h = (rw e at h).1
-
-pub first_below : (n : ℕ) (ids rest : List TermId) (first : TermId) → ids ≡ first ∷ rest → AllBelow n ids → first.place < n
-first_below n ids rest first e h = (rw e at h).0
 
 -- a term was stated and added, and then the rest
 pub stated_step : (p0 p1 p2 : List Node) (bs : List Binding) (ids rest : List TermId) (first id : TermId) (terms0 terms1 terms2 : List TermId)

@@ -8,9 +8,10 @@ use Rattle.formula.proofs.Grown.{Grows-trans}
 use Rattle.vcg_top.specs.declared.check.Binding.{Binding}
 use Rattle.vcg_top.specs.declared.check.Check.{Check}
 use Rattle.fort_syntax.specs.declared.condition.Kind.TheVariants.{OutputCheck}
-use Rattle.vcg_top.specs.Conditions.{Bound, CheckTree, bounds, hypotheses_of, cell_of, entered, entered_all, entry_of, output_check, sort_of, stated}
+use Rattle.vcg_top.specs.declared.assignment.Assigned.{Assigned}
+use Rattle.vcg_top.specs.Conditions.{Bound, CheckTree, assigned_in, bounds, hypotheses_of, cell_of, entered, entered_all, entry_of, evaluated, output_check, sort_of, stated, walked}
 use Rattle.vcg_top.specs.Drafts.{Adds, AddsTerms, AreBound, AreChecks, bound_in, bound_of, check_of, checks_in, output_of, trees_in}
-use Rattle.vcg_top.proofs.Drafted.{bound_in-Grows, trees_in-Grows, AreChecks-Grows, checks_in-Grows, AddsTerms-one, AddsTerms-trans}
+use Rattle.vcg_top.proofs.Drafted.{bound_in-Grows, trees_in-Grows, AreChecks-Grows, checks_in-Grows, Adds-trans, AddsTerms-one, AddsTerms-trans}
 
 -- ---- bindings
 
@@ -45,9 +46,6 @@ enter_step p0 p1 p2 dummies rest first id bs0 bs1 bs2 e h g t pushed later =
 
 pub rest_bound : (pool : List Node) (bs rest : List Binding) (first : Binding) → bs ≡ first ∷ rest → AreBound pool bs → AreBound pool rest
 rest_bound pool bs rest first e h = (rw e at h).1
-
-pub first_bound : (pool : List Node) (bs rest : List Binding) (first : Binding) → bs ≡ first ∷ rest → AreBound pool bs → IsIn pool first.entry
-first_bound pool bs rest first e h = (rw e at h).0.1
 
 pub sorts_step : (p0 p1 p2 : List Node) (bs rest : List Binding) (first : Binding) (id : TermId) (terms0 terms1 terms2 : List TermId)
     → bs ≡ first ∷ rest → AreBound p0 bs → AllBelow (length p0) terms0
@@ -109,3 +107,15 @@ hypotheses_added p0 p1 p2 p3 bs ids t0 t1 t2 t3 h below e first second third =
     subst (λ (ts : List Tree). AddsTerms p2 p3 t2 t3 ts) (λ i. map (stated (bound_in-Grows p0 p2 bs g2 h i)) (trees_in-Grows p0 p2 ids g2 below i)) third in
     subst (λ (t : List TermId). AddsTerms p0 p3 t t3 (hypotheses_of (bound_in p0 bs) (trees_in p0 ids))) e
     (AddsTerms-trans p0 p2 p3 t0 t2 t3 _ _ (AddsTerms-trans p0 p1 p2 t0 t1 t2 _ _ first sorts) terms)
+
+-- ---- assignments
+
+-- an assignment, and those behind it
+pub walked_adds : (p0 p1 p2 : List Node) (env after : List Bound) (body rest : List Assigned) (first : Assigned) (c0 c1 c2 : List Check) → body ≡ first ∷ rest
+    → Adds p0 p1 c0 c1 (evaluated env first.card first.value).checks
+    → after ≡ assigned_in env first.target (evaluated env first.card first.value).term
+    → Adds p1 p2 c1 c2 (walked after rest).checks
+    → Adds p0 p2 c0 c2 (walked env body).checks
+walked_adds p0 p1 p2 env after body rest first c0 c1 c2 e s v t =
+    subst (λ (l : List Assigned). Adds p0 p2 c0 c2 (walked env l).checks) (sym e)
+    (Adds-trans p0 p1 p2 c0 c1 c2 _ _ s (subst (λ (a : List Bound). Adds p1 p2 c1 c2 (walked a rest).checks) v t))

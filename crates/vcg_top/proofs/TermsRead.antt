@@ -1,23 +1,14 @@
 -- The terms of a text, one after another.
-use Rattle.std.proofs.Common.{◌≡◌, ℕ, suc, ◌<◌, ◌-◌, Bool, true, false, ◌&&◌, if◌then◌else◌, Option, Some, None, List, [], ◌∷◌, ◌++◌, length, take, drop, refl, sym, ap, ◌∙◌, arith, length-drop}
+use Rattle.std.proofs.Common.{◌≡◌, ℕ, suc, ◌-◌, Bool, true, false, if◌then◌else◌, Option, Some, None, List, [], ◌∷◌, ◌++◌, length, take, drop, sym, ap, ◌∙◌, arith, length-drop}
 use Rattle.std.proofs.lemmas.List.{take_all}
 use Rattle.formula.specs.declared.node.Node.{Node}
 use Rattle.formula.specs.declared.node.TermId.{TermId}
 use Rattle.formula.specs.Tree.{Tree}
-use Rattle.formula.specs.Atoms.{same_bytes, starts}
 use Rattle.formula.specs.Pool.{AllBelow, Grows, IsIn, tree_of}
-use Rattle.vcg_top.specs.FirstForm.{when, is_blank, is_separator, plain_term, terms_from, terms_of, note_of}
+use Rattle.vcg_top.specs.FirstForm.{when, has_word, is_blank, plain_term, terms_from, terms_of, note_of}
 use Rattle.vcg_top.specs.Drafts.{trees_in}
 use Rattle.formula.proofs.Grown.{AllBelow-Grows}
-use Rattle.vcg_top.proofs.Drafted.{trees_in-Grows}
-
-AllBelow-append : (n : ℕ) (ids : List TermId) (id : TermId) → AllBelow n ids → id.place < n → AllBelow n (ids ++ id ∷ [])
-AllBelow-append n [] id h k = (k, tt)
-AllBelow-append n (first ∷ ids) id h k = (h.0, AllBelow-append n ids id h.1 k)
-
-trees_in-append : (pool : List Node) (ids : List TermId) (id : TermId) → trees_in pool (ids ++ id ∷ []) ≡ trees_in pool ids ++ tree_of pool id ∷ []
-trees_in-append pool [] id = refl
-trees_in-append pool (first ∷ ids) id = ap (λ r. tree_of pool first ∷ r) (trees_in-append pool ids id)
+use Rattle.vcg_top.proofs.Drafted.{AllBelow-append, trees_in-append, trees_in-Grows}
 
 -- what comes behind these terms
 abbrev behind : List (List ℕ) → Bool → List Tree → ℕ → List ℕ → Tree × ℕ → Option (List Tree)
@@ -54,12 +45,9 @@ rest_whole n text =
     let long : length (drop n text) ≡ length text - n = length-drop n text in
     take_all (length text - n) (drop n text) (omega arith)
 
-pub note_of-separated : (dummies : List (List ℕ)) (entries : Bool) (word card text : List ℕ) → text ≡ drop (length word) card
-    → same_bytes word (take (length word) card) ≡ true → starts is_separator text ≡ true
-    → terms_of dummies entries text ≡ note_of dummies entries word card
-note_of-separated dummies entries word card text t w s =
-    let rest = drop (length word) card in
-    let apart : starts is_separator rest ≡ true = ap (starts is_separator) (sym t) ∙ s in
-    ap (terms_of dummies entries) t
-    ∙ sym (ap (λ (c : Bool). if c && starts is_separator rest then terms_of dummies entries rest else None) w
-    ∙ ap (λ (c : Bool). if c then terms_of dummies entries rest else None) apart)
+-- behind its word
+pub note_of-word : (dummies : List (List ℕ)) (entries : Bool) (word text rest : List ℕ) → rest ≡ drop (length word) text
+    → has_word word text ≡ true → terms_of dummies entries rest ≡ note_of dummies entries word text
+note_of-word dummies entries word text rest e h =
+    ap (terms_of dummies entries) e
+    ∙ sym (ap (λ (c : Bool). if c then terms_of dummies entries (drop (length word) text) else None) h)

@@ -14,7 +14,8 @@ use Rattle.vcg_top.specs.declared.expression.Expression.{Expression, fold-Expres
 use Rattle.vcg_top.specs.declared.expression.Expression.TheOpen.{Expression-F}
 use Rattle.vcg_top.specs.declared.assignment.Assigned.{Assigned}
 use Rattle.event_text.specs.Conditions.{ConditionTree}
-use Rattle.vcg_top.specs.FirstForm.{Deck, spelled_deck, when}
+use Rattle.vcg_top.specs.FirstForm.{FirstTree, first_form, when}
+use Rattle.fort_syntax.specs.declared.deck.Deck.{Deck}
 
 -- ---- terms
 
@@ -110,16 +111,16 @@ evaluated_step bound card (Expression-F.Operation op a b) =
 abbrev pub evaluated : List Bound → ℕ → Expression → Evaluated
 evaluated bound card = fold-Expression Evaluated (evaluated_step bound card)
 
--- the values after some assignments, and their checks; the first stands on the card
+-- the values after some assignments, and their checks
 pub record Walked : Type 0 where
   pub bound : List Bound
   pub checks : List CheckTree
 
-abbrev pub walked : List Bound → ℕ → List Assigned → Walked
-walked bound card [] = record { bound = bound; checks = [] }
-walked bound card (a ∷ rest) =
-    let e = evaluated bound card a.value in
-    let later = walked (assigned_in bound a.target e.term) (card + 1) rest in
+abbrev pub walked : List Bound → List Assigned → Walked
+walked bound [] = record { bound = bound; checks = [] }
+walked bound (a ∷ rest) =
+    let e = evaluated bound a.card a.value in
+    let later = walked (assigned_in bound a.target e.term) rest in
     record { bound = later.bound; checks = e.checks ++ later.checks }
 
 -- ---- conditions
@@ -146,13 +147,12 @@ hypotheses_of bound input = bounds ++ map sort_of bound ++ map (stated bound) in
 abbrev pub output_check : List Bound → ℕ → Tree → CheckTree
 output_check bound card t = check OutputCheck card (stated bound t)
 
--- the checks of the one path, in order: those of the assignments, which begin on card 4, and the output assertion at
--- the RETURN behind them
+-- the checks of the one path, in order: those of the assignments, and the output assertion at the card of the RETURN
 abbrev pub path_checks : Walked → ℕ → List Tree → List CheckTree
 path_checks w card output = w.checks ++ map (output_check w.bound card) output
 
-abbrev pub checks_of : Deck → List CheckTree
-checks_of d = path_checks (walked (entered_all d.dummies) 4 d.body) (4 + length d.body) d.output
+abbrev pub checks_of : FirstTree → List CheckTree
+checks_of d = path_checks (walked (entered_all d.dummies) d.body) d.last d.output
 
 -- the conditions of some checks, where those of these hypotheses were made: what was checked is a hypothesis from then on
 abbrev pub numbered : List ℕ → ℕ → List Tree → List CheckTree → List ConditionTree
@@ -162,13 +162,13 @@ numbered unit k hyps (c ∷ rest) =
     ∷ numbered unit (k + 1) (hyps ++ c.goal ∷ []) rest
 
 -- the conditions of a deck
-abbrev pub conditions_of : Deck → List ConditionTree
+abbrev pub conditions_of : FirstTree → List ConditionTree
 conditions_of d = numbered d.unit 1 (hypotheses_of (entered_all d.dummies) d.input) (checks_of d)
 
 -- a deck has at most 100,000 conditions, a limit that no deck of the first form comes near
-abbrev pub within_limit : Deck → Option Deck
+abbrev pub within_limit : FirstTree → Option FirstTree
 within_limit d = if nat_le (length (checks_of d)) 100000 then Some d else None
 
--- the deck of an input of the first form
-abbrev pub first_deck : List ℕ → Option Deck
-first_deck bytes = when (spelled_deck bytes) within_limit
+-- a deck of the first form with few conditions
+abbrev pub first_deck : Deck → Option FirstTree
+first_deck deck = when (first_form deck) within_limit

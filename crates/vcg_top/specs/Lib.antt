@@ -4,5 +4,4 @@ pub mod Decks
 pub mod Drafts
 pub mod FirstForm
 pub mod Found
-pub mod Splitting
 pub mod Status

@@ -3,7 +3,7 @@ use formula::TermId;
 use fort_syntax::{Kind, Name};
 
 /// A dummy with the term of its value, and of its value at entry.
-#[derive(Clone, Copy, Debug)]
+#[derive(Clone, Copy)]
 pub(crate) struct Binding {
     pub name: Name,
     pub value: TermId,
@@ -11,7 +11,7 @@ pub(crate) struct Binding {
 }
 
 /// What is to be shown at a card.
-#[derive(Clone, Copy, Debug)]
+#[derive(Clone, Copy)]
 pub(crate) struct Check {
     pub kind: Kind,
     pub card: u32,

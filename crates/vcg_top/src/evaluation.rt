@@ -9,6 +9,7 @@ ghost use Rattle.vcg_top.specs.Drafts.{found, AreBound, AreChecks, Adds, bound_i
 use crate::check::{Binding, Check};
 use crate::expression::Expression;
 use crate::goals::{check_defined, check_range, constant};
+use crate::statement::word;
 use edge_io::NoMemory;
 use formula::{BuiltIn, TermId, TermPool, Word};
 use fort_syntax::{BinOp, Name};
@@ -41,15 +42,6 @@ pub(crate) fn value(
         return Ok(symbol);
     };
     Ok(binding.value)
-}
-
-fn word(name: &Name) -> Word
-    ensures { result ≡ name.now }
-{
-    match Word::new(name.as_bytes()) {
-        Some(word) => word,
-        None => unreachable!(),
-    }
 }
 
 // The term of a variable, which is read.

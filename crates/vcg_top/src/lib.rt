@@ -4,23 +4,22 @@
 mod assignment;
 mod call;
 mod check;
-mod deck_text;
+mod deck_conditions;
 mod evaluation;
 mod expression;
 mod first_form;
 mod goals;
-mod heading;
 mod hypotheses;
+mod judging;
 mod notes;
 mod numbering;
 mod path;
 mod plain;
 mod reading;
-mod spelling;
-mod splitting;
 mod statement;
 mod status;
 mod walk;
+mod words;
 
 pub use call::vcg;
 pub use status::Status;

@@ -1,15 +1,16 @@
-// Assertions on cards.
+// Assertions in notes.
 ghost use Rattle.std.specs.Prelude.{◌≡◌, ◌≤◌, [], length, IfOk, IfSome};
 ghost use Rattle.std.specs.Option.{option_map};
 ghost use Rattle.formula.specs.Atoms.{starts};
 ghost use Rattle.formula.specs.Pool.{AllBelow, Grows, IsIn};
-ghost use Rattle.vcg_top.specs.FirstForm.{is_blank as blank, is_separator, note_of, plain_term as plain_term_of, plain_terms as plain_terms_of, terms_of};
+ghost use Rattle.vcg_top.specs.FirstForm.{assertions_in_order, assertions_of, has_word as begins_with_word, is_blank as blank, is_first_note as first_note, is_separator, note_of, noted_assertions, plain_term as plain_term_of, plain_terms as plain_terms_of, terms_of, trimmed};
+ghost use Rattle.vcg_top.specs.Decks.{assertions_in};
 ghost use Rattle.vcg_top.specs.Drafts.{tree_read, trees_in};
 
 use crate::plain::is_plain;
 use edge_io::{List, NoMemory};
 use formula::{Definitions, ReadFault, TermId, TermPool, read_term};
-use fort_syntax::Name;
+use fort_syntax::{Name, Placed};
 use std::alloc::Global;
 
 fn is_blank(text: &[u8]) -> bool
@@ -110,26 +111,109 @@ fn is_separated(text: &[u8]) -> bool
     }
 }
 
-/// The terms of an assertion whose card begins with this word, where each is plain; none where the
-/// card has another form. `entries` tells whether OLD may stand in them.
-pub(crate) fn note(
+// The text without the blanks that it begins with.
+fn trim(text: &[u8]) -> &[u8]
+    ensures { result.now ≡ trimmed text.now }
+{
+    match text {
+        [b' ', rest @ ..] => trim(rest),
+        _ => text,
+    }
+}
+
+// Whether a text begins with this word, and a blank or a bracket behind it.
+fn has_word(word: &[u8], text: &[u8]) -> bool
+    ensures { result ≡ begins_with_word word.now text.now }
+{
+    text.starts_with(word) && is_separated(&text[word.len()..])
+}
+
+// The terms of an assertion whose text begins with this word, where each is plain; none where the
+// text has another form. `entries` tells whether OLD may stand in them.
+fn note(
     alloc: Global,
     pool: &mut TermPool,
     dummies: &[Name],
     entries: bool,
     word: &[u8],
-    card: &[u8],
+    text: &[u8],
 ) -> Result<Option<List<TermId>>, NoMemory>
-    ensures value { IfOk result (λ o. option_map (trees_in pool.new) o ≡ note_of dummies.now entries word.now card.now) }
+    ensures value { IfOk result (λ o. option_map (trees_in pool.new) o ≡ note_of dummies.now entries word.now text.now) }
     ensures known { IfOk result (λ o. IfSome o (AllBelow (length pool.new))) }
     ensures grows { Grows pool.old pool.new }
 {
-    if !card.starts_with(word) {
+    if !has_word(word, text) {
         return Ok(None);
     }
-    let text = &card[word.len()..];
-    if !is_separated(text) {
+    terms(alloc, pool, dummies, entries, &text[word.len()..])
+}
+
+// The input and the output assertion of these texts.
+fn in_order(
+    alloc: Global,
+    pool: &mut TermPool,
+    dummies: &[Name],
+    input: &[u8],
+    output: &[u8],
+) -> Result<Option<(List<TermId>, List<TermId>)>, NoMemory>
+    ensures value { IfOk result (λ o. option_map (assertions_in pool.new) o ≡ assertions_in_order dummies.now input.now output.now) }
+    ensures input { IfOk result (λ o. IfSome o (λ ids. AllBelow (length pool.new) ids.0)) }
+    ensures output { IfOk result (λ o. IfSome o (λ ids. AllBelow (length pool.new) ids.1)) }
+    ensures grows { Grows pool.old pool.new }
+{
+    let Some(before) = note(alloc, pool, dummies, false, b"INPUT", input)? else {
+        return Ok(None);
+    };
+    let Some(after) = note(alloc, pool, dummies, true, b"OUTPUT", output)? else {
+        return Ok(None);
+    };
+    Ok(Some((before, after)))
+}
+
+// The assertions of two texts, in either order.
+fn in_any_order(
+    alloc: Global,
+    pool: &mut TermPool,
+    dummies: &[Name],
+    first: &[u8],
+    second: &[u8],
+) -> Result<Option<(List<TermId>, List<TermId>)>, NoMemory>
+    ensures value { IfOk result (λ o. option_map (assertions_in pool.new) o ≡ assertions_of dummies.now first.now second.now) }
+    ensures input { IfOk result (λ o. IfSome o (λ ids. AllBelow (length pool.new) ids.0)) }
+    ensures output { IfOk result (λ o. IfSome o (λ ids. AllBelow (length pool.new) ids.1)) }
+    ensures grows { Grows pool.old pool.new }
+{
+    if has_word(b"INPUT", first) {
+        in_order(alloc, pool, dummies, first, second)
+    } else {
+        in_order(alloc, pool, dummies, second, first)
+    }
+}
+
+// Whether a note is on one card, which stands in the first unit before all executable statements.
+fn is_first_note(note: &Placed) -> bool
+    ensures { result ≡ first_note note.now }
+{
+    note.unit == 1 && note.line == 0 && note.text.as_slice().len() <= 69
+}
+
+/// The terms of the input and of the output assertion that two notes are, if they are.
+pub(crate) fn assertions(
+    alloc: Global,
+    pool: &mut TermPool,
+    dummies: &[Name],
+    first: &Placed,
+    second: &Placed,
+) -> Result<Option<(List<TermId>, List<TermId>)>, NoMemory>
+    ensures value { IfOk result (λ o. option_map (assertions_in pool.new) o ≡ noted_assertions dummies.now first.now second.now) }
+    ensures input { IfOk result (λ o. IfSome o (λ ids. AllBelow (length pool.new) ids.0)) }
+    ensures output { IfOk result (λ o. IfSome o (λ ids. AllBelow (length pool.new) ids.1)) }
+    ensures grows { Grows pool.old pool.new }
+{
+    if !is_first_note(first) || !is_first_note(second) {
         return Ok(None);
     }
-    terms(alloc, pool, dummies, entries, text)
+    let first = trim(first.text.as_slice());
+    let second = trim(second.text.as_slice());
+    in_any_order(alloc, pool, dummies, first, second)
 }

@@ -1,5 +1,5 @@
 // The one path of a deck: what is known at its start, and what is checked on it.
-ghost use Rattle.std.specs.Prelude.{◌≡◌, ◌≤◌, length, IfOk, OnOk};
+ghost use Rattle.std.specs.Prelude.{◌≡◌, length, IfOk, OnOk};
 ghost use Rattle.formula.specs.Pool.{AllBelow, Grows};
 ghost use Rattle.vcg_top.specs.Conditions.{entered_all};
 ghost use Rattle.vcg_top.specs.Decks.{IsPathOf};
@@ -12,9 +12,6 @@ use crate::walk::walk;
 use edge_io::NoMemory;
 use formula::{TermId, TermPool};
 use std::alloc::Global;
-
-// The assignments begin on this card.
-const FIRST_CARD: u32 = 4;
 
 /// The hypotheses at the entry, and the checks in order.
 #[derive(Drop)]
@@ -32,7 +29,6 @@ fn path_from(
 ) -> Result<Path, NoMemory>
     requires input { AllBelow (length pool.old) deck.now.input }
     requires output { AllBelow (length pool.old) deck.now.output }
-    requires short { length deck.now.body ≤ 2 }
     requires bound { AreBound pool.old bindings.old }
     requires entered { bound_in pool.old bindings.old ≡ entered_all deck.now.dummies }
     ensures path { IfOk result (λ p. IsPathOf pool.new deck.now p.hyps.items p.checks.items) }
@@ -41,10 +37,9 @@ fn path_from(
     let hyps = hypotheses(alloc, pool, bindings, deck.input.as_slice())?;
     let mut checks = Vec::new(alloc);
     let body = deck.body.as_slice();
-    walk(pool, bindings, FIRST_CARD, body, &mut checks)?;
-    let card = FIRST_CARD + body.len() as u32;
+    walk(pool, bindings, body, &mut checks)?;
     let output = deck.output.as_slice();
-    check_outputs(alloc, pool, bindings, card, output, &mut checks)?;
+    check_outputs(alloc, pool, bindings, deck.last, output, &mut checks)?;
     Ok(Path { hyps, checks })
 }
 
@@ -56,7 +51,6 @@ pub(crate) fn path_of(
 ) -> Result<Path, NoMemory>
     requires input { AllBelow (length pool.old) deck.now.input }
     requires output { AllBelow (length pool.old) deck.now.output }
-    requires short { length deck.now.body ≤ 2 }
     ensures path { IfOk result (λ p. IsPathOf pool.new deck.now p.hyps.items p.checks.items) }
     ensures grows { OnOk result (Grows pool.old pool.new) }
 {

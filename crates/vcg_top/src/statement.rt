@@ -18,7 +18,8 @@ pub(crate) struct Meaning {
     pub entries: Vec<WordBinding>,
 }
 
-fn word(name: &Name) -> Word
+/// The word of a name.
+pub(crate) fn word(name: &Name) -> Word
     ensures { result ≡ name.now }
 {
     match Word::new(name.as_bytes()) {

@@ -1,5 +1,5 @@
 // The assignments along the path.
-ghost use Rattle.std.specs.Prelude.{◌≡◌, ◌+◌, ◌<◌, ◌^◌, length, OnOk};
+ghost use Rattle.std.specs.Prelude.{◌≡◌, OnOk};
 ghost use Rattle.formula.specs.Pool.{Grows, IsIn, tree_of};
 ghost use Rattle.vcg_top.specs.Conditions.{assigned_in, evaluated, walked};
 ghost use Rattle.vcg_top.specs.Drafts.{AreBound, AreChecks, Adds, bound_in, rebound};
@@ -29,7 +29,6 @@ fn assign(bindings: &mut [Binding], name: &Name, value: TermId)
 fn perform(
     pool: &mut TermPool,
     bindings: &mut [Binding],
-    card: u32,
     statement: &Assigned,
     checks: &mut Vec<Check>,
 ) -> Result<(), NoMemory>
@@ -37,35 +36,33 @@ fn perform(
     requires known { AreChecks pool.old checks.old.items }
     ensures grows { Grows pool.old pool.new }
     ensures bound { OnOk result (AreBound pool.new bindings.new) }
-    ensures values { OnOk result (bound_in pool.new bindings.new ≡ assigned_in (bound_in pool.old bindings.old) statement.now.target (evaluated (bound_in pool.old bindings.old) card statement.now.value).term) }
-    ensures adds { OnOk result (Adds pool.old pool.new checks.old.items checks.new.items (evaluated (bound_in pool.old bindings.old) card statement.now.value).checks) }
+    ensures values { OnOk result (bound_in pool.new bindings.new ≡ assigned_in (bound_in pool.old bindings.old) statement.now.target (evaluated (bound_in pool.old bindings.old) statement.now.card statement.now.value).term) }
+    ensures adds { OnOk result (Adds pool.old pool.new checks.old.items checks.new.items (evaluated (bound_in pool.old bindings.old) statement.now.card statement.now.value).checks) }
 {
-    let value = evaluate(pool, bindings, card, &statement.value, checks)?;
+    let value = evaluate(pool, bindings, statement.card, &statement.value, checks)?;
     assign(bindings, &statement.target, value);
     Ok(())
 }
 
-/// Performs assignments, the first of which stands on the card.
+/// Performs assignments.
 pub(crate) fn walk(
     pool: &mut TermPool,
     bindings: &mut [Binding],
-    card: u32,
     body: &[Assigned],
     checks: &mut Vec<Check>,
 ) -> Result<(), NoMemory>
-    requires cards { card + length body.now < 2 ^ 32 }
     requires bound { AreBound pool.old bindings.old }
     requires known { AreChecks pool.old checks.old.items }
     ensures grows { Grows pool.old pool.new }
     ensures bound { OnOk result (AreBound pool.new bindings.new) }
-    ensures values { OnOk result (bound_in pool.new bindings.new ≡ (walked (bound_in pool.old bindings.old) card body.now).bound) }
-    ensures adds { OnOk result (Adds pool.old pool.new checks.old.items checks.new.items (walked (bound_in pool.old bindings.old) card body.now).checks) }
+    ensures values { OnOk result (bound_in pool.new bindings.new ≡ (walked (bound_in pool.old bindings.old) body.now).bound) }
+    ensures adds { OnOk result (Adds pool.old pool.new checks.old.items checks.new.items (walked (bound_in pool.old bindings.old) body.now).checks) }
 {
     match body {
         [] => Ok(()),
         [first, rest @ ..] => {
-            perform(pool, bindings, card, first, checks)?;
-            walk(pool, bindings, card + 1, rest, checks)?;
+            perform(pool, bindings, first, checks)?;
+            walk(pool, bindings, rest, checks)?;
             Ok(())
         }
     }

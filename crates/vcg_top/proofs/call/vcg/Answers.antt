@@ -1,36 +1,30 @@
-use Rattle.std.proofs.Common.{◌∙◌, ap, sym, subst, is_some, true≢false}
-use Rattle.std.specs.Io.KnownBytes.{Appends}
-use Rattle.event_text.specs.Sending.{AppendsPart}
-use Rattle.vcg_top.specs.Answers.{reply_to}
-use Rattle.vcg_top.proofs.Replies.{none_found, some_found}
+use Rattle.std.proofs.Common.{◌∙◌}
+use Rattle.vcg_top.proofs.Replies.{asked_is, done_for, refused_for, part_for, never_refused, done_or_starved}
 use Rattle.vcg_top.proofs.call.vcg.Goals as goal
 
-pub returns-in-Ok-None-clause-refused : goal.returns-in-Ok-None-clause-refused
-returns-in-Ok-None-clause-refused g c bytes told is =
-    let read = c.in-Ok.ensures.told bytes told in
-    let none = none_found _ _ bytes (c.deref.ensures.value ∙ read.0) c.in-Ok-None.field-0-is c.in-Ok-None.ensures.value in
-    (none, read.1, subst (Appends _ _) (sym (ap reply_to none)) (c.refuse.ensures.refused is))
-
-pub returns-in-Ok-None-clause-part : goal.returns-in-Ok-None-clause-part
-returns-in-Ok-None-clause-part g c bytes told is =
-    let read = c.in-Ok.ensures.told bytes told in
-    let none = none_found _ _ bytes (c.deref.ensures.value ∙ read.0) c.in-Ok-None.field-0-is c.in-Ok-None.ensures.value in
-    (read.1, subst (AppendsPart _ _) (sym (ap reply_to none)) (c.refuse.ensures.part is))
-
-pub returns-in-Ok-None-clause-complete : goal.returns-in-Ok-None-clause-complete
-returns-in-Ok-None-clause-complete g c bytes told words deck source sink =
-    let read = c.in-Ok.ensures.told bytes told in
-    let none = none_found _ _ bytes (c.deref.ensures.value ∙ read.0) c.in-Ok-None.field-0-is c.in-Ok-None.ensures.value in
-    absurd (true≢false (sym deck ∙ ap is_some none))
-
 pub returns-clause-done : goal.returns-clause-done
-returns-clause-done g c bytes told is =
+returns-clause-done g c d bytes asks told is =
     let read = c.in-Ok.ensures.told bytes told in
-    let found = some_found _ _ bytes c.in-Ok-Some.found (c.deref.ensures.value ∙ read.0) c.in-Ok-Some.field-0-is c.in-Ok-Some.ensures.value in
-    (found.0, read.1, subst (Appends _ _) found.1 (c.tell.ensures.done is))
+    let same = asked_is _ _ c.in-Some.dialect d c.in-Some.is c.dialect_of.ensures asks in
+    (read.1, done_for c.in-Some.dialect d _ bytes _ _ same (c.deref.ensures.value ∙ read.0) (c.answer.ensures.done is))
+
+pub returns-clause-refused : goal.returns-clause-refused
+returns-clause-refused g c d bytes asks told is =
+    let read = c.in-Ok.ensures.told bytes told in
+    let same = asked_is _ _ c.in-Some.dialect d c.in-Some.is c.dialect_of.ensures asks in
+    (read.1, refused_for c.in-Some.dialect d _ bytes _ _ same (c.deref.ensures.value ∙ read.0) (c.answer.ensures.refused is))
 
 pub returns-clause-part : goal.returns-clause-part
-returns-clause-part g c bytes told is =
+returns-clause-part g c d bytes asks told is =
     let read = c.in-Ok.ensures.told bytes told in
-    let found = some_found _ _ bytes c.in-Ok-Some.found (c.deref.ensures.value ∙ read.0) c.in-Ok-Some.field-0-is c.in-Ok-Some.ensures.value in
-    (read.1, subst (AppendsPart _ _) found.1 (c.tell.ensures.part is))
+    let same = asked_is _ _ c.in-Some.dialect d c.in-Some.is c.dialect_of.ensures asks in
+    (read.1, part_for c.in-Some.dialect d _ bytes _ _ same (c.deref.ensures.value ∙ read.0) (c.answer.ensures.part is))
+
+pub returns-clause-complete : goal.returns-clause-complete
+returns-clause-complete g c d bytes deck asks told is some source sink =
+    let read = c.in-Ok.ensures.told bytes told in
+    let same = asked_is _ _ c.in-Some.dialect d c.in-Some.is c.dialect_of.ensures asks in
+    done_or_starved c.answer.result c.answer.ensures.only
+    (λ refused. never_refused d bytes deck _ _ is some
+    (refused_for c.in-Some.dialect d _ bytes _ _ same (c.deref.ensures.value ∙ read.0) (c.answer.ensures.refused refused)))
+    (λ failed. sink (c.answer.ensures.cause failed))

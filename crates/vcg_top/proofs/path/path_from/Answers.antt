@@ -1,4 +1,4 @@
-use Rattle.std.proofs.Common.{List, [], ◌+◌, ◌∙◌, ap, length, map, subst}
+use Rattle.std.proofs.Common.{List, [], ◌∙◌, ap, map, refl, subst}
 use Rattle.formula.specs.declared.node.TermId.{TermId}
 use Rattle.formula.proofs.Grown.{AllBelow-Grows, Grows-trans}
 use Rattle.vcg_top.specs.declared.assignment.Assigned.{Assigned}
@@ -26,11 +26,10 @@ returns c =
     let walked_checks = c.walk.new.checks.items in
     let all_checks = c.check_outputs.new.checks.items in
     let hypos = subst (λ (l : List TermId). AddsTerms start second [] c.in_ok-hyps.hyps.items (hypotheses_of (bound_in start c.args.bindings.now) (trees_in start l))) c.as_slice.ensures c.in_ok-hyps.ensures in
-    let values = c.in_ok-walk.ensures.values ∙ ap (λ (l : List Assigned). (walked env 4 l).bound) c.as_slice-body.ensures in
-    let adds = subst (λ (l : List Assigned). Adds second third checks walked_checks (walked env 4 l).checks) c.as_slice-body.ensures c.in_ok-walk.ensures.adds in
-    let card = ap (λ (l : List Assigned). 4 + length l) c.as_slice-body.ensures in
-    let outputs = subst (λ (l : List TermId). Adds third last walked_checks all_checks (map (output_check (bound_in third c.walk.new.bindings) (4 + length c.as_slice-body.result.now)) (trees_in third l)))
+    let values = c.in_ok-walk.ensures.values ∙ ap (λ (l : List Assigned). (walked env l).bound) c.as_slice-body.ensures in
+    let adds = subst (λ (l : List Assigned). Adds second third checks walked_checks (walked env l).checks) c.as_slice-body.ensures c.in_ok-walk.ensures.adds in
+    let outputs = subst (λ (l : List TermId). Adds third last walked_checks all_checks (map (output_check (bound_in third c.walk.new.bindings) c.args.deck.now.last) (trees_in third l)))
     c.as_slice-output.ensures c.in_ok-check_outputs.ensures in
     let made = path_made start second third last c.args.deck.now c.args.bindings.now c.walk.new.bindings c.in_ok-hyps.hyps.items checks walked_checks all_checks _
-    c.requires.input c.requires.output c.requires.bound c.requires.entered hypos c.new-checks.ensures.items values adds card outputs in
+    c.requires.input c.requires.output c.requires.bound c.requires.entered hypos c.new-checks.ensures.items values adds refl outputs in
     record { path = made.0; grows = made.1 }
