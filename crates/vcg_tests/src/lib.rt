@@ -10,6 +10,10 @@ mod definitions;
 #[cfg(test)]
 mod ends;
 #[cfg(test)]
+mod refused;
+#[cfg(test)]
+mod rows;
+#[cfg(test)]
 mod statements;
 #[cfg(test)]
 mod syntax;

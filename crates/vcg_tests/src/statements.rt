@@ -214,13 +214,18 @@ fn texts_spell_statements(rt: HostRuntime) -> Result<(), Fail> {
     Ok(())
 }
 
-// Whether the text of the statement that a text spells is that text.
-fn is_written_back(alloc: Global, text: &[u8]) -> bool {
-    let Ok(stmt) = statement(alloc, Dialect::SeventySeven, text) else {
-        return false;
-    };
-    match written(alloc, Dialect::SeventySeven, &stmt) {
+// Whether this text is written for a statement.
+fn is_written(alloc: Global, stmt: &Stmt, text: &[u8]) -> bool {
+    match written(alloc, Dialect::SeventySeven, stmt) {
         Ok(back) => back.as_slice() == text,
+        Err(_) => false,
+    }
+}
+
+// Whether a text is written for the statement that it spells.
+fn is_written_back(alloc: Global, text: &[u8]) -> bool {
+    match statement(alloc, Dialect::SeventySeven, text) {
+        Ok(stmt) => is_written(alloc, &stmt, text),
         Err(_) => false,
     }
 }
@@ -248,11 +253,13 @@ fn statements_are_written(rt: HostRuntime) -> Result<(), Fail> {
     Ok(())
 }
 
+// Whether no text of the dialect 66 is there for a statement.
+fn is_unwritten(alloc: Global, stmt: &Stmt) -> bool {
+    matches!(written(alloc, Dialect::Common, stmt), Err(Lack::Spelling))
+}
+
 #[test]
 fn what_no_text_spells_is_not_written(rt: HostRuntime) -> Result<(), Fail> {
-    let Ok(stmt) = statement(rt.alloc(), Dialect::SeventySeven, b"ENDIF") else {
-        return Err("no statement".into());
-    };
-    assert!(rt; written(rt.alloc(), Dialect::Common, &stmt) == Err(Lack::Spelling));
+    assert!(rt; is_unwritten(rt.alloc(), &Stmt::EndIf));
     Ok(())
 }

@@ -46,7 +46,7 @@ fn the_text_is_the_same_at_every_pace(rt: HostRuntime) -> Result<(), Fail> {
 }
 
 /// The status and the text for a deck.
-fn answer(alloc: Global, words: &[&str], deck: &[u8]) -> Result<(Status, Vec<u8>), Fail> {
+pub fn answer(alloc: Global, words: &[&str], deck: &[u8]) -> Result<(Status, Vec<u8>), Fail> {
     let mut source = source_of(alloc, deck, &[], 10_000)?;
     let mut sink = sink_of(alloc, &[], 10_000)?;
     let status = call(alloc, words, &mut source, &mut sink)?;

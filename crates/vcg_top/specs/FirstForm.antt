@@ -7,7 +7,7 @@ use Rattle.formula.specs.declared.function.BuiltIn.TheVariants.{And, Or, Not, Eq
 use Rattle.formula.specs.Tree.{Tree, num, truth, symbol, old, apply, Row, none, more}
 use Rattle.formula.specs.Atoms.{same_bytes, starts}
 use Rattle.formula.specs.Reading.{Reading, got, fault, reads, head_named}
-use Rattle.fort_syntax.specs.Scopes.{same_name, begins_with_i_to_n}
+use Rattle.fort_syntax.specs.Scopes.{same_name, begins_with_i_to_n, is_intrinsic_name}
 use Rattle.fort_syntax.specs.TreePatterns.{only}
 use Rattle.fort_syntax.specs.declared.deck.Deck.{Deck}
 use Rattle.fort_syntax.specs.declared.deck.Placed.{Placed}
@@ -232,11 +232,11 @@ are_integer_dummies [] names = is_none_left names
 are_integer_dummies (x ∷ xs) [] = false
 are_integer_dummies (x ∷ xs) (d ∷ ds) = is_integer_dummy x d && are_integer_dummies xs ds
 
--- a SUBROUTINE of one or more dummies without other names, functions and COMMON
+-- a SUBROUTINE of one or more dummies without other names, functions and COMMON, not named as an intrinsic function
 abbrev pub is_first_unit : Routine → Bool
 is_first_unit unit =
     is_none unit.sort && not (is_none_left unit.dummies) && are_integer_dummies unit.dummies unit.names
-    && is_none_left unit.functions && is_none_left unit.blocks
+    && is_none_left unit.functions && is_none_left unit.blocks && not (is_intrinsic_name unit.name)
 
 -- a deck of the first form: its subroutine, its dummies, its assertions, its assignments, and the card of its RETURN
 pub record FirstTree : Type 0 where

@@ -12,6 +12,7 @@ use edge_io::{List, NoMemory};
 use formula::{TermId, TermPool};
 use fort_syntax::{DataName, Deck, Name, Placed, Sort, Unit};
 use std::alloc::Global;
+use unit_decl::is_intrinsic_name;
 
 /// A deck of the first form: the name of its subroutine, the dummies, the terms of its input and
 /// output assertions, its assignments, and the card of its RETURN.
@@ -75,6 +76,7 @@ fn is_first_unit(unit: &Unit) -> bool
         && are_integer_dummies(unit.dummies.as_slice(), unit.names.as_slice())
         && unit.functions.as_slice().is_empty()
         && unit.blocks.as_slice().is_empty()
+        && !is_intrinsic_name(&unit.name)
 }
 
 fn copied(alloc: Global, names: &[Name]) -> Result<List<Name>, NoMemory>
