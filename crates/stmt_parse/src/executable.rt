@@ -128,10 +128,10 @@ fn do_of(text: &[u8]) -> Result<Stmt, Lack>
     let Some((first, rest)) = param_at(rest) else {
         return Err(Lack::Spelling);
     };
-    let Some(rest) = after(rest, b",") else {
+    let Some(behind_first) = after(rest, b",") else {
         return Err(Lack::Spelling);
     };
-    let Some((last, rest)) = param_at(rest) else {
+    let Some((last, rest)) = param_at(behind_first) else {
         return Err(Lack::Spelling);
     };
     let Some((by, rest)) = step_at(rest) else {

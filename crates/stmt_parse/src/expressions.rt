@@ -155,9 +155,9 @@ fn front(alloc: Global, rounds: usize, k: u8, text: &[u8]) -> Result<(Expr, &[u8
         if k > 4 {
             return Err(Lack::Spelling);
         }
-        let (part, rest) = parse(alloc, rounds, 5, &text[1..])?;
-        let part = boxed(alloc, part)?;
-        return Ok((Expr::Neg(part), rest));
+        let (negated, rest) = parse(alloc, rounds, 5, &text[1..])?;
+        let negated = boxed(alloc, negated)?;
+        return Ok((Expr::Neg(negated), rest));
     }
     primary(alloc, rounds, text)
 }
