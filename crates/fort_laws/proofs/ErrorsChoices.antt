@@ -229,6 +229,7 @@ module _ (fs : List Function) (values : Symbol → Value) (program : Program) (i
       (λ t. let a = is_one_of qs (c ∷ cs) q e in let b = is_one_of qs (k ∷ ks) p f in
       inl (a.are ∙ (ap (λ (n : ℕ). n ∷ []) (sym (first_is qs c cs a) ∙ same_number c k t ∙ first_is qs k ks b) ∙ sym b.are)))
       (λ t. inr (part_here _ _ _ _ (λ x y. other_number c k t (same_label c k (sym (is_int v (pos c) x) ∙ is_int v (pos k) y)))))
+
   module _ (card pc : ℕ) (now : Named Value) (qs : List ℕ) (v : Value) where
     -- behind the last label
     abbrev past_labels : List ℕ → See Value (Named Value)
