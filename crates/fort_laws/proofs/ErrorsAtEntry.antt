@@ -1,5 +1,5 @@
 -- A unit that is run errs as the walks from its entry do.
-use Rattle.std.proofs.Common.{◌≡◌, ℕ, suc, ◌+◌, List, [], ◌++◌, length, None, refl, sym, ap, ◌∙◌, subst, arith}
+use Rattle.std.proofs.Common.{◌≡◌, ℕ, suc, ◌+◌, List, [], ◌++◌, length, None, refl, ap, ◌∙◌, subst, arith}
 use Rattle.formula.specs.declared.value.Cell.TheVariants as cell
 use Rattle.formula.specs.declared.value.Value.{Value}
 use Rattle.fort_syntax.specs.declared.condition.Kind.{Kind}
