@@ -1,5 +1,5 @@
 -- A unit that is run errs as the walks from its entry do.
-use Rattle.std.proofs.Common.{◌≡◌, ℕ, suc, ◌+◌, List, [], ◌++◌, length, None, refl, sym, ap, ◌∙◌, subst, arith}
+use Rattle.std.proofs.Common.{◌≡◌, ℕ, suc, ◌+◌, List, [], ◌++◌, length, None, refl, ap, ◌∙◌, subst, arith}
 use Rattle.formula.specs.declared.value.Cell.TheVariants as cell
 use Rattle.formula.specs.declared.value.Value.{Value}
 use Rattle.fort_syntax.specs.declared.condition.Kind.{Kind}
@@ -40,19 +40,19 @@ use Rattle.fort_laws.proofs.Unfolding.{runs_unfold}
 module _ (program : Program) (p : Processor) (i : ℕ) (u : Routine) (order : IsInOrder program p i u) (fitting : FitsUnit u (notes_of program i))
     (good : (env : Environment) → LieApart program.units i u env → AreGood program i u env) (env : Environment) (st : Storage) (apart : IsApart program.units i u env) (fits : Fits p u env st)
     (met : IsMet program.functions p (names_hold u env st cell.Undefined) (names_hold u env st cell.Undefined) (notes_of program i).input) where
-  unit : IsSoundUnit program.units i u
+  abbrev pub unit : IsSoundUnit program.units i u
   unit = order.sound.units_are i u order.is
 
-  abbrev here : Environment
+  abbrev pub here : Environment
   here x = own program p i u unit env st apart fits x
 
-  abbrev start : Storage
+  abbrev pub start : Storage
   start = begun program p i u unit env st apart fits
 
-  abbrev known : Symbol → Value
+  abbrev pub known : Symbol → Value
   known = entry_values program p i u unit env st apart fits
 
-  abbrev at : Sight Value
+  abbrev pub at : Sight Value
   at = w program p i u unit env st apart fits
 
   under_way : cut_at u (notes_of program i) 0 ≡ NoCut → IsUnderWay known program p i u here 0 (at_entry at) start
@@ -84,7 +84,7 @@ module _ (program : Program) (p : Processor) (i : ℕ) (u : Routine) (order : Is
   }
 
   -- walks from the entry read no other symbols
-  same_walk : (values : Symbol → Value) → StandAtEntry values p u env st → (answers : Answers Value) (way : List (List ℕ))
+  pub same_walk : (values : Symbol → Value) → StandAtEntry values p u env st → (answers : Answers Value) (way : List (List ℕ))
       → from_entry (sight (of_values program.functions values) program i u) answers way ≡ from_entry at answers way
   same_walk values h answers way =
       let fs = program.functions in

@@ -96,6 +96,7 @@ module _ (fs : List Function) (values : Symbol → Value) (program : Program) (i
         next = r.next;
         after = r.after;
         cost = suc cost + r.cost;
+        used = omega arith;
         before = met answers ++ r.before;
         cut = r.cut;
         walk_is = walked_on ∙ ap (λ (es : List (Event Value)). met answers ++ es) r.walk_is ∙ sym (append_assoc (met answers) r.before (arrive sight clock r.card (cut_at s.unit (notes_of program i) r.point) r.next []));
@@ -132,6 +133,7 @@ module _ (fs : List Function) (values : Symbol → Value) (program : Program) (i
         next = next;
         after = after;
         cost = suc cost;
+        used = omega arith;
         before = met no_answers;
         cut = c;
         walk_is = walked [] no_answers;

@@ -16,7 +16,9 @@ pub mod ErrorsOnArrival
 pub mod ErrorsOnWays
 pub mod ErrorsParting
 pub mod ErrorsAtEntry
+pub mod ErrorsBlamed
 pub mod ErrorsChoices
+pub mod ErrorsLater
 pub mod ErrorsOfUnits
 pub mod ErrorsOfWalks
 pub mod Exact

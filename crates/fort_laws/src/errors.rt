@@ -1,6 +1,7 @@
 // Errors of runs.
+ghost use Rattle.fort_laws.specs.Blame.{ErringRunsAreBlamed};
 ghost use Rattle.fort_laws.specs.EntryErrors.{FailingPathsErr, UnitsErrAsWalksDo};
-ghost use Rattle.fort_laws.specs.Errors.{ErrorsAreThoseOfWalks, RunsArriveOrErr, RunsErrWhateverCallsAnswer};
+ghost use Rattle.fort_laws.specs.Errors.{ChoicesAreDecided, ErrorsAreThoseOfWalks, RunsArriveOrErr, RunsErrWhateverCallsAnswer};
 
 /// In a unit that no cycle goes uncut, all calls of which are of units that end well, take a
 /// statement of a strict run where named values stand for the cells. There are a way from there to
@@ -13,6 +14,12 @@ ghost use Rattle.fort_laws.specs.Errors.{ErrorsAreThoseOfWalks, RunsArriveOrErr,
 /// INPUT. Statements are taken to be good. It does nothing.
 pub fn runs_arrive_or_err()
     ensures { RunsArriveOrErr }
+{}
+
+/// Two lists of choices by which a statement leads on, all events of which are true for the same
+/// answers of calls, are one: choices are decided by values. It does nothing.
+pub fn choices_are_decided()
+    ensures { ChoicesAreDecided }
 {}
 
 /// Choices of a walk are decided by values: for given answers of calls, a run goes one way alone. So
@@ -45,4 +52,12 @@ pub fn units_err_as_walks_do()
 /// errs with its kind and card, at each stock of steps that is enough. It does nothing.
 pub fn failing_paths_err()
     ensures { FailingPathsErr }
+{}
+
+/// Take such a unit and such a storage, and let a run of the unit err. Then the walk along some path
+/// of the unit, for what names hold at the entry, has a check as its first false event: it is of the
+/// error's kind and card; or of an ASSERT, a clock or OUTPUT at a cut point, or of a called unit's
+/// INPUT, of which a run knows nothing. It does nothing.
+pub fn erring_runs_are_blamed()
+    ensures { ErringRunsAreBlamed }
 {}

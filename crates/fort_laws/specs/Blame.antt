@@ -1,0 +1,54 @@
+-- Which check a run that errs is blamed on.
+use Rattle.std.specs.Prelude.{ℕ, ◌≡◌, ◌⊎◌}
+use Rattle.formula.specs.declared.value.Cell.TheVariants as cell
+use Rattle.formula.specs.declared.value.Value.{Value}
+use Rattle.fort_syntax.specs.declared.condition.Kind.{Kind}
+use Rattle.fort_syntax.specs.declared.condition.Kind.TheVariants.{InputCheck}
+use Rattle.fort_syntax.specs.declared.unit.Unit.{Unit as Routine}
+use Rattle.fort_model.specs.Conditions.{sight}
+use Rattle.fort_model.specs.Correct.{IsMet, names_hold}
+use Rattle.fort_model.specs.Fits.{IsApart, Fits}
+use Rattle.fort_model.specs.Fitting.{FitsUnit}
+use Rattle.fort_model.specs.Outcome.{Erred}
+use Rattle.fort_model.specs.Paths.{Path, IsPath}
+use Rattle.fort_model.specs.Processor.{Processor}
+use Rattle.fort_model.specs.Program.{Program, notes_of}
+use Rattle.fort_model.specs.Run.{run}
+use Rattle.fort_model.specs.Senses.{of_values}
+use Rattle.fort_model.specs.Storage.{Storage, Environment}
+use Rattle.fort_model.specs.Symbols.{Symbol}
+use Rattle.fort_model.specs.Walk.{walk}
+use Rattle.fort_laws.specs.CallLaw.{LieApart}
+use Rattle.fort_laws.specs.EntryErrors.{StandAtEntry}
+use Rattle.fort_laws.specs.Errors.{IsOnArrival, IsInOrder, AreGood}
+use Rattle.fort_laws.specs.Matches.{FirstFails}
+
+-- the walk along a path of a unit, from what names hold at the entry, whose first false event is a check of some kind at a card
+pub record FailingPath (p : Processor) (program : Program) (i : ℕ) (u : Routine) (env : Environment) (st : Storage) (kind : Kind) (card : ℕ) : Type 0 where
+  pub values : Symbol → Value
+  pub stand : StandAtEntry values p u env st
+  pub path : Path
+  pub is_path : IsPath program.dialect u (notes_of program i) path
+  pub fails : FirstFails kind card (walk (sight (of_values program.functions values) program i u) path)
+
+-- The check that an error is blamed on: its own, one of an arrival at a cut point, or one of a called unit's INPUT. Of the last two
+-- a run knows nothing.
+abbrev pub IsBlamed : Kind → ℕ → Kind → ℕ → Type 0
+IsBlamed kind card found place = ((found ≡ kind) × (place ≡ card)) ⊎ (IsOnArrival found ⊎ (found ≡ InputCheck))
+
+pub record Blamed (p : Processor) (program : Program) (i : ℕ) (u : Routine) (env : Environment) (st : Storage) (kind : Kind) (card : ℕ) : Type 0 where
+  pub found : Kind
+  pub place : ℕ
+  pub path : FailingPath p program i u env st found place
+  pub why : IsBlamed kind card found place
+
+-- Let a run of a unit that is in order err, with notes that fit it and good statements, from a storage that fits, where smashed names
+-- lie apart and INPUT is met. Then it is blamed on a check of a path.
+abbrev pub ErringRunsAreBlamed : Type 0
+ErringRunsAreBlamed =
+    (program : Program) (p : Processor) (i : ℕ) (u : Routine) → IsInOrder program p i u → FitsUnit u (notes_of program i)
+    → ((env : Environment) → LieApart program.units i u env → AreGood program i u env)
+    → (env : Environment) (st : Storage) → IsApart program.units i u env → Fits p u env st
+    → IsMet program.functions p (names_hold u env st cell.Undefined) (names_hold u env st cell.Undefined) (notes_of program i).input
+    → (n : ℕ) (kind : Kind) (card : ℕ) (after : Storage) → run p program.units u env st n ≡ Erred kind card after
+    → Blamed p program i u env st kind card
