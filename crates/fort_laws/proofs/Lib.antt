@@ -23,6 +23,7 @@ pub mod ErrorsOfUnits
 pub mod ErrorsOfWalks
 pub mod Exact
 pub mod Falling
+pub mod FalseConditions
 pub mod FewSymbols
 pub mod FittingNotes
 pub mod FrameCalls

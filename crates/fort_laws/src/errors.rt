@@ -1,5 +1,5 @@
 // Errors of runs.
-ghost use Rattle.fort_laws.specs.Blame.{ErringRunsAreBlamed};
+ghost use Rattle.fort_laws.specs.Blame.{ErringRunsAreBlamed, FailingPathsHaveFalseConditions};
 ghost use Rattle.fort_laws.specs.EntryErrors.{FailingPathsErr, UnitsErrAsWalksDo};
 ghost use Rattle.fort_laws.specs.Errors.{ChoicesAreDecided, ErrorsAreThoseOfWalks, RunsArriveOrErr, RunsErrWhateverCallsAnswer};
 
@@ -60,4 +60,11 @@ pub fn failing_paths_err()
 /// INPUT, of which a run knows nothing. It does nothing.
 pub fn erring_runs_are_blamed()
     ensures { ErringRunsAreBlamed }
+{}
+
+/// Where the walk along a path of a unit has a check as its first false event, an exact list of
+/// conditions has one of that unit, of the check's kind and card, that is false for these values of
+/// symbols. It does nothing.
+pub fn failing_paths_have_false_conditions()
+    ensures { FailingPathsHaveFalseConditions }
 {}

@@ -20,7 +20,8 @@ pub use calls::{calls_are_matched, unit_calls_match};
 pub use clocks::clocks_fall_only_so_often;
 pub use errors::{
     choices_are_decided, erring_runs_are_blamed, errors_are_those_of_walks, failing_paths_err,
-    runs_arrive_or_err, runs_err_whatever_calls_answer, units_err_as_walks_do,
+    failing_paths_have_false_conditions, runs_arrive_or_err, runs_err_whatever_calls_answer,
+    units_err_as_walks_do,
 };
 pub use exactness::{
     checks_do_not_depend_on_values, conditions_are_exact, valid_conditions_make_paths_safe,
