@@ -41,7 +41,7 @@ use Rattle.fort_laws.proofs.ErrorsOnArrival.{arrivals_fail, are_on_arrival}
 use Rattle.fort_laws.proofs.FewSymbols.{answered, begun, numbered, assert_is, same_facts, start_true, same_walks}
 use Rattle.fort_laws.proofs.Matching.{all_true_append, fails_later}
 use Rattle.fort_laws.proofs.Near.{line_from}
-use Rattle.fort_laws.proofs.SafeRuns.{no_answers, end_is}
+use Rattle.fort_laws.proofs.SafeRuns.{no_answers, end_is, none_at}
 use Rattle.fort_laws.proofs.SafeUnits.{smashed_have_types}
 use Rattle.fort_laws.proofs.Tied.{at_most_or}
 use Rattle.fort_laws.proofs.Unfolding.{runs_unfold}
@@ -243,20 +243,12 @@ module _ (program : Program) (p : Processor) (i : ℕ) (u : Routine) (order : Is
         why = inr (inl r.2);
       }
 
-      none_at_end : (o : Option Line) → cut_in o (assertion_at (notes_of program i) 0) ≡ AtEnd → o ≡ None
-      none_at_end None c = refl
-      none_at_end (Some line) c = no_end (assertion_at (notes_of program i) 0) c
-        where
-          no_end : (b : Option Assertion) → cut_in (Some line) b ≡ AtEnd → Some line ≡ None
-          no_end None k = absurd (cc)
-          no_end (Some a) k = absurd (cc)
-
       by_start : (k : Cut) → cut_at u (notes_of program i) 0 ≡ k → Result
       by_start NoCut c = let l = line_from program.dialect u (notes_of program i) 0 c in
           segment n None 0 (at_entry w) first (entry_lifts c) last e (λ m less. from_asserts (suc m) m (omega arith)) (under 0 l.0 (at_entry w) first l.1 stands (λ x h. refl))
       by_start AtEnd c =
           let bad : Ended tt first n ≡ Erred kind card last =
-          sym (end_is program.functions entry_known program i (at_home p program u own) order.dialects 0 first n (none_at_end (slice_get u.lines 0) c)) ∙ e in absurd (cc)
+          sym (end_is program.functions entry_known program i (at_home p program u own) order.dialects 0 first n (none_at program.functions entry_known program i (at_home p program u own) order.dialects 0 c)) ∙ e in absurd (cc)
       by_start (AtAssert a) c = by_arrival a c (arrivals_fail _ (are_on_arrival program.functions entry_known program i (at_home p program u own) None 0 (AtAssert a) (at_entry w)))
 
   -- what errs in a whole run errs behind the entry

@@ -52,6 +52,7 @@ IsOnArrival FallCheck = Unit {0}
 IsOnArrival OutputCheck = Unit {0}
 IsOnArrival _ = ⊥
 
+-- a cut point
 abbrev pub IsCut : Cut → Type 0
 IsCut NoCut = ⊥
 IsCut AtEnd = Unit {0}
@@ -147,7 +148,7 @@ RunsArriveOrErr =
     → GoesAWay program.functions values program i (at_home p program u env) clock pc now st
 
 -- Let a run go a way, for some answers of calls. If along any way, for the same answers, a check of a run error is the first false
--- event, then this is the error of the run.
+-- event, then this is the error of the run. Nothing else is told of these answers: `RunsArriveOrErr` finds some.
 abbrev pub ErrorsAreThoseOfWalks : Type 0
 ErrorsAreThoseOfWalks =
     (fs : List Function) (values : Symbol → Value) (program : Program) (i : ℕ) (s : Scene) (clock : Option (List Value)) (pc : ℕ) (now : Named Value) (st : Storage)
