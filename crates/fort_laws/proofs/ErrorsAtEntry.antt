@@ -22,14 +22,14 @@ use Rattle.fort_model.specs.Walk.{arrive, at_entry, entry_facts, from_entry, wal
 use Rattle.fort_model.specs.WalkCalls.{Sight}
 use Rattle.fort_laws.specs.CallLaw.{at_home, LieApart}
 use Rattle.fort_laws.specs.EntryErrors.{StandAtEntry, UnitErrs, ErrsAsWalksDo, UnitsErrAsWalksDo, FailingPathsErr}
-use Rattle.fort_laws.specs.Errors.{IsRunError, IsInOrder, AreGood, IsUnderWay, GoesAWay, RunErrs}
+use Rattle.fort_laws.specs.Errors.{IsRunError, IsOnArrival, IsInOrder, AreGood, IsUnderWay, GoesAWay, RunErrs}
 use Rattle.fort_laws.specs.Frame.{IsSoundUnit}
 use Rattle.fort_laws.specs.Matches.{FirstFails}
 use Rattle.fort_laws.proofs.BothWalks.{walk_from_alike, arrive_alike, entry_alike, entry_facts_alike}
 use Rattle.fort_laws.proofs.Entering.{own, begun, begun_placed, entry_values, w, entry_stood, entry_true}
 use Rattle.fort_laws.proofs.ErrorsOfUnits.{runs_arrive_or_err}
 use Rattle.fort_laws.proofs.ErrorsOfWalks.{errors_are_those_of_walks, no_arrival}
-use Rattle.fort_laws.proofs.ErrorsOnArrival.{are_on_arrival, fails_on_arrival}
+use Rattle.fort_laws.proofs.ErrorsOnArrival.{are_on_arrival, failing_kind}
 use Rattle.fort_laws.proofs.ErrorsParting.{fails_behind}
 use Rattle.fort_laws.proofs.FewSymbols.{answered}
 use Rattle.fort_laws.proofs.Near.{line_from}
@@ -114,7 +114,7 @@ module _ (program : Program) (p : Processor) (i : ℕ) (u : Routine) (order : Is
   none_run k c over = record {
     answers = no_answers;
     errs = λ values h way is kind card error f. absurd (no_arrival kind error
-        (fails_on_arrival kind card _ (are_on_arrival program.functions known program i (at_home p program u here) None 0 k (at_entry at))
+        (failing_kind IsOnArrival kind card _ (are_on_arrival program.functions known program i (at_home p program u here) None 0 k (at_entry at))
         (subst (λ (es : List (Event Value)). FirstFails kind card es) (over way no_answers) (fails_inside values h no_answers way kind card k c f))));
   }
 

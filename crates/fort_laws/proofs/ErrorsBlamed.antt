@@ -23,10 +23,10 @@ use Rattle.fort_model.specs.Storage.{Storage, Environment}
 use Rattle.fort_model.specs.Symbols.{Symbol}
 use Rattle.fort_model.specs.Walk.{arrive, at_entry, at_start, entry_facts, start_facts, from_assert, fall, not_negative, walk_from}
 use Rattle.fort_model.specs.WalkCalls.{Sight}
-use Rattle.fort_laws.specs.Blame.{FailingPath, IsBlamed, Blamed, ErringRunsAreBlamed}
+use Rattle.fort_laws.specs.Blame.{FailingPath, IsAtAssert, IsBlamed, Blamed, ErringRunsAreBlamed}
 use Rattle.fort_laws.specs.CallLaw.{at_home, LieApart}
 use Rattle.fort_laws.specs.EntryErrors.{StandAtEntry}
-use Rattle.fort_laws.specs.Errors.{IsOnArrival, IsCut, IsInOrder, AreGood, IsUnderWay, Comes, RunsAs, arrives, fails_there, errs_on_way}
+use Rattle.fort_laws.specs.Errors.{IsCut, IsInOrder, AreGood, IsUnderWay, Comes, RunsAs, arrives, fails_there, errs_on_way}
 use Rattle.fort_laws.specs.GoodStatements.{Stood}
 use Rattle.fort_laws.specs.Matches.{AllTrue, FirstFails, Errs, of_callee, errs}
 use Rattle.fort_laws.specs.Segments.{KeepsUnsmashed}
@@ -37,7 +37,8 @@ use Rattle.fort_laws.proofs.Entering.{begun_placed, entry_stood, entry_true}
 use Rattle.fort_laws.proofs.ErrorsAtEntry.{unit, here, start, known, at, same_walk}
 use Rattle.fort_laws.proofs.ErrorsLater.{erred_later, none_done}
 use Rattle.fort_laws.proofs.ErrorsOfUnits.{runs_arrive_or_err}
-use Rattle.fort_laws.proofs.ErrorsOnArrival.{arrivals_fail, are_on_arrival}
+use Rattle.fort_laws.proofs.ErrorsOnArrival.{checks_fail, failing_kind, are_at_assert}
+use Rattle.fort_laws.proofs.ErrorsParting.{fails_behind}
 use Rattle.fort_laws.proofs.FewSymbols.{answered, begun, numbered, assert_is, same_facts, start_true, same_walks}
 use Rattle.fort_laws.proofs.Matching.{all_true_append, fails_later}
 use Rattle.fort_laws.proofs.Near.{line_from}
@@ -202,6 +203,17 @@ module _ (program : Program) (p : Processor) (i : ℕ) (u : Routine) (order : Is
         → IsBlamed kind card found place → Result
     blamed_on answers way is found place f why = record { found = found; place = place; path = lifts answers way is found place f; why = why }
 
+    -- a check is false on arrival at an ASSERT; a run that came to the end does not err
+    by_failure : (answers : Answers Value) (way : List (List ℕ)) → IsWay program.dialect u (notes_of program i) pc way → (r : Arrived answers way) (found : Kind) (place : ℕ)
+        → FirstFails found place (walk_from w clock pc now answers way) → (k : Cut) → cut_at u (notes_of program i) r.point ≡ k → Result
+    by_failure answers way is r found place f NoCut c = absurd (subst IsCut c r.cut)
+    by_failure answers way is r found place f AtEnd c = at_end answers way r c
+    by_failure answers way is r found place f (AtAssert a) c =
+        blamed_on answers way is found place f
+        (inr (inl (failing_kind IsAtAssert found place _ (are_at_assert program.functions entry_known program i (at_home p program u own) clock r.card a r.next)
+        (subst (λ (k : Cut). FirstFails found place (arrive w clock r.card k r.next [])) c
+        (fails_behind found place r.before _ r.before_true (subst (λ (es : List (Event Value)). FirstFails found place es) r.walk_is f))))))
+
     same_error : (k : Kind) (c : ℕ) → Errs k c (run_from p program.units u own pc) before → IsBlamed kind card k c
     same_error k c (of_callee q) = inr (inr q)
     same_error k c (errs after cost h) =
@@ -211,7 +223,7 @@ module _ (program : Program) (p : Processor) (i : ℕ) (u : Routine) (order : Is
     by_run : (answers : Answers Value) (way : List (List ℕ)) → IsWay program.dialect u (notes_of program i) pc way
         → RunsAs program.functions entry_known program i (at_home p program u own) clock pc now before answers way → Result
     by_run answers way is (arrives r t) = by_cut answers way r t (cut_at u (notes_of program i) r.point) refl
-    by_run answers way is (fails_there r k c a f) = blamed_on answers way is k c f (inr (inl a))
+    by_run answers way is (fails_there r k c a f) = by_failure answers way is r k c f (cut_at u (notes_of program i) r.point) refl
     by_run answers way is (errs_on_way k c f h) = blamed_on answers way is k c f (same_error k c h)
 
     segment : IsUnderWay entry_known program p i u own pc now before → Result
@@ -233,7 +245,7 @@ module _ (program : Program) (p : Processor) (i : ℕ) (u : Routine) (order : Is
       stands = entry_stood program p i u (unit program p i u order fitting good env st apart fits met) env st apart fits
 
       by_arrival : (a : Assertion) → cut_at u (notes_of program i) 0 ≡ AtAssert a
-          → AllTrue (arrive w None 0 (AtAssert a) (at_entry w) []) ⊎ ((k : Kind) × (c : ℕ) × IsOnArrival k × FirstFails k c (arrive w None 0 (AtAssert a) (at_entry w) [])) → Result
+          → AllTrue (arrive w None 0 (AtAssert a) (at_entry w) []) ⊎ ((k : Kind) × (c : ℕ) × IsAtAssert k × FirstFails k c (arrive w None 0 (AtAssert a) (at_entry w) [])) → Result
       by_arrival a c (inl t) = from_asserts (suc n) n (omega arith) a 0 (at_entry w) first c stands (λ x h. refl) t last e
       by_arrival a c (inr r) = record {
         found = r.0;
@@ -249,7 +261,7 @@ module _ (program : Program) (p : Processor) (i : ℕ) (u : Routine) (order : Is
       by_start AtEnd c =
           let bad : Ended tt first n ≡ Erred kind card last =
           sym (end_is program.functions entry_known program i (at_home p program u own) order.dialects 0 first n (none_at program.functions entry_known program i (at_home p program u own) order.dialects 0 c)) ∙ e in absurd (cc)
-      by_start (AtAssert a) c = by_arrival a c (arrivals_fail _ (are_on_arrival program.functions entry_known program i (at_home p program u own) None 0 (AtAssert a) (at_entry w)))
+      by_start (AtAssert a) c = by_arrival a c (checks_fail IsAtAssert _ (are_at_assert program.functions entry_known program i (at_home p program u own) None 0 a (at_entry w)))
 
   -- what errs in a whole run errs behind the entry
   inside : (o : Outcome (Unit {0})) (last : Storage) → and_then o (λ _. leave u own (length st)) ≡ Erred kind card last → o ≡ Erred kind card last

@@ -4,7 +4,7 @@ use Rattle.formula.specs.declared.value.Cell.TheVariants as cell
 use Rattle.formula.specs.declared.value.Value.{Value}
 use Rattle.formula.specs.Worth.{Function, nothing_known, is_false_under}
 use Rattle.fort_syntax.specs.declared.condition.Kind.{Kind}
-use Rattle.fort_syntax.specs.declared.condition.Kind.TheVariants.{InputCheck}
+use Rattle.fort_syntax.specs.declared.condition.Kind.TheVariants.{InputCheck, AssertCheck, ClockCheck, FallCheck}
 use Rattle.fort_syntax.specs.declared.name.Name.{Name}
 use Rattle.fort_syntax.specs.declared.unit.Unit.{Unit as Routine}
 use Rattle.fort_model.specs.Conditions.{Condition, IsExact, sight}
@@ -23,7 +23,7 @@ use Rattle.fort_model.specs.Symbols.{Symbol}
 use Rattle.fort_model.specs.Walk.{walk}
 use Rattle.fort_laws.specs.CallLaw.{LieApart}
 use Rattle.fort_laws.specs.EntryErrors.{StandAtEntry}
-use Rattle.fort_laws.specs.Errors.{IsOnArrival, IsInOrder, AreGood}
+use Rattle.fort_laws.specs.Errors.{IsInOrder, AreGood}
 use Rattle.fort_laws.specs.Matches.{FirstFails}
 use Rattle.fort_laws.specs.ValidConditions.{Spell}
 
@@ -35,10 +35,17 @@ pub record FailingPath (p : Processor) (program : Program) (i : ℕ) (u : Routin
   pub is_path : IsPath program.dialect u (notes_of program i) path
   pub fails : FirstFails kind card (walk (sight (of_values program.functions values) program i u) path)
 
--- The check that an error is blamed on: its own, one of an arrival at a cut point, or one of a called unit's INPUT. Of the last two
+-- the kinds of what is checked where a walk arrives at an ASSERT
+abbrev pub IsAtAssert : Kind → Type 0
+IsAtAssert AssertCheck = Unit {0}
+IsAtAssert ClockCheck = Unit {0}
+IsAtAssert FallCheck = Unit {0}
+IsAtAssert _ = ⊥
+
+-- The check that an error is blamed on: its own, one of an arrival at an ASSERT, or one of a called unit's INPUT. Of the last two
 -- a run knows nothing.
 abbrev pub IsBlamed : Kind → ℕ → Kind → ℕ → Type 0
-IsBlamed kind card found place = ((found ≡ kind) × (place ≡ card)) ⊎ (IsOnArrival found ⊎ (found ≡ InputCheck))
+IsBlamed kind card found place = ((found ≡ kind) × (place ≡ card)) ⊎ (IsAtAssert found ⊎ (found ≡ InputCheck))
 
 pub record Blamed (p : Processor) (program : Program) (i : ℕ) (u : Routine) (env : Environment) (st : Storage) (kind : Kind) (card : ℕ) : Type 0 where
   pub found : Kind

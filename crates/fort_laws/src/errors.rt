@@ -56,8 +56,8 @@ pub fn failing_paths_err()
 
 /// Take such a unit and such a storage, and let a run of the unit err. Then the walk along some path
 /// of the unit, for what names hold at the entry, has a check as its first false event: it is of the
-/// error's kind and card; or of an ASSERT, a clock or OUTPUT at a cut point, or of a called unit's
-/// INPUT, of which a run knows nothing. It does nothing.
+/// error's kind and card; or of an ASSERT or its clock, or of a called unit's INPUT, of which a run
+/// knows nothing. It does nothing.
 pub fn erring_runs_are_blamed()
     ensures { ErringRunsAreBlamed }
 {}
