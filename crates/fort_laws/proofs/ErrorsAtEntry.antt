@@ -22,14 +22,14 @@ use Rattle.fort_model.specs.Walk.{arrive, at_entry, entry_facts, from_entry, wal
 use Rattle.fort_model.specs.WalkCalls.{Sight}
 use Rattle.fort_laws.specs.CallLaw.{at_home, LieApart}
 use Rattle.fort_laws.specs.EntryErrors.{StandAtEntry, UnitErrs, ErrsAsWalksDo, UnitsErrAsWalksDo, FailingPathsErr}
-use Rattle.fort_laws.specs.Errors.{IsRunError, IsInOrder, AreGood, IsUnderWay, GoesAWay, RunErrs}
+use Rattle.fort_laws.specs.Errors.{IsRunError, IsOnArrival, IsInOrder, AreGood, IsUnderWay, GoesAWay, RunErrs}
 use Rattle.fort_laws.specs.Frame.{IsSoundUnit}
 use Rattle.fort_laws.specs.Matches.{FirstFails}
 use Rattle.fort_laws.proofs.BothWalks.{walk_from_alike, arrive_alike, entry_alike, entry_facts_alike}
 use Rattle.fort_laws.proofs.Entering.{own, begun, begun_placed, entry_values, w, entry_stood, entry_true}
 use Rattle.fort_laws.proofs.ErrorsOfUnits.{runs_arrive_or_err}
 use Rattle.fort_laws.proofs.ErrorsOfWalks.{errors_are_those_of_walks, no_arrival}
-use Rattle.fort_laws.proofs.ErrorsOnArrival.{are_on_arrival, fails_on_arrival}
+use Rattle.fort_laws.proofs.ErrorsOnArrival.{are_on_arrival, failing_kind}
 use Rattle.fort_laws.proofs.ErrorsParting.{fails_behind}
 use Rattle.fort_laws.proofs.FewSymbols.{answered}
 use Rattle.fort_laws.proofs.Near.{line_from}
@@ -40,19 +40,19 @@ use Rattle.fort_laws.proofs.Unfolding.{runs_unfold}
 module _ (program : Program) (p : Processor) (i : ℕ) (u : Routine) (order : IsInOrder program p i u) (fitting : FitsUnit u (notes_of program i))
     (good : (env : Environment) → LieApart program.units i u env → AreGood program i u env) (env : Environment) (st : Storage) (apart : IsApart program.units i u env) (fits : Fits p u env st)
     (met : IsMet program.functions p (names_hold u env st cell.Undefined) (names_hold u env st cell.Undefined) (notes_of program i).input) where
-  unit : IsSoundUnit program.units i u
+  abbrev pub unit : IsSoundUnit program.units i u
   unit = order.sound.units_are i u order.is
 
-  abbrev here : Environment
+  abbrev pub here : Environment
   here x = own program p i u unit env st apart fits x
 
-  abbrev start : Storage
+  abbrev pub start : Storage
   start = begun program p i u unit env st apart fits
 
-  abbrev known : Symbol → Value
+  abbrev pub known : Symbol → Value
   known = entry_values program p i u unit env st apart fits
 
-  abbrev at : Sight Value
+  abbrev pub at : Sight Value
   at = w program p i u unit env st apart fits
 
   under_way : cut_at u (notes_of program i) 0 ≡ NoCut → IsUnderWay known program p i u here 0 (at_entry at) start
@@ -84,7 +84,7 @@ module _ (program : Program) (p : Processor) (i : ℕ) (u : Routine) (order : Is
   }
 
   -- walks from the entry read no other symbols
-  same_walk : (values : Symbol → Value) → StandAtEntry values p u env st → (answers : Answers Value) (way : List (List ℕ))
+  pub same_walk : (values : Symbol → Value) → StandAtEntry values p u env st → (answers : Answers Value) (way : List (List ℕ))
       → from_entry (sight (of_values program.functions values) program i u) answers way ≡ from_entry at answers way
   same_walk values h answers way =
       let fs = program.functions in
@@ -114,7 +114,7 @@ module _ (program : Program) (p : Processor) (i : ℕ) (u : Routine) (order : Is
   none_run k c over = record {
     answers = no_answers;
     errs = λ values h way is kind card error f. absurd (no_arrival kind error
-        (fails_on_arrival kind card _ (are_on_arrival program.functions known program i (at_home p program u here) None 0 k (at_entry at))
+        (failing_kind IsOnArrival kind card _ (are_on_arrival program.functions known program i (at_home p program u here) None 0 k (at_entry at))
         (subst (λ (es : List (Event Value)). FirstFails kind card es) (over way no_answers) (fails_inside values h no_answers way kind card k c f))));
   }
 

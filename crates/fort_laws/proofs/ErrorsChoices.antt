@@ -28,7 +28,8 @@ use Rattle.fort_model.specs.Symbols.{Symbol}
 use Rattle.fort_model.specs.WalkCalls.{Sight, call}
 use Rattle.fort_model.specs.WalkExpr.{read, ranged, operands, value}
 use Rattle.fort_model.specs.WalkStmt.{taken, tests, with_name, parameter, step_value, entered, begin, behind, assign, counts_label, select, selected, choice_check, sign_fact, truth_fact, performed}
-use Rattle.fort_laws.proofs.ErrorsParting.{Exclude, Part, part_here, after, after_one, or_part}
+use Rattle.fort_laws.specs.Errors.{ChoicesAreDecided}
+use Rattle.fort_laws.proofs.ErrorsParting.{Exclude, Part, part_here, after, after_one, or_part, part_true}
 use Rattle.fort_laws.proofs.Near.{known}
 use Rattle.fort_laws.proofs.Small.{both_hold}
 
@@ -359,3 +360,10 @@ module _ (fs : List Function) (values : Symbol → Value) (program : Program) (i
   choices_part (Dimension items) card pc now cs ks q p answers e f = nowhere q e
   choices_part (CommonBlock groups) card pc now cs ks q p answers e f = nowhere q e
   choices_part End card pc now cs ks q p answers e f = nowhere q e
+
+pub choices_are_decided : ChoicesAreDecided
+choices_are_decided fs values program i u stmt card pc now answers cs ks q p e f h k = by_part (choices_part fs values program i u stmt card pc now cs ks q p answers e f)
+  where
+    by_part : Decided cs ks (performed (sight (of_values fs values) program i u) card pc now stmt cs answers).events (performed (sight (of_values fs values) program i u) card pc now stmt ks answers).events → cs ≡ ks
+    by_part (inl same) = same
+    by_part (inr apart) = absurd (part_true _ _ apart h k)

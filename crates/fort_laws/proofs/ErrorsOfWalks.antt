@@ -25,7 +25,7 @@ use Rattle.fort_laws.specs.Matches.{FirstFails, Errs, of_callee, errs}
 use Rattle.fort_laws.specs.Segments.{seen}
 use Rattle.fort_laws.specs.Unfolded.{run_from}
 use Rattle.fort_laws.proofs.ErrorsChoices.{choices_part}
-use Rattle.fort_laws.proofs.ErrorsOnArrival.{are_on_arrival, fails_on_arrival, stays_on_arrival}
+use Rattle.fort_laws.proofs.ErrorsOnArrival.{are_on_arrival, failing_kind, checks_stay}
 use Rattle.fort_laws.proofs.ErrorsParting.{Part, part_then, after, or_part, GoesOff, failing_stays, fails_behind, off_behind, one_failure, part_fails}
 
 -- ---- ways
@@ -120,10 +120,10 @@ module _ (fs : List Function) (values : Symbol → Value) (program : Program) (i
   -- a walk that comes to a cut point fails by no run error
   comes_well : (own : List (List ℕ)) → Comes fs values program i s clock pc now st answers own → FirstFails kind card (walked own) ⊎ GoesOff (walked own) → ⊥
   comes_well own r (inl f) =
-      no_arrival kind is (fails_on_arrival kind card _ (are_on_arrival fs values program i s clock r.card (cut_at s.unit (notes_of program i) r.point) r.next)
+      no_arrival kind is (failing_kind IsOnArrival kind card _ (are_on_arrival fs values program i s clock r.card (cut_at s.unit (notes_of program i) r.point) r.next)
       (fails_behind kind card r.before _ r.before_true (subst (λ (es : List (Event Value)). FirstFails kind card es) r.walk_is f)))
   comes_well own r (inr g) =
-      stays_on_arrival _ (are_on_arrival fs values program i s clock r.card (cut_at s.unit (notes_of program i) r.point) r.next)
+      checks_stay IsOnArrival _ (are_on_arrival fs values program i s clock r.card (cut_at s.unit (notes_of program i) r.point) r.next)
       (off_behind r.before _ r.before_true (subst (λ (es : List (Event Value)). GoesOff es) r.walk_is g))
 
   by_errs : (k : Kind) (c : ℕ) → k ≡ kind → c ≡ card → Errs k c (run_from s.processor s.units s.unit s.environment pc) st → RunErrs fs values program i s kind card pc st

@@ -32,7 +32,7 @@ use Rattle.fort_laws.specs.Segments.{seen, KeepsUnsmashed, StatementsKeep}
 use Rattle.fort_laws.specs.StepMatches.{StepMatches, goes, stops}
 use Rattle.fort_laws.specs.Unfolded.{run_from}
 use Rattle.fort_laws.specs.Ways.{IsCutUp, AreExecutable}
-use Rattle.fort_laws.proofs.ErrorsOnArrival.{arrivals_fail, are_on_arrival}
+use Rattle.fort_laws.proofs.ErrorsOnArrival.{checks_fail, are_on_arrival}
 use Rattle.fort_laws.proofs.Matching.{followed, all_true_append, fails_later, fails_before}
 use Rattle.fort_laws.proofs.Near.{Near, near, near_all, complete, line_from, way_on}
 use Rattle.fort_laws.proofs.SafeRuns.{walk_is, run_is, end_is, none_at, returned, good_is_executable, no_answers}
@@ -96,6 +96,7 @@ module _ (fs : List Function) (values : Symbol → Value) (program : Program) (i
         next = r.next;
         after = r.after;
         cost = suc cost + r.cost;
+        used = omega arith;
         before = met answers ++ r.before;
         cut = r.cut;
         walk_is = walked_on ∙ ap (λ (es : List (Event Value)). met answers ++ es) r.walk_is ∙ sym (append_assoc (met answers) r.before (arrive sight clock r.card (cut_at s.unit (notes_of program i) r.point) r.next []));
@@ -132,6 +133,7 @@ module _ (fs : List Function) (values : Symbol → Value) (program : Program) (i
         next = next;
         after = after;
         cost = suc cost;
+        used = omega arith;
         before = met no_answers;
         cut = c;
         walk_is = walked [] no_answers;
@@ -155,7 +157,7 @@ module _ (fs : List Function) (values : Symbol → Value) (program : Program) (i
         answers = pre no_answers;
         way = cs ∷ [];
         is_way = way_on program.dialect s.unit (notes_of program i) pc line cs q [] e to over;
-        runs_as = runs_there (arrivals_fail arrival (are_on_arrival fs values program i s clock line.card (cut_at s.unit (notes_of program i) q) next));
+        runs_as = runs_there (checks_fail IsOnArrival arrival (are_on_arrival fs values program i s clock line.card (cut_at s.unit (notes_of program i) q) next));
       }
 
     by_cut : (k : Cut) → cut_at s.unit (notes_of program i) q ≡ k → Stood s.processor s.unit s.environment next after → KeepsUnsmashed fs values program i s next

@@ -5,6 +5,7 @@ use Rattle.formula.specs.Values.{holds}
 use Rattle.fort_syntax.specs.declared.condition.Kind.{Kind}
 use Rattle.fort_model.specs.Events.{Event, Check, Take}
 use Rattle.fort_laws.specs.Matches.{AllTrue, FirstFails}
+use Rattle.fort_laws.proofs.FrameSeats.{clash}
 
 -- not both are true
 abbrev pub Exclude : Value → Value → Type 0
@@ -26,18 +27,6 @@ none = []
 
 pub part_here : (v t : Value) (es fs : List (Event Value)) → Exclude v t → Part (Take v ∷ es) (Take t ∷ fs)
 part_here v t es fs h = record { before = none; one = v; other = t; behind_one = es; behind_other = fs; first_is = refl; second_is = refl; exclude = h }
-
-pub part_back : (es fs : List (Event Value)) → Part es fs → Part fs es
-part_back es fs p = record {
-  before = p.before;
-  one = p.other;
-  other = p.one;
-  behind_one = p.behind_other;
-  behind_other = p.behind_one;
-  first_is = p.second_is;
-  second_is = p.first_is;
-  exclude = λ t s. p.exclude s t;
-}
 
 -- something alike in front
 pub part_after : (pre es fs : List (Event Value)) → Part es fs → Part (pre ++ es) (pre ++ fs)
@@ -85,47 +74,32 @@ GoesOff [] = ⊥
 GoesOff (Check kind card v ∷ es) = (holds v ≡ true) × GoesOff es
 GoesOff (Take v ∷ es) = ((holds v ≡ true) × GoesOff es) ⊎ (holds v ≡ false)
 
-clash : (v : Value) → holds v ≡ true → holds v ≡ false → ⊥
-clash v t f = let bad : true ≡ false = sym t ∙ f in absurd (cc)
-
-pub true_stays : (es : List (Event Value)) → AllTrue es → GoesOff es → ⊥
-true_stays [] h g = g
-true_stays (Check kind card v ∷ es) h g = true_stays es h.1 g.1
-true_stays (Take v ∷ es) h (inl g) = true_stays es h.1 g.1
-true_stays (Take v ∷ es) h (inr f) = clash v h.0 f
-
 pub failing_stays : (kind : Kind) (card : ℕ) (es : List (Event Value)) → FirstFails kind card es → GoesOff es → ⊥
 failing_stays kind card [] h g = g
 failing_stays kind card (Check k c v ∷ es) (inl h) g = failing_stays kind card es h.1 g.1
-failing_stays kind card (Check k c v ∷ es) (inr h) g = clash v g.0 h.0
+failing_stays kind card (Check k c v ∷ es) (inr h) g = clash (holds v) g.0 h.0
 failing_stays kind card (Take v ∷ es) h (inl g) = failing_stays kind card es h.1 g.1
-failing_stays kind card (Take v ∷ es) h (inr f) = clash v h.0 f
-
-pub true_never_fails : (kind : Kind) (card : ℕ) (es : List (Event Value)) → AllTrue es → FirstFails kind card es → ⊥
-true_never_fails kind card [] h f = f
-true_never_fails kind card (Check k c v ∷ es) h (inl f) = true_never_fails kind card es h.1 f.1
-true_never_fails kind card (Check k c v ∷ es) h (inr f) = clash v h.0 f.0
-true_never_fails kind card (Take v ∷ es) h f = true_never_fails kind card es h.1 f.1
+failing_stays kind card (Take v ∷ es) h (inr f) = clash (holds v) h.0 f
 
 -- what is false behind what is true
 pub fails_behind : (kind : Kind) (card : ℕ) (es fs : List (Event Value)) → AllTrue es → FirstFails kind card (es ++ fs) → FirstFails kind card fs
 fails_behind kind card [] fs h f = f
 fails_behind kind card (Check k c v ∷ es) fs h (inl f) = fails_behind kind card es fs h.1 f.1
-fails_behind kind card (Check k c v ∷ es) fs h (inr f) = absurd (clash v h.0 f.0)
+fails_behind kind card (Check k c v ∷ es) fs h (inr f) = absurd (clash (holds v) h.0 f.0)
 fails_behind kind card (Take v ∷ es) fs h f = fails_behind kind card es fs h.1 f.1
 
 pub off_behind : (es fs : List (Event Value)) → AllTrue es → GoesOff (es ++ fs) → GoesOff fs
 off_behind [] fs h g = g
 off_behind (Check k c v ∷ es) fs h g = off_behind es fs h.1 g.1
 off_behind (Take v ∷ es) fs h (inl g) = off_behind es fs h.1 g.1
-off_behind (Take v ∷ es) fs h (inr f) = absurd (clash v h.0 f)
+off_behind (Take v ∷ es) fs h (inr f) = absurd (clash (holds v) h.0 f)
 
 -- one check alone is the first that is false
 pub one_failure : (kind other : Kind) (card place : ℕ) (es : List (Event Value)) → FirstFails kind card es → FirstFails other place es → (kind ≡ other) × (card ≡ place)
 one_failure kind other card place [] h k = absurd h
 one_failure kind other card place (Check x c v ∷ es) (inl h) (inl k) = one_failure kind other card place es h.1 k.1
-one_failure kind other card place (Check x c v ∷ es) (inl h) (inr k) = absurd (clash v h.0 k.0)
-one_failure kind other card place (Check x c v ∷ es) (inr h) (inl k) = absurd (clash v k.0 h.0)
+one_failure kind other card place (Check x c v ∷ es) (inl h) (inr k) = absurd (clash (holds v) h.0 k.0)
+one_failure kind other card place (Check x c v ∷ es) (inr h) (inl k) = absurd (clash (holds v) k.0 h.0)
 one_failure kind other card place (Check x c v ∷ es) (inr h) (inr k) = (sym h.1 ∙ k.1, sym h.2 ∙ k.2)
 one_failure kind other card place (Take v ∷ es) h k = one_failure kind other card place es h.1 k.1
 
@@ -154,3 +128,15 @@ part_fails kind card es fs p h =
     subst (λ (xs : List (Event Value)). FirstFails kind card xs ⊎ GoesOff xs) (sym p.first_is)
     (fails_in_both kind card p.before p.one p.other p.behind_one p.behind_other p.exclude
     (subst (λ (xs : List (Event Value)). FirstFails kind card xs) p.second_is h))
+
+-- of two lists that part, not both are all true
+pub part_true : (es fs : List (Event Value)) → Part es fs → AllTrue es → AllTrue fs → ⊥
+part_true es fs p h k =
+    p.exclude
+    (fact_true p.before p.one p.behind_one (subst (λ (xs : List (Event Value)). AllTrue xs) p.first_is h))
+    (fact_true p.before p.other p.behind_other (subst (λ (xs : List (Event Value)). AllTrue xs) p.second_is k))
+  where
+    fact_true : (before : List (Event Value)) (v : Value) (xs : List (Event Value)) → AllTrue (before ++ Take v ∷ xs) → holds v ≡ true
+    fact_true [] v xs h = h.0
+    fact_true (Check kind card s ∷ before) v xs h = fact_true before v xs h.1
+    fact_true (Take s ∷ before) v xs h = fact_true before v xs h.1

@@ -77,7 +77,7 @@ paths_make_entries_safe fs values program i s safe facts way answers over =
 -- ---- ASSERTs
 
 -- told answers, and what names stand for at an ASSERT
-begun : (Symbol → Value) → Named Value → Answers Value → Symbol → Value
+unfoldable pub begun : (Symbol → Value) → Named Value → Answers Value → Symbol → Value
 begun values now answers LeastInteger = values LeastInteger
 begun values now answers GreatestInteger = values GreatestInteger
 begun values now answers (AtEntry x) = values (AtEntry x)
@@ -163,7 +163,7 @@ module _ (fs : List Function) (values : Symbol → Value) (program : Program) (i
   same_note : (t : Tree) → note (of_values fs values) (at_entry one) now t ≡ note (of_values fs others) (at_entry two) (at_start two) t
   same_note t = note_alike Equal (of_values fs values) (of_values fs others) linked (at_entry one) now (at_entry two) (at_start two) same_entries same_start t
 
-  same_facts : entry_facts one ≡ entry_facts two
+  pub same_facts : entry_facts one ≡ entry_facts two
   same_facts = all_equal _ _ (entry_facts_alike Equal (of_values fs values) (of_values fs others) linked program i s.unit)
 
   same_sorts : sorts one.sense s.unit now (smashed_in_order one) ≡ sorts two.sense s.unit (at_start two) (smashed_in_order two)
@@ -182,7 +182,7 @@ module _ (fs : List Function) (values : Symbol → Value) (program : Program) (i
     same_parts : map (λ t. not_negative one (told_one t)) a.clock ≡ map (λ t. not_negative two (told_two t)) a.clock
     same_parts = all_equal _ _ (pairwise_map Equal (λ t. not_negative one (told_one t)) (λ t. not_negative two (told_two t)) a.clock (λ t. ap (not_negative one) (same_note t)))
 
-    start_true : AllTrue (takes (sorts one.sense s.unit now (smashed_in_order one))) → IsTrueAt fs values program i s a now → AllTrue (takes (start_facts two a))
+    pub start_true : AllTrue (takes (sorts one.sense s.unit now (smashed_in_order one))) → IsTrueAt fs values program i s a now → AllTrue (takes (start_facts two a))
     start_true typed t =
         let both = true_left (checks AssertCheck a.card (map told_one a.terms) ++ checks ClockCheck a.card (map (λ t. not_negative one (told_one t)) a.clock)) [] t in
         let terms : AllTrue (takes (map told_two a.terms)) =
@@ -196,7 +196,7 @@ module _ (fs : List Function) (values : Symbol → Value) (program : Program) (i
         (taken_append (sorts two.sense s.unit (at_start two) (smashed_in_order two)) (map told_two a.terms) (subst (λ (vs : List Value). AllTrue (takes vs)) same_sorts typed) terms)
         clock
 
-    same_walks : (q : ℕ) (way : List (List ℕ)) → walk_from one (Some (clock_of fs values program i s a now)) q now answers way ≡ walk_from two (Some (map told_two a.clock)) q (at_start two) calls way
+    pub same_walks : (q : ℕ) (way : List (List ℕ)) → walk_from one (Some (clock_of fs values program i s a now)) q now answers way ≡ walk_from two (Some (map told_two a.clock)) q (at_start two) calls way
     same_walks q way =
         events_equal _ _
         (walk_from_alike Equal (of_values fs values) (of_values fs others) linked program i s.unit (Some (clock_of fs values program i s a now)) (Some (map told_two a.clock))

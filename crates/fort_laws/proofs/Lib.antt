@@ -25,11 +25,14 @@ pub mod ErrorsOnArrival
 pub mod ErrorsOnWays
 pub mod ErrorsParting
 pub mod ErrorsAtEntry
+pub mod ErrorsBlamed
 pub mod ErrorsChoices
+pub mod ErrorsLater
 pub mod ErrorsOfUnits
 pub mod ErrorsOfWalks
 pub mod Exact
 pub mod Falling
+pub mod FalseConditions
 pub mod FewSymbols
 pub mod FittingNotes
 pub mod FlowEnds

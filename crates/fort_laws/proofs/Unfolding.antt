@@ -16,7 +16,7 @@ module _ (p : Processor) (units : List Routine) where
   run_bounded bound u env st n lt =
       ((tied_run p units bound bound (omega arith) u env st n lt).0, sym ((tied_run p units (suc n) bound (omega arith) u env st n (omega arith)).1))
 
-  from_bounded : (bound : ℕ) (u : Routine) (env : Environment) (pc : ℕ) → Tied bound (from_point p units bound u env pc) (run_from p units u env pc)
+  pub from_bounded : (bound : ℕ) (u : Routine) (env : Environment) (pc : ℕ) → Tied bound (from_point p units bound u env pc) (run_from p units u env pc)
   from_bounded bound u env pc st n lt =
       ((tied_from p units bound bound (omega arith) u env pc st n lt).0, sym ((tied_from p units (suc n) bound (omega arith) u env pc st n (omega arith)).1))
 

@@ -44,8 +44,8 @@ pub record ErrsAsWalksDo (p : Processor) (program : Program) (i : ℕ) (u : Rout
       → (kind : Kind) (card : ℕ) → IsRunError kind → FirstFails kind card (from_entry (sight (of_values program.functions values) program i u) answers way)
       → UnitErrs p program u env st kind card
 
--- a unit that is in order, with notes that fit it and good statements, from each storage that fits, where smashed names lie apart and
--- INPUT is met
+-- a unit that is in order, with notes that fit it and good statements, errs as walks do, from each storage that fits, where smashed
+-- names lie apart and INPUT is met
 abbrev pub UnitsErrAsWalksDo : Type 0
 UnitsErrAsWalksDo =
     (program : Program) (p : Processor) (i : ℕ) (u : Routine) → IsInOrder program p i u → FitsUnit u (notes_of program i)

@@ -1,23 +1,28 @@
 -- Runs from one cut point to the next, where a walk on may fail: which errors runs come to.
-use Rattle.std.specs.Prelude.{ℕ, ◌+◌, ◌≡◌, false, List, [], ◌++◌, Option, Some, slice_get}
+use Rattle.std.specs.Prelude.{ℕ, ◌+◌, ◌≤◌, ◌≡◌, false, List, [], ◌++◌, Option, Some, slice_get}
 use Rattle.formula.specs.declared.value.Value.{Value}
 use Rattle.formula.specs.declared.value.Value.TheVariants.{Int}
 use Rattle.formula.specs.Worth.{Function}
 use Rattle.fort_syntax.specs.declared.condition.Kind.{Kind}
 use Rattle.fort_syntax.specs.declared.condition.Kind.TheVariants.{DefinedCheck, RangeCheck, DivisorCheck, SubscriptCheck, ChoiceCheck, LoopCheck, ResultCheck, AssertCheck, ClockCheck, FallCheck, OutputCheck}
+use Rattle.fort_syntax.specs.declared.stmt.Stmt.{Stmt}
 use Rattle.fort_syntax.specs.declared.unit.Line.{Line}
 use Rattle.fort_syntax.specs.declared.unit.Unit.{Unit as Routine}
+use Rattle.fort_model.specs.Conditions.{sight}
 use Rattle.fort_model.specs.Evaluate.{Scene}
 use Rattle.fort_model.specs.Events.{Event}
+use Rattle.fort_model.specs.Flow.{leads}
 use Rattle.fort_model.specs.Outcome.{Ended, Erred}
 use Rattle.fort_model.specs.Paths.{Cut, NoCut, AtEnd, AtAssert, cut_at, IsWay}
 use Rattle.fort_model.specs.Processor.{Processor, MeetsBound}
 use Rattle.fort_model.specs.Program.{Program, notes_of}
 use Rattle.fort_model.specs.Seen.{Named, Answers}
+use Rattle.fort_model.specs.Senses.{of_values}
 use Rattle.fort_model.specs.Smashes.{HoldsSmashed}
 use Rattle.fort_model.specs.Storage.{Storage, Environment}
 use Rattle.fort_model.specs.Symbols.{Symbol, LeastInteger, GreatestInteger}
 use Rattle.fort_model.specs.Walk.{arrive, walk_from}
+use Rattle.fort_model.specs.WalkStmt.{performed}
 use Rattle.fort_laws.specs.Called.{IsReferenceTo, IsCallTo}
 use Rattle.fort_laws.specs.CallLaw.{at_home, LieApart, CallsAreRight}
 use Rattle.fort_laws.specs.Frame.{AreSound, SharesBlocks, FunctionsSmashNothing}
@@ -47,6 +52,7 @@ IsOnArrival FallCheck = Unit {0}
 IsOnArrival OutputCheck = Unit {0}
 IsOnArrival _ = ⊥
 
+-- a cut point
 abbrev pub IsCut : Cut → Type 0
 IsCut NoCut = ⊥
 IsCut AtEnd = Unit {0}
@@ -61,6 +67,7 @@ module _ (fs : List Function) (values : Symbol → Value) (program : Program) (i
     pub next : Named Value
     pub after : Storage
     pub cost : ℕ
+    pub used : 1 ≤ cost
     pub before : List (Event Value)
     pub cut : IsCut (cut_at s.unit (notes_of program i) point)
     pub walk_is : walk_from (seen fs values program i s) clock pc now answers way ≡ before ++ arrive (seen fs values program i s) clock card (cut_at s.unit (notes_of program i) point) next []
@@ -125,6 +132,14 @@ pub record IsUnderWay (values : Symbol → Value) (program : Program) (p : Proce
   pub stood : Stood p u env now st
   pub kept : KeepsUnsmashed program.functions values program i (at_home p program u env) now
 
+-- two lists of choices by which a statement leads on, all events of which are true for the same answers of calls, are one
+abbrev pub ChoicesAreDecided : Type 0
+ChoicesAreDecided =
+    (fs : List Function) (values : Symbol → Value) (program : Program) (i : ℕ) (u : Routine) (stmt : Stmt) (card pc : ℕ) (now : Named Value) (answers : Answers Value) (cs ks : List ℕ) (q p : ℕ)
+    → leads program.dialect u pc stmt cs ≡ Some q → leads program.dialect u pc stmt ks ≡ Some p
+    → AllTrue (performed (sight (of_values fs values) program i u) card pc now stmt cs answers).events
+    → AllTrue (performed (sight (of_values fs values) program i u) card pc now stmt ks answers).events → cs ≡ ks
+
 -- a run goes a way, for some answers of calls
 abbrev pub RunsArriveOrErr : Type 0
 RunsArriveOrErr =
@@ -133,7 +148,7 @@ RunsArriveOrErr =
     → GoesAWay program.functions values program i (at_home p program u env) clock pc now st
 
 -- Let a run go a way, for some answers of calls. If along any way, for the same answers, a check of a run error is the first false
--- event, then this is the error of the run.
+-- event, then this is the error of the run. Nothing else is told of these answers: `RunsArriveOrErr` finds some.
 abbrev pub ErrorsAreThoseOfWalks : Type 0
 ErrorsAreThoseOfWalks =
     (fs : List Function) (values : Symbol → Value) (program : Program) (i : ℕ) (s : Scene) (clock : Option (List Value)) (pc : ℕ) (now : Named Value) (st : Storage)

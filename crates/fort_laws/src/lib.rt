@@ -26,8 +26,9 @@ pub use decks::{
     well_formed_is_declared,
 };
 pub use errors::{
-    errors_are_those_of_walks, failing_paths_err, runs_arrive_or_err,
-    runs_err_whatever_calls_answer, units_err_as_walks_do,
+    choices_are_decided, erring_runs_are_blamed, errors_are_those_of_walks, failing_paths_err,
+    failing_paths_have_false_conditions, runs_arrive_or_err, runs_err_whatever_calls_answer,
+    units_err_as_walks_do,
 };
 pub use exactness::{
     checks_do_not_depend_on_values, conditions_are_exact, valid_conditions_make_paths_safe,
