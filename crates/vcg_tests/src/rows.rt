@@ -229,7 +229,7 @@ pub const EXCLUDED: [(&[u8], &[u8]); 37] = [
 ];
 
 /// Texts that spell no statement, and some that do.
-pub const MISSPELLED: [(&[u8], &[u8]); 62] = [
+pub const MISSPELLED: [(&[u8], &[u8]); 63] = [
     (
         b"SUBROUTINE P(I);I = 1 +;RETURN;END",
         b"REFUSED 8 BadStatement CARD 2\n",
@@ -296,10 +296,6 @@ pub const MISSPELLED: [(&[u8], &[u8]); 62] = [
     ),
     (
         b"SUBROUTINE P(I);DO 10, I = 1, 5;RETURN;END",
-        b"REFUSED 8 BadStatement CARD 2\n",
-    ),
-    (
-        b"SUBROUTINE P(I);DO 10 I = 1;RETURN;END",
         b"REFUSED 8 BadStatement CARD 2\n",
     ),
     (
@@ -371,8 +367,8 @@ pub const MISSPELLED: [(&[u8], &[u8]); 62] = [
         b"REFUSED 8 BadStatement CARD 2\n",
     ),
     (
-        b"SUBROUTINE P(I);#000000I = 1;I = 3 3 =;RETURN;END",
-        b"REFUSED 8 BadStatement CARD 3\n",
+        b"SUBROUTINE P(I);I = 3 3 =;RETURN;END",
+        b"REFUSED 8 BadStatement CARD 2\n",
     ),
     (
         b"SUBROUTINE P(I);END DO;RETURN;END",
@@ -472,8 +468,16 @@ pub const MISSPELLED: [(&[u8], &[u8]); 62] = [
         b"REFUSED 0 NotBuilt CARD 1\n",
     ),
     (
-        b"INTEGERFUNCTIO(I);RETURN;END",
+        b"INTEGERFUNCTI(I);RETURN;END",
         b"REFUSED 13 NoHead CARD 1\n",
+    ),
+    (
+        b"INTEGERFUNCTIO(I);RETURN;END",
+        b"REFUSED 8 BadStatement CARD 1\n",
+    ),
+    (
+        b"SUBROUTINE P(I);DO 10 I = 1;RETURN;END",
+        b"REFUSED 16 ImplicitReal CARD 2\n",
     ),
 ];
 
@@ -675,7 +679,7 @@ pub const NAMES: [(&[u8], &[u8]); 54] = [
         b"REFUSED 0 NotBuilt CARD 1\n",
     ),
     (
-        b"SUBROUTINE P(I);DIMENSION J(999999999999999999,999999999999999999,999999999999999999);RETURN;END",
+        b"SUBROUTINE P(I);DIMENSION J(999999999999999999,999999999999999999);RETURN;END",
         b"REFUSED 17 BadDimension CARD 2\n",
     ),
     (
