@@ -44,7 +44,6 @@ fn deck_or_fault(alloc: Global, dialect: Dialect, cards: &[Entry]) -> Result<Dec
 /// An error says the fault of the first statement whose text spells none, or else the first fault by
 /// the rules on units: of the least stage, there on the least card, and there of the rule of the
 /// least number; or that memory was wanted and not had.
-#[tactic(auto, using(crate::proofs::WellFormedDecks::deck_is_well_formed))]
 pub fn units(alloc: Global, dialect: Dialect, cards: &[Entry]) -> Result<Deck, Refusal>
     ensures deck { IfOk result (λ deck. IsDeckOf dialect cards.now deck) }
     ensures well_formed { IfOk result (λ deck. entries_ascend_above 0 cards.now ≡ true → IsWellFormed dialect deck) }
