@@ -9,6 +9,10 @@ pub returns-in-Ok-None-clause-part : goal.returns-in-Ok-None-clause-part
 returns-in-Ok-None-clause-part g c is =
     (fault_line not_built, inr (none_of _ _ c.in-Ok-None.field-0-is c.in-Ok-None.ensures.value, refl), c.refuse.ensures.part is)
 
+pub returns-in-Ok-None-clause-refused : goal.returns-in-Ok-None-clause-refused
+returns-in-Ok-None-clause-refused g c is =
+    (fault_line not_built, (none_of _ _ c.in-Ok-None.field-0-is c.in-Ok-None.ensures.value, refl), c.refuse.ensures.refused is)
+
 pub returns-in-Ok-Some-clause-done : goal.returns-in-Ok-Some-clause-done
 returns-in-Ok-Some-clause-done g c is =
     (conditions_text (condition_trees_of c.in-Ok-Some.found), some_of _ _ c.in-Ok-Some.found c.in-Ok-Some.field-0-is c.in-Ok-Some.ensures.value, c.tell.ensures.done is)
