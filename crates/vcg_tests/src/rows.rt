@@ -2,7 +2,7 @@
 // column 7 on. A card that begins with `#` stands as it is behind that, and one that begins with `$` is a note.
 
 /// Rules on cards.
-pub const CARDS: [(&[u8], &[u8]); 20] = [
+pub const CARDS: [(&[u8], &[u8]); 24] = [
     (
         b"#     1+ 1;SUBROUTINE P(I);RETURN;END",
         b"REFUSED 4 NoInitial CARD 1\n",
@@ -70,6 +70,22 @@ pub const CARDS: [(&[u8], &[u8]); 20] = [
     (
         b"SUBROUTINE P(I);I = 1;#c between;#     1+ 1;#     0J = 1;RETURN;END",
         b"REFUSED 0 NotBuilt CARD 1\n",
+    ),
+    (
+        b"SUBROUTINE ADD(I);$ INPUT T;$ OUTPUT (EQUAL I 19);I = 0;#     1 + 1;#     1 + 1;#     1 + 1;#     1 + 1;#     1 + 1;#     1 + 1;#     1 + 1;#     1 + 1;#     1 + 1;#     1 + 1;#     1 + 1;#     1 + 1;#     1 + 1;#     1 + 1;#     1 + 1;#     1 + 1;#     1 + 1;#     1 + 1;#     1 + 1;RETURN;END",
+        b"REFUSED 0 NotBuilt CARD 1\n",
+    ),
+    (
+        b"SUBROUTINE ADD(I);$ INPUT T;$ OUTPUT (EQUAL I 19);I = 0;#     1 + 1;#     1 + 1;#     1 + 1;#     1 + 1;#     1 + 1;#     1 + 1;#     1 + 1;#     1 + 1;#     1 + 1;#     1 + 1;#     1 + 1;#     1 + 1;#     1 + 1;#     1 + 1;#     1 + 1;#     1 + 1;#     1 + 1;#     1 + 1;#     1 + 1;#     1 + 1;RETURN;END",
+        b"REFUSED 5 ManyCards CARD 24\n",
+    ),
+    (
+        b"SUBROUTINE P(I);I = ((((((((((((((((((((((((((((((((((((((((((((((((((;#     1((((((((((((((1))))))))))))))))))))))))))))))))))))))));#     2))))))))))))))))))))))));RETURN;END",
+        b"REFUSED 0 NotBuilt CARD 1\n",
+    ),
+    (
+        b"SUBROUTINE P(I);I = (((((((((((((((((((((((((((((((((((((((((((((((((((;#     1((((((((((((((1))))))))))))))))))))))))))))))))))))))));#     2)))))))))))))))))))))))));RETURN;END",
+        b"REFUSED 11 TooDeep CARD 2\n",
     ),
     (b"", b"REFUSED 13 NoHead CARD 1\n"),
     (b"#C nothing", b"REFUSED 13 NoHead CARD 1\n"),
