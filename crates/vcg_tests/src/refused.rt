@@ -43,19 +43,49 @@ fn are_told(alloc: Global, words: &[&str], rows: &[(&[u8], &[u8])]) -> Result<bo
 }
 
 #[test]
-fn decks_are_refused(rt: HostRuntime) -> Result<(), Fail> {
-    let groups: [&[(&[u8], &[u8])]; 7] = [
-        &CARDS,
-        &EXCLUDED,
-        &MISSPELLED,
-        &ORDER,
-        &NAMES,
-        &USES,
-        &TYPES,
-    ];
-    for rows in groups.iter() {
-        assert!(rt; are_told(rt.alloc(), &["vc"], rows)?);
-    }
+fn rules_on_cards(rt: HostRuntime) -> Result<(), Fail> {
+    assert!(rt; are_told(rt.alloc(), &["vc"], &CARDS)?);
+    Ok(())
+}
+
+#[test]
+fn words_that_are_left_out(rt: HostRuntime) -> Result<(), Fail> {
+    assert!(rt; are_told(rt.alloc(), &["vc"], &EXCLUDED)?);
+    Ok(())
+}
+
+#[test]
+fn texts_that_spell_nothing(rt: HostRuntime) -> Result<(), Fail> {
+    assert!(rt; are_told(rt.alloc(), &["vc"], &MISSPELLED)?);
+    Ok(())
+}
+
+#[test]
+fn the_order_of_statements(rt: HostRuntime) -> Result<(), Fail> {
+    assert!(rt; are_told(rt.alloc(), &["vc"], &ORDER)?);
+    Ok(())
+}
+
+#[test]
+fn names_and_blocks(rt: HostRuntime) -> Result<(), Fail> {
+    assert!(rt; are_told(rt.alloc(), &["vc"], &NAMES)?);
+    Ok(())
+}
+
+#[test]
+fn uses_of_names(rt: HostRuntime) -> Result<(), Fail> {
+    assert!(rt; are_told(rt.alloc(), &["vc"], &USES)?);
+    Ok(())
+}
+
+#[test]
+fn types_of_places(rt: HostRuntime) -> Result<(), Fail> {
+    assert!(rt; are_told(rt.alloc(), &["vc"], &TYPES)?);
+    Ok(())
+}
+
+#[test]
+fn rules_under_77(rt: HostRuntime) -> Result<(), Fail> {
     assert!(rt; are_told(rt.alloc(), &["vc", "77"], &SEVENTY_SEVEN)?);
     Ok(())
 }

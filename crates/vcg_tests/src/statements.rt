@@ -38,8 +38,8 @@ fn answer(alloc: Global, dialect: Dialect, text: &[u8]) -> &'static [u8] {
     }
 }
 
-// Texts, and the kinds of their statements or the rules that they break.
-const STATEMENTS: [(&[u8], &[u8]); 141] = [
+// Heads and declarations.
+const HEADS: [(&[u8], &[u8]); 36] = [
     (b"SUBROUTINEP", b"SUBROUTINE"),
     (b"SUBROUTINEINC(I,J)", b"SUBROUTINE"),
     (b"SUBROUTINEP()", b"BadStatement"),
@@ -76,6 +76,10 @@ const STATEMENTS: [(&[u8], &[u8]); 141] = [
     (b"A1B2C3=1", b"="),
     (b"A1B2C3D=1", b"BadStatement"),
     (b"1=A", b"BadStatement"),
+];
+
+// Assignments, DO and IF.
+const JUMPS: [(&[u8], &[u8]); 36] = [
     (b"A+B=1", b"BadStatement"),
     (b"A==1", b"BadStatement"),
     (b"A=", b"BadStatement"),
@@ -112,6 +116,10 @@ const STATEMENTS: [(&[u8], &[u8]); 141] = [
     (b"IF(3)+1", b"BadStatement"),
     (b"END", b"END"),
     (b"END=1", b"="),
+];
+
+// END, CALL, GO TO and others.
+const CALLS: [(&[u8], &[u8]); 33] = [
     (b"ENDIF", b"Excluded"),
     (b"ENDFILE1", b"Excluded"),
     (b"ENDX", b"BadStatement"),
@@ -145,6 +153,10 @@ const STATEMENTS: [(&[u8], &[u8]); 141] = [
     (b"X=A.LT.B.LT.C", b"BadStatement"),
     (b"X=A**2**3", b"BadStatement"),
     (b"X=(A**2)**3", b"="),
+];
+
+// Expressions, and texts that spell nothing.
+const EXPRESSIONS: [(&[u8], &[u8]); 36] = [
     (b"X=A**0", b"BadStatement"),
     (b"X=A**10", b"BadStatement"),
     (b"X=A**N", b"BadStatement"),
@@ -203,14 +215,43 @@ const BLOCKS: [(&[u8], &[u8]); 16] = [
     (b"STOP", b"Excluded"),
 ];
 
+// Whether each of these texts has its kind or its rule.
+fn are_answered(alloc: Global, dialect: Dialect, rows: &[(&[u8], &[u8])]) -> bool {
+    for (text, wanted) in rows.iter() {
+        if answer(alloc, dialect, text) != *wanted {
+            return false;
+        }
+    }
+    true
+}
+
 #[test]
-fn texts_spell_statements(rt: HostRuntime) -> Result<(), Fail> {
-    for (text, wanted) in STATEMENTS.iter() {
-        assert_eq!(rt; answer(rt.alloc(), Dialect::Common, text), *wanted);
-    }
-    for (text, wanted) in BLOCKS.iter() {
-        assert_eq!(rt; answer(rt.alloc(), Dialect::SeventySeven, text), *wanted);
-    }
+fn heads_and_declarations(rt: HostRuntime) -> Result<(), Fail> {
+    assert!(rt; are_answered(rt.alloc(), Dialect::Common, &HEADS));
+    Ok(())
+}
+
+#[test]
+fn assignments_and_choices(rt: HostRuntime) -> Result<(), Fail> {
+    assert!(rt; are_answered(rt.alloc(), Dialect::Common, &JUMPS));
+    Ok(())
+}
+
+#[test]
+fn calls_and_jumps(rt: HostRuntime) -> Result<(), Fail> {
+    assert!(rt; are_answered(rt.alloc(), Dialect::Common, &CALLS));
+    Ok(())
+}
+
+#[test]
+fn expressions(rt: HostRuntime) -> Result<(), Fail> {
+    assert!(rt; are_answered(rt.alloc(), Dialect::Common, &EXPRESSIONS));
+    Ok(())
+}
+
+#[test]
+fn statements_under_77(rt: HostRuntime) -> Result<(), Fail> {
+    assert!(rt; are_answered(rt.alloc(), Dialect::SeventySeven, &BLOCKS));
     Ok(())
 }
 
