@@ -1,31 +1,11 @@
-//! Tests of the crates.
+//! Tests of the top call.
 #![tactic(auto)]
 
 #[cfg(test)]
-mod cards;
-#[cfg(test)]
 mod decks;
-#[cfg(test)]
-mod definitions;
-#[cfg(test)]
-mod ends;
 #[cfg(test)]
 mod refused;
 #[cfg(test)]
 mod rows;
 #[cfg(test)]
-mod statements;
-#[cfg(test)]
-mod syntax;
-#[cfg(test)]
-mod terms;
-#[cfg(test)]
-mod terms_read;
-#[cfg(test)]
-mod texts;
-#[cfg(test)]
 mod top_call;
-#[cfg(test)]
-mod values;
-#[cfg(test)]
-mod worths;

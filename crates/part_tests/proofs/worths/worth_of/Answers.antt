@@ -1,5 +1,5 @@
 use Rattle.formula.proofs.Bodies.{AreBodiesIn-Grows}
-use Rattle.vcg_tests.proofs.worths.worth_of.Goals as goal
+use Rattle.part_tests.proofs.worths.worth_of.Goals as goal
 
 pub returns-in_default : goal.returns-in_default
 returns-in_default c = AreBodiesIn-Grows _ _ _ c.read_term.ensures.grows c.requires
