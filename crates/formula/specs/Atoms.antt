@@ -2,11 +2,20 @@
 use Rattle.std.specs.Prelude.{ℕ, ℤ, pos, negsuc, zero, suc, ◌+◌, ◌-◌, ◌*◌, ◌==◌, ◌&&◌, ◌||◌, not, nat_le, nat_lt, if◌then◌else◌, Bool, false, List, [], ◌∷◌, length, codes}
 use Rattle.std.specs.Cmp.Lexicographic.{pointwise}
 use Rattle.std.specs.Prelude.{nat_eq}
-use Rattle.std.specs.List.{list_all}
+use Rattle.std.specs.List.{list_all, list_any}
 
 -- two texts are the same
 abbrev pub same_bytes : List ℕ → List ℕ → Bool
 same_bytes = pointwise nat_eq
+
+-- a text is one of some
+abbrev pub is_among : List ℕ → List (List ℕ) → Bool
+is_among x xs = list_any (same_bytes x) xs
+
+-- some text stands twice in a list
+abbrev pub has_twin : List (List ℕ) → Bool
+has_twin [] = false
+has_twin (x ∷ xs) = is_among x xs || has_twin xs
 
 abbrev pub is_digit : ℕ → Bool
 is_digit b = nat_le 48 b && nat_le b 57
@@ -71,3 +80,7 @@ is_symbol a = starts is_letter a && list_all is_symbol_byte a && nat_le (length 
 -- 1 to 12 letters and digits, a letter first
 abbrev pub is_function_name : List ℕ → Bool
 is_function_name a = starts is_letter a && list_all is_name_byte a && nat_le (length a) 12
+
+-- 1 to 6 letters and digits, a letter first: the names of FORTRAN
+abbrev pub is_name : List ℕ → Bool
+is_name a = starts is_letter a && list_all is_name_byte a && nat_le (length a) 6
