@@ -3,15 +3,12 @@ pub mod Atoms
 pub mod Bounded
 pub mod Functions
 pub mod Grammar
-pub mod Machine
 pub mod Named
 pub mod NextToken
 pub mod OpenCalls
 pub mod Passing
 pub mod Pool
-pub mod Ranges
 pub mod Reading
-pub mod Sheets
 pub mod Substitution
 pub mod SubstitutionLaws
 pub mod Tokens
