@@ -1,9 +1,10 @@
 // Numbers, cells and assignments, on values worked out by hand.
 use crate::worths::{word, worth_of};
 use edge_io::List;
-use formula::{Cell, Definitions, Sheet, SheetFault, TermPool, Value, Worth};
+use formula::{Cell, Definitions, TermPool, Value};
 use std::alloc::Global;
 use std::test::Fail;
+use term_worth::{Sheet, SheetFault, Worth};
 
 const GREATEST: i128 = 1_329_227_995_784_915_872_903_807_060_280_344_576;
 

@@ -4,11 +4,10 @@ ghost use Rattle.formula.specs.Adding.{AreBodiesIn, IsBodyIn};
 ghost use Rattle.formula.specs.Pool.{Grows};
 
 use edge_io::List;
-use formula::{
-    Body, Cell, Definitions, Heading, Sheet, TermPool, Value, Word, Worth, read_term, worth,
-};
+use formula::{Body, Cell, Definitions, Heading, TermPool, Value, Word, read_term};
 use std::alloc::Global;
 use std::test::Fail;
+use term_worth::{Sheet, Worth, worth};
 
 // The word of these bytes.
 pub fn word(bytes: &[u8]) -> Result<Word, Fail> {

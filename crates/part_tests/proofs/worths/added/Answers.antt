@@ -1,4 +1,4 @@
-use Rattle.formula.proofs.Bodies.{AreBodiesIn-added}
+use Rattle.term_worth.proofs.Bodies.{AreBodiesIn-added}
 use Rattle.part_tests.proofs.worths.added.Goals as goal
 
 pub returns : goal.returns

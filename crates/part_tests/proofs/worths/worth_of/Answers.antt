@@ -1,4 +1,4 @@
-use Rattle.formula.proofs.Bodies.{AreBodiesIn-Grows}
+use Rattle.term_worth.proofs.Bodies.{AreBodiesIn-Grows}
 use Rattle.part_tests.proofs.worths.worth_of.Goals as goal
 
 pub returns-in_default : goal.returns-in_default
