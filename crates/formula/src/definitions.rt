@@ -6,7 +6,7 @@ ghost use Rattle.formula.specs.Worth.{body_of};
 
 use crate::adding::fault_of;
 use crate::{Arity, Body, DefFault, Definition, Func, Head, TermPool, Word};
-use edge_io::{List, NoMemory};
+use edge_io::{Keys, List, NoMemory};
 use indexmap::IndexMap;
 use std::alloc::Global;
 use std::marker::Model;
@@ -14,7 +14,7 @@ use std::marker::Model;
 /// Definitions, numbered from 1, no two of which have one name.
 #[derive(Drop)]
 pub struct Definitions {
-    by_name: IndexMap<Word, Definition>,
+    by_name: IndexMap<Word, Definition, Keys>,
     alloc: Global,
 }
 
@@ -33,11 +33,11 @@ impl Model for Definitions {
 
 impl Definitions {
     /// No definition. It takes no memory.
-    pub fn new(alloc: Global) -> Definitions
+    pub fn new(alloc: Global, keys: Keys) -> Definitions
         ensures { result ≡ [] }
     {
         Definitions {
-            by_name: IndexMap::new(alloc),
+            by_name: IndexMap::with_hasher(alloc, keys),
             alloc,
         }
     }

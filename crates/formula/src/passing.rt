@@ -197,7 +197,7 @@ fn all_set(passed: &[bool], ids: &[TermId]) -> bool
     ensures { result ≡ all_set passed.now ids.now }
 {
     for id in ids {
-        if !passed[id.place] {
+        if !passed[id.index()] {
             return false;
         }
     }
