@@ -3,10 +3,12 @@ pub mod Atoms
 pub mod Bounded
 pub mod Functions
 pub mod Grammar
+pub mod Headings
 pub mod Machine
-pub mod Named
 pub mod NextToken
 pub mod OpenCalls
+pub mod Order
+pub mod Parameters
 pub mod Passing
 pub mod Pool
 pub mod Ranges
@@ -14,6 +16,7 @@ pub mod Reading
 pub mod Sheets
 pub mod Substitution
 pub mod SubstitutionLaws
+pub mod TermTests
 pub mod Tokens
 pub mod Tree
 pub mod Values
