@@ -11,10 +11,10 @@ use Rattle.formula.specs.declared.head.Head.{Head}
 use Rattle.formula.specs.declared.head.Head.TheVariants.{EntryValue}
 use Rattle.formula.specs.declared.node.Node.{Node}
 use Rattle.formula.specs.Adding.{AreAdded, AreAddedTo, IsBodyIn, adding_fault, is_known_name}
-use Rattle.formula.specs.Atoms.{or_else, same_bytes}
+use Rattle.formula.specs.Atoms.{same_bytes}
 use Rattle.formula.specs.Headings.{heading_of, headings_of}
 use Rattle.formula.specs.Pool.{Grows}
-use Rattle.formula.specs.Reading.{all_built_ins, built_in_among, built_in_head, defined_among}
+use Rattle.formula.specs.Reading.{all_built_ins, built_in_among, built_in_head, defined_among, or_else}
 use Rattle.formula.specs.Worth.{FunctionBody, body_of, counting, plain}
 use Rattle.formula.proofs.Grown.{IsIn-Grows, tree_of-Grows}
 

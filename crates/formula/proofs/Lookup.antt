@@ -12,9 +12,9 @@ use Rattle.formula.specs.declared.function.Func.TheVariants.{Defined}
 use Rattle.formula.specs.declared.function.Arity.TheVariants.{Exactly}
 use Rattle.formula.specs.declared.head.Head.{Head}
 use Rattle.formula.specs.declared.head.Head.TheVariants.{EntryValue, Function}
-use Rattle.formula.specs.Atoms.{or_else, same_bytes}
+use Rattle.formula.specs.Atoms.{same_bytes}
 use Rattle.formula.specs.Headings.{AreWords, entry_headings}
-use Rattle.formula.specs.Reading.{all_built_ins, built_in_among, built_in_head, defined_among, heading_named, head_named}
+use Rattle.formula.specs.Reading.{all_built_ins, built_in_among, built_in_head, defined_among, heading_named, head_named, or_else}
 
 -- ---- a table's entry is the first heading with the name
 

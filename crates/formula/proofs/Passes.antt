@@ -72,11 +72,14 @@ two_arguments p ts args d h =
 
 -- ---- the number of arguments
 
+last_of : (xs : List Heading) (h : Heading) → slice_get (xs ++ h ∷ []) (length xs) ≡ Some h
+last_of [] h = refl
+last_of (x ∷ xs) h = last_of xs h
+
 own_heading : (earlier : List Heading) (h : Heading) (j : ℕ) → j ≡ length earlier + 1 → heading_at (earlier ++ h ∷ []) j ≡ Some h
 own_heading earlier h j e =
     let same : j ≡ suc (length earlier) = omega arith in
-    let there : slice_get (earlier ++ h ∷ []) (length earlier) ≡ Some h = grind (arith, common_steps) in
-    ap (heading_at (earlier ++ h ∷ [])) same ∙ there
+    ap (heading_at (earlier ++ h ∷ [])) same ∙ last_of earlier h
 
 earlier_heading : (earlier : List Heading) (h d : Heading) (j : ℕ) → 1 ≤ j → slice_get earlier (j - 1) ≡ Some d → heading_at (earlier ++ h ∷ []) j ≡ Some d
 earlier_heading earlier h d zero low e = absurd (omega arith)
@@ -97,18 +100,18 @@ no_heading earlier h (suc k) lt = slice_get_past (earlier ++ h ∷ []) k (simp l
 counted : (hs : List Heading) (j : ℕ) (o : Option Heading) (ts : List Tree) (args : List TermId) → heading_at hs j ≡ o → is_headed hs j (row_in ts args) ≡ has_count (length args) o
 counted hs j o ts args e = (λ i. has_count (row_count-row_in ts args i) (e i))
 
-module _ (earlier : List Heading) (name : List ℕ) (params : List (List ℕ)) (j : ℕ) (ts : List Tree) (args : List TermId) where
-  pub own_count : j ≡ length earlier + 1 → is_headed (earlier ++ heading_with name params ∷ []) j (row_in ts args) ≡ (length params == length args)
-  own_count e = counted (earlier ++ heading_with name params ∷ []) j (Some (heading_with name params)) ts args (own_heading earlier (heading_with name params) j e)
+module _ (earlier : List Heading) (name : List ℕ) (params : List (List ℕ)) (j : ℕ) (ts : List Tree) (args : List TermId) (n : ℕ) (count : length args ≡ n) where
+  pub own_count : j ≡ length earlier + 1 → (length params == n) ≡ is_headed (earlier ++ heading_with name params ∷ []) j (row_in ts args)
+  own_count e = ap (λ k. length params == k) (sym count) ∙ sym (counted (earlier ++ heading_with name params ∷ []) j (Some (heading_with name params)) ts args (own_heading earlier (heading_with name params) j e))
 
-  pub no_count : j ≡ 0 → is_headed (earlier ++ heading_with name params ∷ []) j (row_in ts args) ≡ false
-  no_count e = ap (λ n. is_headed (earlier ++ heading_with name params ∷ []) n (row_in ts args)) e
+  pub no_count : j ≡ 0 → false ≡ is_headed (earlier ++ heading_with name params ∷ []) j (row_in ts args)
+  no_count e = sym (ap (λ k. is_headed (earlier ++ heading_with name params ∷ []) k (row_in ts args)) e)
 
-  pub far_count : length earlier + 1 < j → is_headed (earlier ++ heading_with name params ∷ []) j (row_in ts args) ≡ false
-  far_count lt = counted (earlier ++ heading_with name params ∷ []) j None ts args (no_heading earlier (heading_with name params) j lt)
+  pub far_count : length earlier + 1 < j → false ≡ is_headed (earlier ++ heading_with name params ∷ []) j (row_in ts args)
+  far_count lt = sym (counted (earlier ++ heading_with name params ∷ []) j None ts args (no_heading earlier (heading_with name params) j lt))
 
-  pub earlier_count : (h : Heading) → 1 ≤ j → slice_get earlier (j - 1) ≡ Some h → is_headed (earlier ++ heading_with name params ∷ []) j (row_in ts args) ≡ (h.count == length args)
-  earlier_count h low e = counted (earlier ++ heading_with name params ∷ []) j (Some h) ts args (earlier_heading earlier (heading_with name params) h j low e)
+  pub earlier_count : (h : Heading) → 1 ≤ j → slice_get earlier (j - 1) ≡ Some h → (h.count == n) ≡ is_headed (earlier ++ heading_with name params ∷ []) j (row_in ts args)
+  earlier_count h low e = ap (λ k. h.count == k) (sym count) ∙ sym (counted (earlier ++ heading_with name params ∷ []) j (Some h) ts args (earlier_heading earlier (heading_with name params) h j low e))
 
 -- ---- uses
 

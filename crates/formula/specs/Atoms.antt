@@ -1,5 +1,5 @@
 -- What atoms are: numbers, symbols, names of functions.
-use Rattle.std.specs.Prelude.{ℕ, ℤ, pos, negsuc, zero, suc, ◌+◌, ◌-◌, ◌*◌, ◌==◌, ◌&&◌, ◌||◌, not, nat_le, nat_lt, if◌then◌else◌, Bool, false, Option, Some, None, List, [], ◌∷◌, length, codes}
+use Rattle.std.specs.Prelude.{ℕ, ℤ, pos, negsuc, zero, suc, ◌+◌, ◌-◌, ◌*◌, ◌==◌, ◌&&◌, ◌||◌, not, nat_le, nat_lt, if◌then◌else◌, Bool, false, List, [], ◌∷◌, length, codes}
 use Rattle.std.specs.Cmp.Lexicographic.{pointwise}
 use Rattle.std.specs.Prelude.{nat_eq}
 use Rattle.std.specs.List.{list_all, list_any}
@@ -7,11 +7,6 @@ use Rattle.std.specs.List.{list_all, list_any}
 -- two texts are the same
 abbrev pub same_bytes : List ℕ → List ℕ → Bool
 same_bytes = pointwise nat_eq
-
--- the first of two that is there
-abbrev pub or_else : {T : Type 0} → Option T → Option T → Option T
-or_else None o = o
-or_else (Some x) o = Some x
 
 -- a text is one of some
 abbrev pub is_among : List ℕ → List (List ℕ) → Bool

@@ -1,4 +1,5 @@
 pub mod Adding
+pub mod Args
 pub mod Atoms
 pub mod Bounded
 pub mod Functions

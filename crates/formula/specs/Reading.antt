@@ -12,7 +12,7 @@ use Rattle.formula.specs.declared.head.Head.TheVariants.{EntryValue, Function}
 use Rattle.formula.specs.Functions.{name_of, arity_of, fits_count}
 use Rattle.formula.specs.Tree.{Tree, num, truth, symbol, old, apply, tree_row, takes}
 use Rattle.formula.specs.Tokens.{Token, opening, closing, atom, Lexeme, tokens}
-use Rattle.formula.specs.Atoms.{or_else, same_bytes, is_number, is_long, digits_of, number_of, is_symbol, is_function_name}
+use Rattle.formula.specs.Atoms.{same_bytes, is_number, is_long, digits_of, number_of, is_symbol, is_function_name}
 
 -- ---- names of functions
 
@@ -34,6 +34,11 @@ defined_among k (h ∷ rest) name =
 abbrev pub heading_named : ℕ → Option Heading → List ℕ → Option Head
 heading_named k None name = None
 heading_named k (Some h) name = if same_bytes h.name name then Some (Function (Defined k) (Exactly h.count)) else None
+
+-- the first of two that is there
+abbrev pub or_else : {T : Type 0} → Option T → Option T → Option T
+or_else None o = o
+or_else (Some x) o = Some x
 
 abbrev pub built_in_head : Option Builtin → Option Head
 built_in_head None = None

@@ -6,8 +6,8 @@ ghost use Rattle.formula.specs.Reading.{stopped, is_empty_list, wants_symbol, en
 ghost use Rattle.formula.specs.OpenCalls.{trees_in, frames_of, CallsBelow, Leads};
 
 use crate::open_calls::{OpenCall, Turn, given};
-use crate::{Arity, BuiltIn, Func, Head, Node, ReadFault, TermId, TermPool};
-use edge_io::{List, Stack};
+use crate::{Args, Arity, BuiltIn, Func, Head, Node, ReadFault, TermId, TermPool};
+use edge_io::Stack;
 
 // The one argument, where there is just one.
 fn single_argument(args: &[TermId]) -> Option<TermId>
@@ -101,7 +101,7 @@ fn function_closed(
     if !takes(pool, f, &args) {
         return Err(ReadFault::BadCount);
     }
-    let id = pool.apply(f, List::from_vec(args))?;
+    let id = pool.apply(f, Args::from_vec(args))?;
     given(open, id)
 }
 

@@ -3,6 +3,7 @@
 
 mod adding;
 mod applying;
+mod args;
 mod atom_terms;
 mod atoms;
 mod candidate;
@@ -43,6 +44,7 @@ mod value;
 mod word;
 mod worth_laws;
 
+pub use args::Args;
 pub use atoms::{
     is_digit, is_digits, is_function_name, is_letter, is_long, is_number, is_same, is_symbol,
     number, spelled,

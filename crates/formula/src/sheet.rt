@@ -6,6 +6,7 @@ ghost use Rattle.formula.specs.Sheets.{AreDistinct, is_set};
 ghost use Rattle.formula.specs.Worth.{assigned};
 
 use crate::{SheetFault, Value, Word};
+use edge_io::Keys;
 use indexmap::IndexSet;
 use std::alloc::Global;
 use std::marker::Model;
@@ -14,7 +15,7 @@ use std::marker::Model;
 #[derive(Drop)]
 pub struct Sheet {
     entries: Vec<(Word, Value)>,
-    symbols: IndexSet<Word>,
+    symbols: IndexSet<Word, Keys>,
 }
 
 impl Model for Sheet {
@@ -32,12 +33,12 @@ impl Model for Sheet {
 
 impl Sheet {
     /// No symbol has a value. It takes no memory.
-    pub fn new(alloc: Global) -> Sheet
+    pub fn new(alloc: Global, keys: Keys) -> Sheet
         ensures { result ≡ [] }
     {
         Sheet {
             entries: Vec::new(alloc),
-            symbols: IndexSet::new(alloc),
+            symbols: IndexSet::with_hasher(alloc, keys),
         }
     }
 
