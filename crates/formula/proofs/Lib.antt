@@ -15,11 +15,13 @@ pub mod Lookup
 pub mod Marks
 pub mod Names
 pub mod OnSheet
+pub mod NodeTests
 pub mod OneIdEach
 pub mod OneMeaning
 pub mod OtherLengths
 pub mod OwnBody
 pub mod Padded
+pub mod ParameterTables
 pub mod Passes
 pub mod Putting
 pub mod ReadSpelled
