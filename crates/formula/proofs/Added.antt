@@ -1,5 +1,5 @@
 -- Definitions that were added, when one more is, and when the pool grows.
-use Rattle.std.proofs.Common.{◌≡◌, ℕ, ◌+◌, ◌≤◌, Bool, true, false, cond, List, [], ◌∷◌, ◌++◌, length, Option, Some, None, Result, Ok, Err, OnOk, refl, sym, ap, ◌∙◌, subst, append_assoc, arith, true≢false, nat_eq, is_some, if◌then◌else◌, codes}
+use Rattle.std.proofs.Common.{◌≡◌, ℕ, suc, not, ◌+◌, ◌≤◌, Bool, true, false, cond, List, [], ◌∷◌, ◌++◌, length, Option, Some, None, Result, Ok, Err, OnOk, refl, sym, ap, ◌∙◌, subst, append_assoc, arith, true≢false, nat_eq, is_some, if◌then◌else◌, codes}
 use Rattle.std.proofs.lemmas.Grind.{common_steps}
 use Rattle.formula.specs.declared.definition.Body.{Body}
 use Rattle.formula.specs.declared.definition.Body.TheVariants.{Plain, Counting}
@@ -10,11 +10,12 @@ use Rattle.formula.specs.declared.definition_fault.DefFault.TheVariants.{KnownNa
 use Rattle.formula.specs.declared.head.Head.{Head}
 use Rattle.formula.specs.declared.head.Head.TheVariants.{EntryValue}
 use Rattle.formula.specs.declared.node.Node.{Node}
-use Rattle.formula.specs.Adding.{AreAdded, AreAddedTo, IsBodyIn, adding_fault, is_known_name}
+use Rattle.formula.specs.Adding.{AreAdded, AreAddedTo, AreBodiesIn, AreUsesKnown, AreUsesKnownTo, IsBodyIn, adding_fault, body_passes, is_known_name, is_known_use}
 use Rattle.formula.specs.Atoms.{same_bytes}
-use Rattle.formula.specs.Headings.{heading_of, headings_of}
+use Rattle.formula.specs.Headings.{heading_with, heading_of, headings_of, is_headed}
 use Rattle.formula.specs.Pool.{Grows}
 use Rattle.formula.specs.Reading.{all_built_ins, built_in_among, built_in_head, defined_among, or_else}
+use Rattle.formula.specs.TermTests.{uses_pass}
 use Rattle.formula.specs.Worth.{FunctionBody, body_of, counting, plain}
 use Rattle.formula.proofs.Grown.{IsIn-Grows, tree_of-Grows}
 
@@ -81,3 +82,31 @@ new_name earlier name params body h =
     let unknown : is_known_name earlier name ≡ false = by_known _ _ h in
     let other = none_else (built_in_head (built_in_among all_built_ins name)) _ (by_old (same_bytes (codes "OLD") name) EntryValue _ unknown) in
     none_first (defined_among 1 earlier name) None other
+
+-- ---- what was added is sound
+
+pub failed : {F : Type 0} (test : Bool) (fault : F) (rest : Option F) → (if test then Some fault else rest) ≡ None → rest ≡ None
+failed true fault rest e = absurd (cc)
+failed false fault rest e = e
+
+pub passed : {F : Type 0} (test : Bool) (fault : F) (rest : Option F) → (if not test then Some fault else rest) ≡ None → (test ≡ true) × (rest ≡ None)
+passed true fault rest e = (refl, e)
+passed false fault rest e = absurd (cc)
+
+counts_right : (earlier : List Heading) (name : List ℕ) (params : List (List ℕ)) (body : FunctionBody) → adding_fault earlier name params body ≡ None
+    → body_passes (uses_pass (is_headed (earlier ++ heading_with name params ∷ []))) body ≡ true
+counts_right earlier name params body e =
+    let a = failed (is_known_name earlier name) _ _ e in
+    let b = passed (body_passes (uses_pass (is_known_use (suc (length earlier)))) body) _ _ a in
+    (passed (body_passes (uses_pass (is_headed (earlier ++ heading_with name params ∷ []))) body) _ _ b.1).0
+
+bodies_added : (pool : List Node) (earlier : List Heading) (ds : List Definition) → AreAddedTo pool earlier ds → AreBodiesIn pool ds
+bodies_added pool earlier [] h = tt
+bodies_added pool earlier (d ∷ ds) h = (h.0.0, bodies_added pool (earlier ++ heading_of d ∷ []) ds h.1)
+
+uses_added : (pool : List Node) (earlier : List Heading) (ds : List Definition) → AreAddedTo pool earlier ds → AreUsesKnownTo pool earlier ds
+uses_added pool earlier [] h = tt
+uses_added pool earlier (d ∷ ds) h = (counts_right earlier d.name d.params (body_of pool d.body) h.0.1, uses_added pool (earlier ++ heading_of d ∷ []) ds h.1)
+
+pub added_sound : (pool : List Node) (ds : List Definition) → AreAdded pool ds → AreBodiesIn pool ds × AreUsesKnown pool ds
+added_sound pool ds h = (bodies_added pool [] ds h, uses_added pool [] ds h)

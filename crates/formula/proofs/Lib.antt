@@ -25,6 +25,7 @@ pub mod ParameterTables
 pub mod Passes
 pub mod Putting
 pub mod ReadSpelled
+pub mod ReadableTerms
 pub mod Remainders
 pub mod Replacing
 pub mod Same

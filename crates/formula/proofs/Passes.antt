@@ -76,7 +76,12 @@ last_of : (xs : List Heading) (h : Heading) → slice_get (xs ++ h ∷ []) (leng
 last_of [] h = refl
 last_of (x ∷ xs) h = last_of xs h
 
-own_heading : (earlier : List Heading) (h : Heading) (j : ℕ) → j ≡ length earlier + 1 → heading_at (earlier ++ h ∷ []) j ≡ Some h
+pub still : (xs : List Heading) (x y : Heading) (i : ℕ) → slice_get xs i ≡ Some y → slice_get (xs ++ x ∷ []) i ≡ Some y
+still [] x y i e = absurd (cc)
+still (z ∷ xs) x y zero e = e
+still (z ∷ xs) x y (suc i) e = still xs x y i e
+
+pub own_heading : (earlier : List Heading) (h : Heading) (j : ℕ) → j ≡ length earlier + 1 → heading_at (earlier ++ h ∷ []) j ≡ Some h
 own_heading earlier h j e =
     let same : j ≡ suc (length earlier) = omega arith in
     ap (heading_at (earlier ++ h ∷ [])) same ∙ last_of earlier h
@@ -85,13 +90,7 @@ earlier_heading : (earlier : List Heading) (h d : Heading) (j : ℕ) → 1 ≤ j
 earlier_heading earlier h d zero low e = absurd (omega arith)
 earlier_heading earlier h d (suc k) low e =
     let same : suc k - 1 ≡ k = omega arith in
-    let there : slice_get earlier k ≡ Some d = subst (λ n. slice_get earlier n ≡ Some d) same e in
-    there_still earlier h d k there
-  where
-    there_still : (xs : List Heading) (x y : Heading) (i : ℕ) → slice_get xs i ≡ Some y → slice_get (xs ++ x ∷ []) i ≡ Some y
-    there_still [] x y i e = absurd (cc)
-    there_still (z ∷ xs) x y zero e = e
-    there_still (z ∷ xs) x y (suc i) e = there_still xs x y i e
+    still earlier h d k (subst (λ n. slice_get earlier n ≡ Some d) same e)
 
 no_heading : (earlier : List Heading) (h : Heading) (j : ℕ) → length earlier + 1 < j → heading_at (earlier ++ h ∷ []) j ≡ None
 no_heading earlier h zero lt = refl

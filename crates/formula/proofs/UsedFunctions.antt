@@ -14,6 +14,7 @@ use Rattle.formula.specs.Bounded.{chosen, function_at}
 use Rattle.formula.specs.Tree.{Tree}
 use Rattle.formula.specs.Worth.{Uses, FunctionBody, plain, counting, Function, body_of, function_of, functions_of, worth_by, worths_by, bound_to, nothing_known, with_use, body_worth, used_from, used}
 use Rattle.formula.specs.WorthLaws.{term_worth, IsMeaning}
+use Rattle.formula.proofs.Added.{failed, passed}
 use Rattle.formula.proofs.UsesAgree.{uses_agree}
 use Rattle.formula.proofs.OwnBody.{at_own, at_other, own_worth}
 
@@ -28,14 +29,6 @@ AreSound k [] = Unit {0}
 AreSound k (f ∷ rest) = IsSound k f × AreSound (suc k) rest
 
 -- ---- what was added is sound
-
-passed : {F : Type 0} (test : Bool) (fault : F) (rest : Option F) → (if not test then Some fault else rest) ≡ None → (test ≡ true) × (rest ≡ None)
-passed true fault rest e = (refl, e)
-passed false fault rest e = absurd (cc)
-
-failed : {F : Type 0} (test : Bool) (fault : F) (rest : Option F) → (if test then Some fault else rest) ≡ None → rest ≡ None
-failed true fault rest e = absurd (cc)
-failed false fault rest e = e
 
 sound : (earlier : List Heading) (name : List ℕ) (params : List (List ℕ)) (body : FunctionBody) → adding_fault earlier name params body ≡ None
     → IsSound (suc (length earlier)) (record { name = name; params = params; body = body })

@@ -101,6 +101,19 @@ AreAddedTo pool earlier (d ∷ rest) =
 abbrev pub AreAdded : List Node → List Definition → Type 0
 AreAdded pool ds = AreAddedTo pool [] ds
 
+-- each use in the bodies is of an earlier definition or of the one that the body is of, with its number of arguments
+abbrev pub AreUsesKnownTo : List Node → List Heading → List Definition → Type 0
+AreUsesKnownTo pool earlier [] = Unit {0}
+AreUsesKnownTo pool earlier (d ∷ rest) =
+    (body_passes (uses_pass (is_headed (earlier ++ heading_of d ∷ []))) (body_of pool d.body) ≡ true) × AreUsesKnownTo pool (earlier ++ heading_of d ∷ []) rest
+
+abbrev pub AreUsesKnown : List Node → List Definition → Type 0
+AreUsesKnown pool ds = AreUsesKnownTo pool [] ds
+
+-- the bodies of definitions that were added are in the pool, and use only what is known there
+abbrev pub AddedAreSound : Type 0
+AddedAreSound = (pool : List Node) (ds : List Definition) → AreAdded pool ds → AreBodiesIn pool ds × AreUsesKnown pool ds
+
 -- definitions that were added with a pool stay so when nodes are added to it
 abbrev pub AddedStay : Type 0
 AddedStay = (old new : List Node) (ds : List Definition) → Grows old new → AreAdded old ds → AreAdded new ds

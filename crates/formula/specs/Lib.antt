@@ -13,6 +13,7 @@ pub mod Parameters
 pub mod Passing
 pub mod Pool
 pub mod Ranges
+pub mod ReadableTerms
 pub mod Reading
 pub mod Sheets
 pub mod Substitution

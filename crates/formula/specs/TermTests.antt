@@ -1,4 +1,4 @@
--- Tests of all numbers, of all names or of all uses of definitions in a term.
+-- Tests of all numbers, of all names, of all functions or of all uses of definitions in a term.
 use Rattle.std.specs.Prelude.{ℕ, ℤ, ◌&&◌, Bool, true, List}
 use Rattle.formula.specs.declared.function.Func.{Func}
 use Rattle.formula.specs.declared.function.Func.TheVariants.{BuiltIn, Defined}
@@ -29,6 +29,19 @@ abbrev mutual
   pub row_numbers_pass : (ℤ → Bool) → Row → Bool
   row_numbers_pass test none = true
   row_numbers_pass test (more t rest) = numbers_pass test t && row_numbers_pass test rest
+
+abbrev mutual
+  -- each function passes a test with its arguments
+  pub functions_pass : (Func → Row → Bool) → Tree → Bool
+  functions_pass test (num z) = true
+  functions_pass test (truth b) = true
+  functions_pass test (symbol x) = true
+  functions_pass test (old x) = true
+  functions_pass test (apply f row) = test f row && row_functions_pass test row
+
+  pub row_functions_pass : (Func → Row → Bool) → Row → Bool
+  row_functions_pass test none = true
+  row_functions_pass test (more t rest) = functions_pass test t && row_functions_pass test rest
 
 abbrev pub use_passes : (ℕ → Row → Bool) → Func → Row → Bool
 use_passes test (BuiltIn f) row = true

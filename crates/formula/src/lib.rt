@@ -58,7 +58,7 @@ pub use function::{Arity, BuiltIn, Func};
 pub use grammar::reading_is_the_grammar;
 pub use head::{Head, head_of};
 pub use headings::Headings;
-pub use laws::added_definitions_stay;
+pub use laws::{added_definitions_are_sound, added_definitions_stay, read_terms_are_readable};
 pub use no_worth::Worth;
 pub use node::{Node, TermId};
 pub use ordering::order;
