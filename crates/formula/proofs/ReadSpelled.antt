@@ -205,7 +205,7 @@ module _ (named : List ℕ → Option Head) (limit : Option ℕ) where
   read_after [] past s t n h e = absurd cc
   read_after (p ∷ ps) past s t n h e =
       let more_past : tokens_of (past ++ p ∷ []) ≡ tokens_of past ++ p.token ∷ [] = map-append (λ q. q.token) past (p ∷ []) in
-      let here = subst zzz (sym more_past) (step_after s.naming s.frames p.token (tokens_of past) h) in
+      let here = subst (After (step named limit s p.token)) (sym more_past) (step_after s.naming s.frames p.token (tokens_of past) h) in
       let r = goes_after (step named limit s p.token) p ps past t n (λ u k f. read_after ps (past ++ p ∷ []) u t n k f) here e in
       subst (λ l. BeginsWith named limit l t n) (append_assoc past (p ∷ []) ps) r
 

@@ -117,7 +117,7 @@ module _ (named : List ℕ → Option Head) (limit : Option ℕ) where
   leaf t x ps rest frames k e h =
       let u = single ps x e in
       ap (λ l. reading named limit (at_term frames) (l ++ rest)) u.1
-      ∙ ap (λ y. after_step (term_read y frames) u.0.after (λ s. reading named limit s rest)) u.2
+      ∙ ap (λ y. after_step (term_read limit y frames) u.0.after (λ s. reading named limit s rest)) u.2
       ∙ ap (λ r. after_step r u.0.after (λ s. reading named limit s rest)) h
       ∙ sym (ap (λ l. after_step (given t frames) (end_from k l) (λ s. reading named limit s rest)) u.1)
 
