@@ -8,13 +8,16 @@ pub mod Lookup
 pub mod Marks
 pub mod Names
 pub mod OnSheet
+pub mod NodeTests
 pub mod OneIdEach
 pub mod OneMeaning
 pub mod OwnBody
 pub mod Padded
+pub mod ParameterTables
 pub mod Passes
 pub mod Putting
 pub mod ReadSpelled
+pub mod ReadableTerms
 pub mod Replacing
 pub mod Same
 pub mod SpelledRead

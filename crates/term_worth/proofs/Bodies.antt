@@ -19,7 +19,7 @@ use Rattle.formula.specs.Bounded.{chosen, function_at}
 use Rattle.term_worth.specs.Machine.{newest, all_but, size, body_size, greatest, value_of, values_of, params_of, first_held, held_num, chosen_id, IsWhole, Does}
 use Rattle.formula.specs.Pool.{Grows, IsIn, tree_of}
 use Rattle.formula.specs.Values.{num}
-use Rattle.formula.specs.Worth.{Function, functions_of, body_of, first_of}
+use Rattle.formula.specs.Worth.{Function, function_of, functions_of, body_of, first_of}
 use Rattle.formula.proofs.Added.{IsBodyIn-Grows}
 use Rattle.term_worth.proofs.Doing.{does-Unknown, does-Use}
 
@@ -30,10 +30,6 @@ function_at-none pool ds zero e = refl
 function_at-none pool [] (suc k) e = refl
 function_at-none pool (d ∷ ds) (suc zero) e = absurd (cc)
 function_at-none pool (d ∷ ds) (suc (suc k)) e = function_at-none pool ds (suc k) e
-
--- a definition without its name
-abbrev pub function_of : List Node → Definition → Function
-function_of pool d = record { params = d.params; body = body_of pool d.body }
 
 pub function_at-some : (pool : List Node) (ds : List Definition) (k : ℕ) (d : Definition) → definition_at ds k ≡ Some d → function_at (functions_of pool ds) k ≡ Some (function_of pool d)
 function_at-some pool ds zero d e = absurd (cc)

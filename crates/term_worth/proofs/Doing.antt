@@ -19,7 +19,7 @@ use Rattle.formula.specs.declared.value.Value.TheVariants.{Cells}
 use Rattle.formula.specs.declared.word.Word.{Word}
 use Rattle.formula.specs.Adding.{definition_at}
 use Rattle.formula.specs.Bounded.{Outcome, got, beyond, spent, and_then, ranged, function_bounded, bounded_by, body_bounded, chosen, function_at}
-use Rattle.term_worth.specs.Machine.{Job, eval, combine, newest, all_but, finish, calls_of, size, row_size, cost, greatest, value_of, values_of, params_of, symbols_of, jobs_of, IsHeld, AreHeld, IsScope, IsWhole, meaning, meaning_with, Does}
+use Rattle.term_worth.specs.Machine.{Job, eval, combine, newest, all_but, finish, calls_of, size, tree_row_size, cost, greatest, value_of, values_of, params_of, symbols_of, jobs_of, IsHeld, AreHeld, IsScope, IsWhole, meaning, meaning_with, Does}
 use Rattle.formula.specs.Pool.{AllBelow, IsIn, tree_of, trees, row_in}
 use Rattle.formula.specs.Tree.{Tree, apply, row_count}
 use Rattle.formula.specs.Values.{holds, applied}
@@ -87,7 +87,7 @@ module _ (pool : List Node) (ds : List Definition) (sheet : List (Word × Value)
             let a : cost (jobs_of pool ds sheet m.made (map Eval args ++ Combine f (length args) ∷ m.tasks)) ≡ cost (evals row) + (1 + cost js) =
             ap cost jobs ∙ cost-append (evals row) (combine f (row_count row) ∷ js) in
             let r = cost-evals row in
-            let t : size (tree_of pool id) ≡ row_size row + 3 = ap size e in
+            let t : size (tree_of pool id) ≡ tree_row_size row + 3 = ap size e in
             omega arith;
         whole = record { scope = w.scope; tasks = AreTasks-evals pool (length m.made) args (Combine f (length args) ∷ m.tasks) below (tt, w.tasks); values = w.values };
       })

@@ -5,7 +5,7 @@ use Rattle.formula.specs.declared.function.Func.{Func}
 use Rattle.formula.specs.declared.function.Func.TheVariants.{BuiltIn}
 use Rattle.formula.specs.declared.value.Value.{Value}
 use Rattle.formula.specs.Bounded.{Outcome, got, beyond, spent, and_then, Calls, function_bounded, bounded_by, arguments_bounded_by}
-use Rattle.term_worth.specs.Machine.{Job, eval, branch, combine, leave, newest, all_but, finish, size, row_size, cost}
+use Rattle.term_worth.specs.Machine.{Job, eval, branch, combine, leave, newest, all_but, finish, size, tree_row_size, cost}
 use Rattle.formula.specs.Tree.{Tree, num, truth, symbol, old, apply, Row, none, more, row_count}
 use Rattle.formula.specs.Values.{holds}
 use Rattle.formula.specs.Worth.{Valuation, first_of, nothing_known}
@@ -129,7 +129,7 @@ cost-append (branch a b ∷ js) ks = let h = cost-append js ks in omega arith
 cost-append (combine f c ∷ js) ks = let h = cost-append js ks in omega arith
 cost-append (leave s ∷ js) ks = let h = cost-append js ks in omega arith
 
-pub cost-evals : (row : Row) → cost (evals row) ≡ row_size row
+pub cost-evals : (row : Row) → cost (evals row) ≡ tree_row_size row
 cost-evals none = refl
 cost-evals (more t row) = let h = cost-evals row in omega arith
 

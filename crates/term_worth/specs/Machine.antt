@@ -71,11 +71,11 @@ abbrev mutual
   size (truth b) = 1
   size (symbol s) = 1
   size (old s) = 1
-  size (apply f row) = row_size row + 3
+  size (apply f row) = tree_row_size row + 3
 
-  pub row_size : Row → ℕ
-  row_size none = 0
-  row_size (more t rest) = size t + row_size rest
+  pub tree_row_size : Row → ℕ
+  tree_row_size none = 0
+  tree_row_size (more t rest) = size t + tree_row_size rest
 
 abbrev pub cost : List Job → ℕ
 cost [] = 0
