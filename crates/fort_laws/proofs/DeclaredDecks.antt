@@ -27,7 +27,8 @@ use Rattle.fort_model.specs.Names.{data_name}
 use Rattle.fort_model.specs.Program.{Program, has_common, has_role, is_in_common, items_of, commons}
 use Rattle.fort_laws.specs.Declared.{IsDimension, IsDeclared, AreDeclared}
 use Rattle.fort_laws.specs.Frame.{HasName}
-use Rattle.fort_laws.specs.GoodDecks.{KeepsRule, WellFormedIsDeclared}
+use Rattle.fort_model.specs.Rules.{KeepsRule}
+use Rattle.fort_laws.specs.GoodDecks.{WellFormedIsDeclared}
 use Rattle.fort_laws.proofs.DeclaredNames.{IsNamed, named_among, among_named, only_once, no_twin_left, one_data_name, has_own_name, data_among, found_named}
 use Rattle.fort_laws.proofs.DeclaredUnits as unit
 use Rattle.fort_laws.proofs.DeclaredUses.{right_line, set_data, pass_data}

@@ -21,15 +21,15 @@ pub mod DeclaredUnits
 pub mod DeclaredUses
 pub mod Descents
 pub mod Entering
-pub mod ErrorsOnArrival
-pub mod ErrorsOnWays
-pub mod ErrorsParting
 pub mod ErrorsAtEntry
 pub mod ErrorsBlamed
 pub mod ErrorsChoices
 pub mod ErrorsLater
 pub mod ErrorsOfUnits
 pub mod ErrorsOfWalks
+pub mod ErrorsOnArrival
+pub mod ErrorsOnWays
+pub mod ErrorsParting
 pub mod Exact
 pub mod Falling
 pub mod FalseConditions
@@ -45,6 +45,7 @@ pub mod FrameRuns
 pub mod FrameSeats
 pub mod GoodStatements
 pub mod InRange
+pub mod Judged
 pub mod Kept
 pub mod LazyFollows
 pub mod LazyParts
@@ -58,6 +59,8 @@ pub mod MatchedStatements
 pub mod MatchedTests
 pub mod Matching
 pub mod Near
+pub mod Numerals
+pub mod OnePath
 pub mod PlaceBounds
 pub mod Ranks
 pub mod References
@@ -76,6 +79,7 @@ pub mod Tests
 pub mod Tied
 pub mod TiedParts
 pub mod TiedRuns
+pub mod Trails
 pub mod TypedLines
 pub mod Unfolding
 pub mod UnitCalls

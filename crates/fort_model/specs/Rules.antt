@@ -151,6 +151,10 @@ pub record IsBroken (p : Program) (rule : Rule) (i card : ℕ) : Type 0 where
   pub is_unit : slice_get p.units i ≡ Some unit
   pub breaks : Breaks p rule i unit card
 
--- a program keeps these rules
+-- a program keeps a rule: no unit breaks it
+abbrev pub KeepsRule : Program → Rule → Type 0
+KeepsRule p rule = (i card : ℕ) → IsBroken p rule i card → ⊥
+
+-- a program keeps all of these rules
 abbrev pub KeepsRules : Program → Type 0
-KeepsRules p = (rule : Rule) (i card : ℕ) → IsBroken p rule i card → ⊥
+KeepsRules p = (rule : Rule) → KeepsRule p rule
