@@ -12,7 +12,8 @@ use Rattle.fort_model.specs.Calls.{Calls, Reaches, directly, through, callee_of,
 use Rattle.fort_model.specs.Flow.{one_way, leads}
 use Rattle.fort_model.specs.Lists.{IsAmong}
 use Rattle.fort_model.specs.Paths.{NoCut, cut_at, Uncut, one, more}
-use Rattle.fort_model.specs.Program.{Program, Notes, notes_of}
+use Rattle.fort_notes.specs.Notes.{Notes}
+use Rattle.fort_model.specs.Program.{Program, notes_of}
 use Rattle.fort_model.specs.Rules.{KeepsRules, cards_breaking}
 use Rattle.fort_laws.proofs.Small.{both_parts}
 use Rattle.fort_laws.proofs.WitnessLists.{AtEach, at_each, all_pass, nothing_among}

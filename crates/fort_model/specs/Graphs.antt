@@ -1,5 +1,6 @@
 -- What a graph of the flow is to its unit.
 use Rattle.std.specs.Prelude.{◌≡◌, ℕ, zero, suc, ◌<◌, ◌≤◌, List, [], ◌∷◌, ◌++◌, map, length, Option, Some, None, slice_get, get_or}
+use Rattle.fort_syntax.specs.TreePatterns.{carried}
 use Rattle.fort_syntax.specs.declared.dialect.Dialect.{Dialect}
 use Rattle.fort_syntax.specs.declared.dialect.Dialect.TheVariants.{Common, SeventySeven}
 use Rattle.fort_syntax.specs.declared.stmt.Stmt.{Stmt}
@@ -13,8 +14,7 @@ use Rattle.fort_model.specs.declared.graph.Target.TheVariants.{Point, Fork as At
 use Rattle.fort_model.specs.Flow.{target, Loop, loops_at, loops_around, next_point, next_branch, leads_at}
 use Rattle.fort_model.specs.Lists.{IsAmong}
 use Rattle.fort_model.specs.Paths.{NoCut, cut_at, Edge}
-use Rattle.fort_model.specs.Program.{Assertion, Notes}
-use Rattle.fort_model.specs.Trees.{carried}
+use Rattle.fort_notes.specs.Notes.{Assertion, Notes}
 
 -- ---- following choices through a graph
 
