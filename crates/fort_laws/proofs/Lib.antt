@@ -86,6 +86,7 @@ pub mod UnitCalls
 pub mod ValidPaths
 pub mod WalkKeeps
 pub mod WitnessDown
+pub mod WitnessFacts
 pub mod WitnessLists
 pub mod WitnessNotes
 pub mod WitnessRotate

@@ -13,7 +13,7 @@ use Rattle.fort_model.specs.Conditions.{are_all_paths, AreAllPaths}
 use Rattle.fort_model.specs.Lists.{IsAmong}
 use Rattle.fort_model.specs.OnePath.{PathsAreOne, AllPathsAreOne}
 use Rattle.fort_model.specs.Paths.{Path, IsPath, comes_before, ascend_from, Ascend, ArePathsInOrder}
-use Rattle.fort_notes.specs.Notes.{Notes}
+use Rattle.fort_notes.specs.Assertions.{Notes}
 use Rattle.fort_model.specs.Program.{Program, notes_of}
 
 -- ---- the order of paths

@@ -12,7 +12,7 @@ use Rattle.fort_syntax.specs.declared.unit.Unit.{Unit as Routine}
 use Rattle.fort_model.specs.Flow.{Loop, target, one_way, one_of, chosen, through, behind, passed_over, leads_do, leads_computed, leads, leads_by, leads_at, loops_at, loops_around, next_point}
 use Rattle.fort_model.specs.PathPoints.{on_from, points_from, point_in, start_point, points_of}
 use Rattle.fort_model.specs.Paths.{Cut, NoCut, AtEnd, AtAssert, cut_at, over_or, goes_on, goes_from, IsWay, IsWayIn, Path, IsPath, is_path_from, starts_at}
-use Rattle.fort_notes.specs.Notes.{Assertion, Notes}
+use Rattle.fort_notes.specs.Assertions.{Assertion, Notes}
 use Rattle.fort_laws.specs.Trails.{LeadThrough, IsCut, StopAtCut, GoToCut, PathsLeadThrough, ChoicesEnd, FlatChoicesTellPaths}
 use Rattle.fort_laws.proofs.Near.{known}
 

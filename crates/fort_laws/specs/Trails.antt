@@ -7,7 +7,7 @@ use Rattle.fort_syntax.specs.declared.unit.Unit.{Unit as Routine}
 use Rattle.fort_model.specs.Flow.{leads, leads_at}
 use Rattle.fort_model.specs.PathPoints.{start_point, points_of}
 use Rattle.fort_model.specs.Paths.{Cut, NoCut, AtEnd, AtAssert, cut_at, Path, IsPath}
-use Rattle.fort_notes.specs.Notes.{Notes}
+use Rattle.fort_notes.specs.Assertions.{Notes}
 
 -- from the first of some points choices lead to the next, and so on to the last of them
 abbrev pub LeadThrough : Dialect → Routine → List (List ℕ) → List ℕ → Type 0

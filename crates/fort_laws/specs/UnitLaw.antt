@@ -8,7 +8,7 @@ use Rattle.fort_model.specs.Events.{takes}
 use Rattle.fort_model.specs.Fitting.{FitsUnit}
 use Rattle.fort_model.specs.Paths.{AtAssert, cut_at}
 use Rattle.fort_model.specs.Processor.{Processor, MeetsBound}
-use Rattle.fort_notes.specs.Notes.{Assertion}
+use Rattle.fort_notes.specs.Assertions.{Assertion}
 use Rattle.fort_model.specs.Program.{Program, notes_of}
 use Rattle.fort_model.specs.Smashes.{HoldsSmashed}
 use Rattle.fort_model.specs.Storage.{Storage, Environment}

@@ -58,4 +58,6 @@ pub use trails::{
 };
 pub use units::{safe_units_are_right, safe_units_end, smashed_have_types};
 pub use ways::{statements_lead_on, ways_can_be_completed};
-pub use witnesses::{loop_may_run, loop_meets_premises, rot_may_run, rot_meets_premises};
+pub use witnesses::{
+    loop_may_run, loop_meets_premises, rot_has_call_facts, rot_may_run, rot_meets_premises,
+};

@@ -7,7 +7,7 @@ use Rattle.formula.specs.Tree.{Tree, num, truth, symbol, old, apply, Row, none, 
 use Rattle.fort_syntax.specs.declared.unit.Role.{Role}
 use Rattle.fort_syntax.specs.declared.unit.Unit.{Unit as Routine}
 use Rattle.fort_model.specs.Lists.{IsAmong}
-use Rattle.fort_notes.specs.Notes.{Notes, Assertion}
+use Rattle.fort_notes.specs.Assertions.{Notes, Assertion}
 use Rattle.fort_model.specs.Program.{Program, assertion_at}
 
 abbrev mutual

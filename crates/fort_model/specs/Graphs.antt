@@ -14,7 +14,7 @@ use Rattle.fort_model.specs.declared.graph.Target.TheVariants.{Point, Fork as At
 use Rattle.fort_model.specs.Flow.{target, Loop, loops_at, loops_around, next_point, next_branch, leads_at}
 use Rattle.fort_model.specs.Lists.{IsAmong}
 use Rattle.fort_model.specs.Paths.{NoCut, cut_at, Edge}
-use Rattle.fort_notes.specs.Notes.{Assertion, Notes}
+use Rattle.fort_notes.specs.Assertions.{Assertion, Notes}
 
 -- ---- following choices through a graph
 

@@ -4,7 +4,7 @@ use Rattle.fort_syntax.specs.declared.dialect.Dialect.{Dialect}
 use Rattle.fort_syntax.specs.declared.unit.Unit.{Unit as Routine}
 use Rattle.fort_model.specs.Conditions.{AreAllPaths}
 use Rattle.fort_model.specs.Paths.{Path, ArePathsInOrder}
-use Rattle.fort_notes.specs.Notes.{Notes}
+use Rattle.fort_notes.specs.Assertions.{Notes}
 use Rattle.fort_model.specs.Program.{Program}
 
 -- two lists that are the paths of a unit in order are equal

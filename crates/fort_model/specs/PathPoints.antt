@@ -4,7 +4,7 @@ use Rattle.fort_syntax.specs.declared.dialect.Dialect.{Dialect}
 use Rattle.fort_syntax.specs.declared.unit.Unit.{Unit as Routine}
 use Rattle.fort_model.specs.Flow.{leads_at}
 use Rattle.fort_model.specs.Paths.{Path}
-use Rattle.fort_notes.specs.Notes.{Assertion, Notes}
+use Rattle.fort_notes.specs.Assertions.{Assertion, Notes}
 
 -- points that go on from one, if there is one
 abbrev pub on_from : Option ℕ → (ℕ → List ℕ) → List ℕ

@@ -5,7 +5,7 @@ use Rattle.formula.specs.Worth.{Function}
 use Rattle.fort_syntax.specs.declared.name.Name.{Name}
 use Rattle.fort_syntax.specs.declared.dialect.Dialect.{Dialect}
 use Rattle.fort_syntax.specs.declared.unit.Unit.{Unit as Routine}
-use Rattle.fort_notes.specs.Notes.{Assertion, Notes, no_notes}
+use Rattle.fort_notes.specs.Assertions.{Assertion, Notes, no_notes}
 
 -- A deck in a dialect: its units; the notes of each; the definitions, numbered from 1; the bound, up to which every
 -- processor has all integers; and for each unit the names that it smashes. Units are counted from 0.

@@ -15,7 +15,7 @@ use Rattle.fort_syntax.specs.declared.stmt.Stmt.TheVariants.{GoTo, Computed, Ari
 use Rattle.fort_syntax.specs.declared.unit.Line.{Line}
 use Rattle.fort_syntax.specs.declared.unit.Unit.{Unit as Routine}
 use Rattle.fort_model.specs.Lists.{IsAmong}
-use Rattle.fort_notes.specs.Notes.{Assertion}
+use Rattle.fort_notes.specs.Assertions.{Assertion}
 use Rattle.fort_model.specs.Program.{Program, notes_of, is_smashed}
 use Rattle.fort_model.specs.Paths.{Uncut}
 use Rattle.fort_model.specs.Calls.{Reaches, callee_of, sites_of}

@@ -1,15 +1,11 @@
 //! What the notes of a deck become: assertions, runs, assignments to conditions, and certificates.
 #![tactic(auto)]
 
-mod assertions;
+mod cases;
 mod certificates;
+mod notes;
 mod plain;
-mod runs;
-mod tries;
-mod whole;
 
-pub use assertions::{AssertSpec, UnitSpec};
+pub use cases::{Given, Passing, RunCard, Site, TryCard};
 pub use certificates::{ProofCard, Step};
-pub use runs::{Given, Passing, RunCard, Site};
-pub use tries::TryCard;
-pub use whole::Specs;
+pub use notes::{AssertSpec, Specs, UnitSpec};

@@ -3,8 +3,8 @@ use Rattle.std.specs.Prelude.{ℕ, List, [], ◌∷◌, map}
 use Rattle.formula.specs.declared.node.Node.{Node}
 use Rattle.formula.specs.Pool.{tree_of}
 use Rattle.formula.specs.Tree.{Tree}
-use Rattle.fort_notes.specs.declared.assertions.AssertSpec.{AssertSpec}
-use Rattle.fort_notes.specs.declared.assertions.UnitSpec.{UnitSpec}
+use Rattle.fort_notes.specs.declared.notes.AssertSpec.{AssertSpec}
+use Rattle.fort_notes.specs.declared.notes.UnitSpec.{UnitSpec}
 
 -- An ASSERT: the point of the statement before which it stands, its card, its terms, and the parts of its clock.
 pub record Assertion : Type 0 where

@@ -1,6 +1,6 @@
-// Runs that a deck asks for.
+// Cases that a deck asks for: runs of units, and assignments to conditions.
 use edge_io::List;
-use formula::{Cell, Word};
+use formula::{Cell, Value, Word};
 use fort_syntax::Name;
 
 /// A place of an argument: the unit that calls, the number of the call in the unit's text, and the
@@ -41,4 +41,11 @@ pub struct RunCard {
     pub passing: Passing,
     pub steps: u64,
     pub start: List<Given>,
+}
+
+/// Values of symbols under which the condition of a name is to be tried.
+#[derive(Debug, Drop)]
+pub struct TryCard {
+    pub lemma: Word,
+    pub sheet: List<(Word, Value)>,
 }
