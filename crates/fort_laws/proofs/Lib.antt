@@ -1,7 +1,9 @@
+pub mod AlongPaths
 pub mod BlocksClose
 pub mod BothParts
 pub mod BothSenses
 pub mod BothWalks
+pub mod ByUnits
 pub mod CallAfter
 pub mod CallBack
 pub mod CallEntry
@@ -45,7 +47,6 @@ pub mod FrameRuns
 pub mod FrameSeats
 pub mod GoodStatements
 pub mod InRange
-pub mod Judged
 pub mod Kept
 pub mod LazyFollows
 pub mod LazyParts
@@ -79,7 +80,6 @@ pub mod Tests
 pub mod Tied
 pub mod TiedParts
 pub mod TiedRuns
-pub mod Trails
 pub mod TypedLines
 pub mod Unfolding
 pub mod UnitCalls

@@ -9,7 +9,7 @@ use Rattle.fort_syntax.specs.declared.stmt.Stmt.{Stmt}
 use Rattle.fort_syntax.specs.declared.stmt.Stmt.TheVariants.{Subroutine, Function, Declare, Dimension, Common as CommonBlock, Assign, GoTo, Computed, ArithIf, LogicalIf', Do, Continue, Call, Return, End, BlockIf, ElseIf, Else, EndIf}
 use Rattle.fort_syntax.specs.declared.unit.Line.{Line}
 use Rattle.fort_syntax.specs.declared.unit.Unit.{Unit as Routine}
-use Rattle.fort_model.specs.Flow.{Loop, target, one_way, one_of, chosen, through, behind, passed_over, leads_do, leads_computed, leads, leads_by, leads_at, loops_at, loops_around, next_point}
+use Rattle.fort_model.specs.Flow.{Loop, target, one_way, one_of, chosen, through, behind, passed_over, leads_do, leads_computed, leads, leads_by, leads_at, loops_at, loops_around, next_point, next_branch}
 use Rattle.fort_model.specs.PathPoints.{on_from, points_from, point_in, start_point, points_of}
 use Rattle.fort_model.specs.Paths.{Cut, NoCut, AtEnd, AtAssert, cut_at, over_or, goes_on, goes_from, IsWay, IsWayIn, Path, IsPath, is_path_from, starts_at}
 use Rattle.fort_notes.specs.Assertions.{Assertion, Notes}
@@ -72,8 +72,8 @@ choices_end dialect u pc (Do label y first last step) cs q x more e = do_ends di
 choices_end dialect u pc Continue cs q x more e = through_ends (next_point u pc) (loops_at u pc) cs q x more e
 choices_end dialect u pc (Call f args) cs q x more e = through_ends (next_point u pc) (loops_at u pc) cs q x more e
 choices_end dialect u pc Return cs q x more e = one_way_ends (length u.lines) cs q x more e
-choices_end dialect u pc (BlockIf c) cs q x more e = one_of_ends _ cs q x more e
-choices_end dialect u pc (ElseIf c) cs q x more e = one_of_ends _ cs q x more e
+choices_end dialect u pc (BlockIf c) cs q x more e = one_of_ends (next_point u pc ∷ next_branch u pc ∷ []) cs q x more e
+choices_end dialect u pc (ElseIf c) cs q x more e = one_of_ends (next_point u pc ∷ next_branch u pc ∷ []) cs q x more e
 choices_end dialect u pc Else cs q x more e = through_ends (next_point u pc) (loops_at u pc) cs q x more e
 choices_end dialect u pc EndIf cs q x more e = through_ends (next_point u pc) (loops_at u pc) cs q x more e
 choices_end dialect u pc (Subroutine y xs) cs q x more e = absurd cc
@@ -154,7 +154,7 @@ module _ (dialect : Dialect) (u : Routine) (notes : Notes) where
       go AtEnd e w = over (subst IsCut (sym e) tt) w
       go (AtAssert a) e w = over (subst IsCut (sym e) tt) w
 
-no_way : List (List ℕ)
+abbrev no_way : List (List ℕ)
 no_way = []
 
 cut_or_not : (c : Cut) → IsCut c → c ≡ NoCut → ⊥
