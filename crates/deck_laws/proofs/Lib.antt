@@ -1,3 +1,4 @@
+pub mod Ascending
 pub mod AscendingEntries
 pub mod BlocksAgree
 pub mod CommonNames
@@ -10,6 +11,7 @@ pub mod Members
 pub mod Named
 pub mod NamesProved
 pub mod Names
+pub mod NotesPlaced
 pub mod OrderProved
 pub mod RightStatements
 pub mod RolesProved

@@ -8,12 +8,12 @@ use Rattle.fort_syntax.specs.declared.dialect.Dialect.{Dialect}
 use Rattle.deck_laws.specs.Spelling.{AreSpelled}
 use Rattle.deck_laws.specs.Ascent.{do_ascend, entries_ascend_above}
 
--- the statements of a deck stand on ascending cards, from above 0
+-- the statements and notes of a deck stand on ascending cards, from above 0
 abbrev pub EntriesAscend : Type 0
 EntriesAscend = (bytes : List ℕ) → entries_ascend_above 0 (entries_of bytes) ≡ true
 
 -- statements that texts spell and that break no rule on units make a well-formed deck
 abbrev pub DecksWithoutFaultAreWellFormed : Type 0
 DecksWithoutFaultAreWellFormed =
-    (d : Dialect) (pieces : List Piece) → AreSpelled d (statements pieces) → do_ascend (statements pieces) ≡ true
+    (d : Dialect) (pieces : List Piece) → AreSpelled d (statements pieces) → do_ascend pieces ≡ true
     → unit_fault d pieces ≡ None → IsWellFormed d (deck_of pieces)

@@ -2,6 +2,7 @@ pub mod CardFaults
 pub mod CardRules
 pub mod Cards
 pub mod Conditions
+pub mod DeckOrder
 pub mod DeckRows
 pub mod FaultLine
 pub mod Grammar
