@@ -5,6 +5,7 @@ pub mod Conditions
 pub mod DeckOrder
 pub mod DeckRows
 pub mod FaultLine
+pub mod FirstFaults
 pub mod Grammar
 pub mod Misspelled
 pub mod Name
@@ -13,12 +14,14 @@ pub mod NameRules
 pub mod Names
 pub mod OrderRows
 pub mod OrderRules
+pub mod Readings
 pub mod Rules
 pub mod Scopes
 pub mod SmallDecks
 pub mod Spelled
 pub mod TreePatterns
 pub mod TypeRules
+pub mod UnitFaults
 pub mod UnitRules
 pub mod Units
 pub mod UseRows

@@ -1,6 +1,7 @@
 -- Decks that are made are well formed.
 use Rattle.std.proofs.Common.{◌≡◌, ℕ, true, List, [], ◌∷◌, refl, sym, ap, ◌∙◌, subst}
 use Rattle.std.specs.Prelude.{◌&&◌, nat_lt}
+use Rattle.fort_syntax.specs.Readings.{IsReadAs, AreReadAs}
 use Rattle.fort_syntax.specs.declared.cards.Entry.{Entry}
 use Rattle.fort_syntax.specs.declared.cards.Entry.TheVariants.{Statement, Note}
 use Rattle.fort_syntax.specs.declared.deck.Deck.{Deck}
@@ -10,7 +11,7 @@ use Rattle.fort_syntax.specs.WellFormed.{IsWellFormed}
 use Rattle.deck_laws.specs.Ascent.{card_of_piece, card_of_entry, pieces_ascend_above, entries_ascend_above}
 use Rattle.deck_laws.specs.Spelling.{AreSpelled}
 use Rattle.deck_laws.proofs.WellFormedDecks.{decks_without_fault_are_well_formed}
-use Rattle.unit_decl.specs.Decks.{IsReadAs, AreReadAs, IsDeckOf}
+use Rattle.unit_decl.specs.Decks.{IsDeckOf}
 
 -- statements and notes have the cards of their entries
 cards_kept : (d : Dialect) (card : ℕ) (entries : List Entry) (pieces : List Piece) → AreReadAs d entries pieces
