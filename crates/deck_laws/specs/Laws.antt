@@ -2,6 +2,8 @@
 use Rattle.std.specs.Prelude.{ℕ, ◌≡◌, List, true, None}
 use Rattle.fort_syntax.specs.Cards.{entries_of}
 use Rattle.fort_syntax.specs.Units.{Piece, statements, deck_of}
+use Rattle.fort_syntax.specs.FirstFaults.{TellsFirst}
+use Rattle.fort_syntax.specs.UnitFaults.{IsUnitRuleBroken}
 use Rattle.fort_syntax.specs.UnitRules.{unit_fault}
 use Rattle.fort_syntax.specs.WellFormed.{IsWellFormed}
 use Rattle.fort_syntax.specs.declared.dialect.Dialect.{Dialect}
@@ -17,3 +19,9 @@ abbrev pub DecksWithoutFaultAreWellFormed : Type 0
 DecksWithoutFaultAreWellFormed =
     (d : Dialect) (pieces : List Piece) → AreSpelled d (statements pieces) → do_ascend pieces ≡ true
     → unit_fault d pieces ≡ None → IsWellFormed d (deck_of pieces)
+
+-- on ascending cards the fault that is told of units is the first of the rules on units that the statements break, and without one
+-- they break none
+abbrev pub FirstUnitFaultIsLeast : Type 0
+FirstUnitFaultIsLeast =
+    (d : Dialect) (pieces : List Piece) → do_ascend pieces ≡ true → TellsFirst (IsUnitRuleBroken d (statements pieces)) (unit_fault d pieces)

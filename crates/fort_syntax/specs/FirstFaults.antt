@@ -95,8 +95,3 @@ TellsFirst is_broken (Some f) = IsFirstOf is_broken f
 -- a card breaks the rule on excluded words by one word at most
 abbrev pub HasOneWord : (Rule → ℕ → Type 0) → Type 0
 HasOneWord is_broken = (card : ℕ) (v w : List ℕ) → is_broken (Excluded v) card → is_broken (Excluded w) card → v ≡ w
-
--- there is at most one first fault
-abbrev pub FirstFaultsAreOne : Type 1
-FirstFaultsAreOne =
-    (is_broken : Rule → ℕ → Type 0) → HasOneWord is_broken → (f g : Fault) → IsFirstOf is_broken f → IsFirstOf is_broken g → f ≡ g

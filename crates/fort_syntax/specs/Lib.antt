@@ -7,6 +7,7 @@ pub mod DeckRows
 pub mod FaultLine
 pub mod FirstFaults
 pub mod Grammar
+pub mod IllFormedRows
 pub mod Misspelled
 pub mod Name
 pub mod NameRows
