@@ -23,7 +23,7 @@ use Rattle.deck_laws.proofs.Tests.{clash, first_true, second_true}
 
 -- ---- the statements of places
 
-joined : List Segment → List Line
+abbrev joined : List Segment → List Line
 joined [] = []
 joined (unit ∷ units) = unit ++ joined units
 
@@ -40,7 +40,6 @@ lines_in d earlier unit before [] = refl
 lines_in d earlier unit before (line ∷ lines) = ap (λ zs. line ∷ zs) (lines_in d earlier unit (before ++ line ∷ []) lines)
 
 lines_from : (d : Dialect) (earlier units : List Segment) → lines_of (places_from d earlier units) ≡ joined units
-  unfolding joined
 lines_from d earlier [] = refl
 lines_from d earlier (unit ∷ units) =
     lines_joined (places_in d earlier unit [] unit) (places_from d (earlier ++ unit ∷ []) units)
@@ -48,19 +47,16 @@ lines_from d earlier (unit ∷ units) =
     ∙ ap (λ zs. unit ++ zs) (lines_from d (earlier ++ unit ∷ []) units))
 
 put_joined : (line : Line) (units : List Segment) → joined (put_before line units) ≡ line ∷ joined units
-  unfolding joined
 put_joined line [] = refl
 put_joined line (unit ∷ units) = refl
 
 begun_joined : (class : Class) (line : Line) (units : List Segment) → joined (begun_with class line units) ≡ line ∷ joined units
-  unfolding joined
 begun_joined Ending line units = refl
 begun_joined Heading line units = put_joined line units
 begun_joined Declaring line units = put_joined line units
 begun_joined Performing line units = put_joined line units
 
 segments_joined : (lines : List Line) → joined (segments lines) ≡ lines
-  unfolding joined
 segments_joined [] = refl
 segments_joined (line ∷ lines) =
     begun_joined (class_of line.stmt) line (segments lines) ∙ ap (λ zs. line ∷ zs) (segments_joined lines)
@@ -296,11 +292,19 @@ its rule (of_types m) =
 all_stages : AreStages 3 stages
 all_stages = (
   record { ascend = (omega arith, (omega arith, (omega arith, tt))); only = in_order; all = λ rule p h. (its rule (staged rule p h)).0 },
-  (record { ascend = (omega arith, tt); only = in_blocks; all = λ rule p h. (its rule (staged rule p h)).1 },
-  (record { ascend = (omega arith, (omega arith, (omega arith, (omega arith, (omega arith, tt))))); only = in_names; all = λ rule p h. (its rule (staged rule p h)).2 },
-  (record { ascend = (omega arith, (omega arith, (omega arith, (omega arith, (omega arith, tt))))); only = in_uses; all = λ rule p h. (its rule (staged rule p h)).3 },
-  (record { ascend = (omega arith, tt); only = in_types; all = λ rule p h. (its rule (staged rule p h)).4 },
-  λ rule p h. (its rule (staged rule p h)).6)))),
+  (
+    record { ascend = (omega arith, tt); only = in_blocks; all = λ rule p h. (its rule (staged rule p h)).1 },
+    (
+      record { ascend = (omega arith, (omega arith, (omega arith, (omega arith, (omega arith, tt))))); only = in_names; all = λ rule p h. (its rule (staged rule p h)).2 },
+      (
+        record { ascend = (omega arith, (omega arith, (omega arith, (omega arith, (omega arith, tt))))); only = in_uses; all = λ rule p h. (its rule (staged rule p h)).3 },
+        (
+          record { ascend = (omega arith, tt); only = in_types; all = λ rule p h. (its rule (staged rule p h)).4 },
+          λ rule p h. (its rule (staged rule p h)).6,
+        ),
+      ),
+    ),
+  ),
 )
 
 from_three : (ps : List Place) (f : Option Fault) → TellsFirst (From 3 ps) f → TellsFirst (IsBrokenAmong ps) f
