@@ -77,16 +77,14 @@ stands_outside (line ∷ before) = refl
 
 placed_right : (before behind : List Line) (card : ℕ) (text : List ℕ)
     → has_place (map unit_of (segments (before ++ behind))) (placed before card text) ≡ true
-placed_right before behind card text =
-    case (is_inside false before)
-    (λ t. ap (λ b. has_place units (cond b inside outside)) t ∙ stands_in (segments before) (segments (before ++ behind)) (inside_extends before behind t))
-    (λ f. ap (λ b. has_place units (cond b inside outside)) f ∙ stands_outside before)
+placed_right before behind card text = by (is_inside false before) refl
   where
-    abbrev units = map unit_of (segments (before ++ behind))
-    abbrev inside : Placed
-    inside = record { card = card; text = text; unit = length (segments before); line = length (executables (last_segment [] (segments before))) }
-    abbrev outside : Placed
-    outside = record { card = card; text = text; unit = 0; line = line_outside before }
+    by : (b : Bool) → is_inside false before ≡ b
+        → has_place (map unit_of (segments (before ++ behind)))
+        (cond b (record { card = card; text = text; unit = length (segments before); line = length (executables (last_segment [] (segments before))) })
+        (record { card = card; text = text; unit = 0; line = line_outside before })) ≡ true
+    by true e = stands_in (segments before) (segments (before ++ behind)) (inside_extends before behind e)
+    by false e = stands_outside before
 
 -- all notes behind some statements
 pub notes_placed : (before : List Line) (pieces : List Piece)

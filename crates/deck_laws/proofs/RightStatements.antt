@@ -1,5 +1,5 @@
 -- The executable statements of a unit that keeps the rules are right in the unit made of it.
-use Rattle.std.proofs.Common.{◌≡◌, ℕ, true, false, cond, List, Some, refl, sym, ap, ◌∙◌}
+use Rattle.std.proofs.Common.{◌≡◌, ℕ, Bool, true, false, cond, List, Some, refl, sym, ap, ◌∙◌}
 use Rattle.std.specs.Prelude.{◌&&◌, ◌||◌, not, length, ◌==◌}
 use Rattle.std.specs.List.{list_all}
 use Rattle.formula.specs.Atoms.{is_among}
@@ -29,6 +29,10 @@ use Rattle.deck_laws.proofs.SortsAgree.{Agree, misused_same, all_subscripts_same
 module _ (d : Dialect) (earlier : List Segment) (unit : Segment) (g : Given d earlier unit) where
   abbrev made : Scope
   made = scope_of_unit (unit_of unit)
+
+  -- an intrinsic function that is no data name
+  abbrev is_built_in : Name → Bool
+  is_built_in y = is_intrinsic_name y && not (is_among y (names_of_unit (unit_of unit)))
 
   array_made : (x : Name) → is_array made x ≡ is_array (scope_of unit) x
   array_made x = ap is_given_dims (dims_agree unit x)
@@ -61,10 +65,6 @@ module _ (d : Dialect) (earlier : List Segment) (unit : Segment) (g : Given d ea
     applied_known x n k =
         case (is_array (scope_of unit) x) array (λ a. case (is_intrinsic_name x) (intrinsic a) (function a))
       where
-        -- an intrinsic function that is no data name
-        abbrev is_built_in : Name → Bool
-        is_built_in y = is_intrinsic_name y && not (is_among y (names_of_unit (unit_of unit)))
-
         array : is_array (scope_of unit) x ≡ true → is_known (unit_of unit) x (applied n) ≡ true
         array a =
             left_true (is_array made x || is_built_in x) (is_among x (functions_of_unit (unit_of unit)))
