@@ -1,5 +1,5 @@
 -- The first fault of units is the first of the broken rules.
-use Rattle.std.proofs.Common.{◌≡◌, ◌<◌, ◌≤◌, ◌⊎◌, inl, inr, ℕ, suc, Bool, true, false, cond, List, [], ◌∷◌, ◌++◌, map, Option, Some, None, refl, sym, ap, ◌∙◌, subst, arith, rules, append_assoc}
+use Rattle.std.proofs.Common.{◌≡◌, ◌<◌, ◌≤◌, ◌⊎◌, inl, inr, ℕ, zero, suc, Bool, true, false, cond, List, [], ◌∷◌, ◌++◌, map, Option, Some, None, refl, sym, ap, ◌∙◌, subst, arith, rules, append_assoc}
 use Rattle.std.specs.Prelude.{◌&&◌, nat_lt, ⊤}
 use Rattle.std.proofs.lemmas.Bool.Decides.{nat_tests}
 use Rattle.fort_syntax.specs.CardRules.{fault_or}
@@ -154,6 +154,12 @@ stage_told rs a card (p ∷ ps) r =
 
 -- ---- all stages
 
+above : (n s : ℕ) → n ≤ s → (s ≡ n → ⊥) → suc n ≤ s
+above zero zero low other = absurd (other refl)
+above zero (suc s) low other = omega arith
+above (suc n) zero low other = absurd (omega (arith, low))
+above (suc n) (suc s) low other = let r = above n s (omega (arith, low)) (λ e. other (ap suc e)) in omega (arith, r)
+
 -- each of some rules is of a stage
 abbrev AreOfStage : ℕ → List Rule → Type 0
 AreOfStage n [] = ⊤
@@ -198,10 +204,7 @@ stages_told n (rs ∷ rest) a card ps r =
     of rule at h e = let b = breaker ps rule at h in a.0.all rule b.0 b.1 e
 
     later : ((rule : Rule) (at : ℕ) → ¬ InStage rs ps rule at) → (rule : Rule) (at : ℕ) → From n ps rule at → From (suc n) ps rule at
-    later none rule at h =
-        let other : stage_of rule ≡ n → ⊥ = λ e. none rule at (of rule at h.1 e, h.1) in
-        let low = h.0 in
-        (omega (arith, low, other), h.1)
+    later none rule at h = (above n (stage_of rule) h.0 (λ e. none rule at (of rule at h.1 e, h.1)), h.1)
 
     step : (f : Option Fault) → TellsLeast (InStage rs ps) f → (g : Option Fault) → TellsFirst (From (suc n) ps) g
         → TellsFirst (From n ps) (fault_before f g)
@@ -230,6 +233,9 @@ data Staged : Rule → Type 0 where
   of_uses : {rule : Rule} → IsIn rule use_rules → Staged rule
   of_types : {rule : Rule} → IsIn rule type_rules → Staged rule
 
+never : {C : Type 0} → false ≡ true → C
+never h = search rules
+
 staged : (rule : Rule) (p : Place) → breaks rule p ≡ true → Staged rule
 staged StatementOrder p h = of_order (here refl)
 staged NoHead p h = of_order (there (here refl))
@@ -246,7 +252,7 @@ staged LabelTwice p h = of_uses (there (there (here refl)))
 staged NoLabel p h = of_uses (there (there (there (here refl))))
 staged BadResult p h = of_uses (there (there (there (there (here refl)))))
 staged BadType p h = of_types (here refl)
-staged _ p h = search rules
+staged _ p h = never h
 
 in_order : (rule : Rule) → IsIn rule order_rules → stage_of rule ≡ 3
 in_order = of_stage 3 order_rules (refl, (refl, (refl, tt)))
@@ -266,9 +272,6 @@ in_types = of_stage 7 type_rules (refl, tt)
 -- a rule that statements can break, with its stage and that it is one of the rules of that stage
 abbrev IsIts : ℕ → Rule → List Rule → Type 0
 IsIts n rule rs = stage_of rule ≡ n → IsIn rule rs
-
-apart : {C : Type 0} (s m n : ℕ) → s ≡ m → s ≡ n → (m ≡ n → ⊥) → C
-apart s m n e f h = absurd (h (sym e ∙ f))
 
 its : (rule : Rule) → Staged rule
     → IsIts 3 rule order_rules × IsIts 4 rule block_rules × IsIts 5 rule name_rules × IsIts 6 rule use_rules × IsIts 7 rule type_rules
