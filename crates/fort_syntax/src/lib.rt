@@ -14,6 +14,7 @@ mod plain_condition;
 mod plain_deck;
 mod plain_expr;
 mod plain_stmt;
+mod plain_terms;
 mod refusal;
 mod rows;
 mod rule;
