@@ -7,7 +7,8 @@ use Rattle.fort_syntax.specs.declared.condition.Kind.TheVariants.{AssertCheck, C
 use Rattle.fort_syntax.specs.declared.unit.Line.{Line}
 use Rattle.fort_syntax.specs.declared.unit.Unit.{Unit as Routine}
 use Rattle.fort_model.specs.Flow.{leads}
-use Rattle.fort_model.specs.Program.{Program, Assertion, notes_of, is_smashed}
+use Rattle.fort_notes.specs.Assertions.{Assertion}
+use Rattle.fort_model.specs.Program.{Program, notes_of, is_smashed}
 use Rattle.fort_model.specs.Senses.{Sense, note}
 use Rattle.fort_model.specs.Events.{Event, takes}
 use Rattle.fort_model.specs.Seen.{Named, Answers, symbols_of_calls}

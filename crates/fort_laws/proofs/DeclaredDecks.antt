@@ -28,7 +28,8 @@ use Rattle.fort_model.specs.Lists.{IsAmong}
 use Rattle.fort_model.specs.Program.{Program}
 use Rattle.fort_laws.specs.Declared.{IsDimension, IsDeclared, AreDeclared}
 use Rattle.fort_laws.specs.Frame.{HasName}
-use Rattle.fort_laws.specs.GoodDecks.{KeepsRule, WellFormedIsDeclared}
+use Rattle.fort_model.specs.Rules.{KeepsRule}
+use Rattle.fort_laws.specs.GoodDecks.{WellFormedIsDeclared}
 use Rattle.fort_laws.proofs.DeclaredNames.{IsNamed, named_among, among_named, only_once, no_twin_left, one_data_name, has_own_name, data_among, found_named}
 use Rattle.fort_laws.proofs.DeclaredUnits as unit
 use Rattle.fort_laws.proofs.DeclaredUses.{right_line, set_data, pass_data}

@@ -12,7 +12,8 @@ use Rattle.fort_syntax.specs.declared.unit.Line.{Line}
 use Rattle.fort_syntax.specs.declared.unit.Unit.{Unit as Routine}
 use Rattle.fort_model.specs.Flow.{leads, target, through, behind, Loop, loops_at, next_point}
 use Rattle.fort_model.specs.Paths.{Cut, NoCut, AtEnd, AtAssert, cut_in, cut_at, Edge, Uncut, one, more, over_or, goes_on, goes_from, IsWay}
-use Rattle.fort_model.specs.Program.{Notes, assertion_at}
+use Rattle.fort_notes.specs.Assertions.{Notes}
+use Rattle.fort_model.specs.Program.{assertion_at}
 use Rattle.fort_laws.specs.Ways.{AreExecutable, IsCutUp, LeadsOn, StatementsLeadOn, Completed, WaysCanBeCompleted}
 
 -- a truth value, with what is known of it

@@ -25,7 +25,8 @@ use Rattle.fort_model.specs.Flow.{leads}
 use Rattle.fort_model.specs.Outcome.{Outcome, Ended, Act, and_then, step}
 use Rattle.fort_model.specs.Paths.{Cut, NoCut, AtEnd, AtAssert, cut_of, cut_in, cut_at, Edge, IsWay, over_or}
 use Rattle.fort_model.specs.Perform.{perform}
-use Rattle.fort_model.specs.Program.{Program, Assertion, Notes, notes_of, assertion_at}
+use Rattle.fort_notes.specs.Assertions.{Assertion, Notes}
+use Rattle.fort_model.specs.Program.{Program, notes_of, assertion_at}
 use Rattle.fort_model.specs.Run.{run, go_to, at_line}
 use Rattle.fort_model.specs.Seen.{Named, Answers}
 use Rattle.fort_model.specs.Senses.{of_values, note}

@@ -20,7 +20,8 @@ use Rattle.fort_model.specs.Decks.{line}
 use Rattle.fort_model.specs.Fitting.{FitsAssertion, HasFittingNotes}
 use Rattle.fort_model.specs.Lists.{IsAmong}
 use Rattle.fort_model.specs.Paths.{Path, ArePathsInOrder, IsPath, IsWay, is_path_from}
-use Rattle.fort_model.specs.Program.{Assertion, Notes, notes_of}
+use Rattle.fort_notes.specs.Assertions.{Assertion, Notes}
+use Rattle.fort_model.specs.Program.{notes_of}
 use Rattle.fort_model.specs.Rules.{KeepsRules}
 use Rattle.fort_model.specs.Smashes.{Smashes, HoldsSmashed, sets}
 use Rattle.fort_model.specs.WalkRows.{term, number, at_most, LEAST, GREATEST, the_path}

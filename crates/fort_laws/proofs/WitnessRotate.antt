@@ -32,7 +32,7 @@ use Rattle.fort_laws.proofs.WitnessRules.{LeadsDown, rules_are_kept, leads_lower
 use Rattle.fort_laws.proofs.WitnessSmashes.{table_is_right}
 use Rattle.fort_laws.proofs.WitnessWorths.{IsTrueBy, Follows, AllFollow, all_valid, stands, are_same, same_as_itself}
 
-abbrev units : List Routine
+abbrev pub units : List Routine
 units = swap ∷ rotate ∷ []
 
 swap_well_formed : IsWellFormedUnit Common swap
@@ -100,7 +100,7 @@ sets_j = sets swap (line 6 (Assign (Var J) (Var K))) refl (2, refl) (0, refl)
 sets_k : Smashes units 0 K
 sets_k = sets swap (line 4 (Assign (Var K) (Var I))) refl (0, refl) (0, refl)
 
-table : HoldsSmashed rotate_program
+pub table : HoldsSmashed rotate_program
 table = table_is_right rotate_program (refl also refl also tt) (
     (sets_i also sets_j also sets_k also tt)
     also (passes first_call 0 refl refl sets_i also passes first_call 1 refl refl sets_j also passes second_call 1 refl refl sets_j also tt) also tt)

@@ -4,7 +4,6 @@ use Rattle.fort_syntax.specs.Conditions.{ConditionTree}
 use Rattle.fort_syntax.specs.WellFormed.{IsWellFormedUnit, IsWellFormed}
 use Rattle.fort_syntax.specs.declared.deck.Deck.{Deck}
 use Rattle.fort_syntax.specs.declared.dialect.Dialect.{Dialect}
-use Rattle.fort_syntax.specs.declared.rule.Rule.{Rule}
 use Rattle.fort_syntax.specs.declared.rule.Rule.TheVariants.{BlockMissing}
 use Rattle.fort_syntax.specs.declared.unit.Line.{Line}
 use Rattle.fort_syntax.specs.declared.unit.Unit.{Unit as Routine}
@@ -13,7 +12,7 @@ use Rattle.fort_model.specs.Conditions.{IsExact, AreValid}
 use Rattle.fort_model.specs.Correct.{IsTotallyCorrect}
 use Rattle.fort_model.specs.Fitting.{HasFittingNotes}
 use Rattle.fort_model.specs.Program.{Program}
-use Rattle.fort_model.specs.Rules.{IsBroken, KeepsRules}
+use Rattle.fort_model.specs.Rules.{KeepsRule, KeepsRules}
 use Rattle.fort_model.specs.Smashes.{HoldsSmashed}
 use Rattle.fort_laws.specs.Called.{IsReferenceTo, IsCallTo}
 use Rattle.fort_laws.specs.Declared.{AreDeclared}
@@ -27,10 +26,6 @@ use Rattle.fort_laws.specs.WholeRuns.{BlocksAreCommon}
 -- what stands in the COMMON blocks of a well-formed unit are COMMON entities
 abbrev pub BlocksHoldCommons : Type 0
 BlocksHoldCommons = (dialect : Dialect) (u : Routine) → IsWellFormedUnit dialect u → BlocksAreCommon u
-
--- a program keeps a rule
-abbrev pub KeepsRule : Program → Rule → Type 0
-KeepsRule p rule = (i card : ℕ) → IsBroken p rule i card → ⊥
 
 -- the units of a well-formed deck are as declarations make them, where no calling unit lacks a block of the unit that it calls
 abbrev pub WellFormedIsDeclared : Type 0

@@ -14,7 +14,8 @@ use Rattle.fort_model.specs.Events.{Event}
 use Rattle.fort_model.specs.Outcome.{Ended}
 use Rattle.fort_model.specs.Paths.{AtEnd, AtAssert, cut_at, IsWay}
 use Rattle.fort_model.specs.Processor.{MeetsBound}
-use Rattle.fort_model.specs.Program.{Program, Assertion, notes_of, is_smashed}
+use Rattle.fort_notes.specs.Assertions.{Assertion}
+use Rattle.fort_model.specs.Program.{Program, notes_of, is_smashed}
 use Rattle.fort_model.specs.Run.{run}
 use Rattle.fort_model.specs.Seen.{Named, Answers}
 use Rattle.fort_model.specs.Senses.{of_values}

@@ -8,7 +8,7 @@ use Rattle.fort_syntax.specs.declared.unit.Line.{Line}
 use Rattle.fort_syntax.specs.declared.unit.Unit.{Unit as Routine}
 use Rattle.fort_model.specs.Flow.{leads}
 use Rattle.fort_model.specs.Paths.{IsWay, Uncut}
-use Rattle.fort_model.specs.Program.{Notes}
+use Rattle.fort_notes.specs.Assertions.{Notes}
 
 -- an executable statement; a computed GO TO has a label at least
 abbrev pub IsExecutable : Stmt → Type 0

@@ -10,7 +10,8 @@ use Rattle.fort_model.specs.Evaluate.{Scene}
 use Rattle.fort_model.specs.Outcome.{Ended}
 use Rattle.fort_model.specs.Paths.{AtEnd, AtAssert, cut_at, over_or, IsWay}
 use Rattle.fort_model.specs.Processor.{MeetsBound}
-use Rattle.fort_model.specs.Program.{Program, Assertion, notes_of}
+use Rattle.fort_notes.specs.Assertions.{Assertion}
+use Rattle.fort_model.specs.Program.{Program, notes_of}
 use Rattle.fort_model.specs.Run.{run}
 use Rattle.fort_model.specs.Seen.{Named, Answers}
 use Rattle.fort_model.specs.Senses.{note}

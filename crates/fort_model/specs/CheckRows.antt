@@ -14,7 +14,8 @@ use Rattle.fort_syntax.specs.declared.name.Name.{Name}
 use Rattle.fort_syntax.specs.declared.stmt.Stmt.TheVariants.{Assign, GoTo, Return}
 use Rattle.fort_syntax.specs.declared.unit.Role.TheVariants.{Dummy, Local}
 use Rattle.fort_syntax.specs.declared.unit.Unit.{Unit as Routine}
-use Rattle.fort_model.specs.Program.{Program, Notes}
+use Rattle.fort_notes.specs.Assertions.{Notes}
+use Rattle.fort_model.specs.Program.{Program}
 use Rattle.fort_model.specs.Paths.{Path}
 use Rattle.fort_model.specs.Conditions.{checks_of}
 use Rattle.fort_model.specs.Decks.{line, scalar, routine}

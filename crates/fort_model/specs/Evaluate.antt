@@ -19,7 +19,7 @@ use Rattle.fort_model.specs.Cells.{num, holds, is_defined, same, arithmetic, com
 use Rattle.fort_model.specs.Storage.{Extent, Environment, load}
 use Rattle.fort_model.specs.Places.{dim_values, place}
 use Rattle.fort_model.specs.Processor.{Processor}
-use Rattle.fort_model.specs.Outcome.{Act, give, check, held}
+use Rattle.fort_model.specs.Outcome.{Act, ◌>>◌, ◌>>=◌, give, check, held}
 use Rattle.fort_model.specs.Passing.{Taken, Cells, Fresh, passed, Caller, call}
 
 -- where evaluation goes on: the processor, the units of the deck, the unit, and the cells of its names

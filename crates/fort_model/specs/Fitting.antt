@@ -7,7 +7,8 @@ use Rattle.formula.specs.Tree.{Tree, num, truth, symbol, old, apply, Row, none, 
 use Rattle.fort_syntax.specs.declared.unit.Role.{Role}
 use Rattle.fort_syntax.specs.declared.unit.Unit.{Unit as Routine}
 use Rattle.fort_model.specs.Lists.{IsAmong}
-use Rattle.fort_model.specs.Program.{Program, Notes, Assertion, assertion_at}
+use Rattle.fort_notes.specs.Assertions.{Notes, Assertion}
+use Rattle.fort_model.specs.Program.{Program, assertion_at}
 
 abbrev mutual
   -- each symbol of a term passes a test, and each name whose entry value stands in it another one

@@ -177,3 +177,11 @@ leads dialect u pc (ElseIf e) cs = one_of (next_point u pc ∷ next_branch u pc 
 leads dialect u pc Else cs = behind u pc cs
 leads dialect u pc EndIf cs = behind u pc cs
 leads dialect u pc _ cs = None
+
+abbrev pub leads_by : Dialect → Routine → ℕ → Option Line → List ℕ → Option ℕ
+leads_by dialect u pc None cs = None
+leads_by dialect u pc (Some line) cs = leads dialect u pc line.stmt cs
+
+-- the point that the statement at a point leads to; None too where no statement stands there
+abbrev pub leads_at : Dialect → Routine → ℕ → List ℕ → Option ℕ
+leads_at dialect u pc cs = leads_by dialect u pc (slice_get u.lines pc) cs

@@ -18,7 +18,7 @@ use Rattle.fort_model.specs.Sites.{calls_in}
 use Rattle.fort_model.specs.Flow.{target, Loop, loops_at, loops_around}
 use Rattle.fort_model.specs.Cells.{num, holds, is_defined, same}
 use Rattle.fort_model.specs.Storage.{load, store}
-use Rattle.fort_model.specs.Outcome.{Act, give, check, step, stuck, held, put}
+use Rattle.fort_model.specs.Outcome.{Act, ◌>>◌, ◌>>=◌, give, check, step, stuck, held, put}
 use Rattle.fort_model.specs.Passing.{Taken, Cells, Fresh, Caller}
 use Rattle.fort_model.specs.Evaluate.{Scene, read, ranged, constant, taken, actuals, call_at, evaluate}
 

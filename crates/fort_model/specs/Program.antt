@@ -1,24 +1,11 @@
 -- Programs: the units of a deck with what their notes say, as the walks, the conditions and the theorem see them.
 use Rattle.std.specs.Prelude.{ℕ, Bool, ◌==◌, cond, List, [], ◌∷◌, Option, Some, None, slice_get}
 use Rattle.formula.specs.Atoms.{is_among}
-use Rattle.formula.specs.Tree.{Tree}
 use Rattle.formula.specs.Worth.{Function}
 use Rattle.fort_syntax.specs.declared.name.Name.{Name}
 use Rattle.fort_syntax.specs.declared.dialect.Dialect.{Dialect}
 use Rattle.fort_syntax.specs.declared.unit.Unit.{Unit as Routine}
-
--- An ASSERT: the point of the statement before which it stands, its card, its terms, and the parts of its clock.
-pub record Assertion : Type 0 where
-  pub point : ℕ
-  pub card : ℕ
-  pub terms : List Tree
-  pub clock : List Tree
-
--- the terms of INPUT and of OUTPUT, and the ASSERTs in the order of their cards
-pub record Notes : Type 0 where
-  pub input : List Tree
-  pub output : List Tree
-  pub asserts : List Assertion
+use Rattle.fort_notes.specs.Assertions.{Assertion, Notes, no_notes}
 
 -- A deck in a dialect: its units; the notes of each; the definitions, numbered from 1; the bound, up to which every
 -- processor has all integers; and for each unit the names that it smashes. Units are counted from 0.
@@ -29,10 +16,6 @@ pub record Program : Type 0 where
   pub functions : List Function
   pub bound : ℕ
   pub smashes : List (List Name)
-
--- the notes of a unit that has none
-abbrev pub no_notes : Notes
-no_notes = record { input = []; output = []; asserts = [] }
 
 abbrev pub notes_in : Option Notes → Notes
 notes_in None = no_notes
@@ -53,8 +36,6 @@ smashed_names p i = names_if_any (slice_get p.smashes i)
 -- by the table, a unit smashes a name
 abbrev pub is_smashed : Program → ℕ → Name → Bool
 is_smashed p i x = is_among x (smashed_names p i)
-
--- ---- the names of a unit by their roles
 
 -- the ASSERT at a point
 abbrev pub assertion_in : List Assertion → ℕ → Option Assertion

@@ -15,7 +15,8 @@ use Rattle.fort_syntax.specs.declared.stmt.Stmt.TheVariants.{GoTo, Computed, Ari
 use Rattle.fort_syntax.specs.declared.unit.Line.{Line}
 use Rattle.fort_syntax.specs.declared.unit.Unit.{Unit as Routine}
 use Rattle.fort_model.specs.Lists.{IsAmong}
-use Rattle.fort_model.specs.Program.{Program, Assertion, notes_of, is_smashed}
+use Rattle.fort_notes.specs.Assertions.{Assertion}
+use Rattle.fort_model.specs.Program.{Program, notes_of, is_smashed}
 use Rattle.fort_model.specs.Paths.{Uncut}
 use Rattle.fort_model.specs.Calls.{Reaches, callee_of, sites_of}
 use Rattle.fort_model.specs.Walk.{is_some_dim}
@@ -152,6 +153,10 @@ pub record IsBroken (p : Program) (rule : Rule) (i card : ℕ) : Type 0 where
   pub is_unit : slice_get p.units i ≡ Some unit
   pub breaks : Breaks p rule i unit card
 
--- a program keeps these rules
+-- a program keeps a rule: no unit breaks it
+abbrev pub KeepsRule : Program → Rule → Type 0
+KeepsRule p rule = (i card : ℕ) → IsBroken p rule i card → ⊥
+
+-- a program keeps all of these rules
 abbrev pub KeepsRules : Program → Type 0
-KeepsRules p = (rule : Rule) (i card : ℕ) → IsBroken p rule i card → ⊥
+KeepsRules p = (rule : Rule) → KeepsRule p rule

@@ -10,7 +10,7 @@ use Rattle.fort_model.specs.Flow.{leads}
 use Rattle.fort_model.specs.Storage.{Storage, Environment, load, with_extents, side_by_side}
 use Rattle.fort_model.specs.Places.{dim_values, size_of}
 use Rattle.fort_model.specs.Processor.{Processor}
-use Rattle.fort_model.specs.Outcome.{Act, give, step, stuck, held, put}
+use Rattle.fort_model.specs.Outcome.{Act, ◌>>◌, ◌>>=◌, give, step, stuck, held, put}
 use Rattle.fort_model.specs.Perform.{perform}
 
 -- the number of cells of each name that gets new ones

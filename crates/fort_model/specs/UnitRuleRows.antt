@@ -16,7 +16,7 @@ use Rattle.fort_syntax.specs.declared.unit.Role.TheVariants.{Dummy, Local}
 use Rattle.fort_syntax.specs.declared.unit.Unit.{Unit as Routine}
 use Rattle.fort_model.specs.Decks.{line, scalar, array, routine, function_of}
 use Rattle.fort_model.specs.Rows.{inc}
-use Rattle.fort_model.specs.Program.{Assertion}
+use Rattle.fort_notes.specs.Assertions.{Assertion}
 use Rattle.fort_model.specs.Rules.{cards_breaking}
 use Rattle.fort_model.specs.VerdictRows.{two_units}
 use Rattle.fort_model.specs.WalkRows.{number, plain_notes, alone}

@@ -14,7 +14,8 @@ use Rattle.fort_syntax.specs.declared.unit.Role.TheVariants.{Dummy, Local}
 use Rattle.fort_syntax.specs.declared.unit.Unit.{Unit as Routine}
 use Rattle.fort_model.specs.Decks.{line, scalar, routine}
 use Rattle.fort_model.specs.Rows.{inc, twice, swap, rotate, successor}
-use Rattle.fort_model.specs.Program.{Program, Notes}
+use Rattle.fort_notes.specs.Assertions.{Notes}
+use Rattle.fort_model.specs.Program.{Program}
 use Rattle.fort_model.specs.Senses.{of_values}
 use Rattle.fort_model.specs.Symbols.{Symbol, LeastInteger, GreatestInteger, AtEntry, AtStart, ByCall}
 use Rattle.fort_model.specs.Events.{Verdict, Good, Fails, Off, verdict}

@@ -11,7 +11,8 @@ use Rattle.fort_syntax.specs.declared.stmt.Dim.TheVariants.{Fixed, Named as Adju
 use Rattle.fort_syntax.specs.declared.unit.Line.{Line}
 use Rattle.fort_syntax.specs.declared.unit.Unit.{Unit as Routine}
 use Rattle.fort_model.specs.Flow.{leads}
-use Rattle.fort_model.specs.Program.{Assertion, Notes, notes_of, is_smashed}
+use Rattle.fort_notes.specs.Assertions.{Assertion, Notes}
+use Rattle.fort_model.specs.Program.{notes_of, is_smashed}
 use Rattle.fort_model.specs.Symbols.{AtEntry, AtStart}
 use Rattle.fort_model.specs.Senses.{natural, make2, least_integer, greatest_integer, is_defined, note}
 use Rattle.fort_model.specs.Events.{Event, Check, checks, takes}

@@ -17,7 +17,7 @@ use Rattle.fort_syntax.specs.declared.expr.Expr.TheVariants.{Const, Truth, Var, 
 use Rattle.fort_syntax.specs.declared.stmt.Dim.{Dim}
 use Rattle.fort_model.specs.Senses.{natural, make1, make2, greatest_integer, undefined, is_defined, negated, in_range}
 use Rattle.fort_model.specs.Events.{Check, checks}
-use Rattle.fort_model.specs.Seen.{Named, See, see, meet}
+use Rattle.fort_model.specs.Seen.{Named, ◌>>◌, ◌>>=◌, See, see, meet}
 use Rattle.fort_model.specs.WalkPlaces.{place, subscripts_fit}
 use Rattle.fort_model.specs.WalkCalls.{Sight, Operand, Bare, Part, Computed, call}
 

@@ -12,7 +12,8 @@ use Rattle.fort_syntax.specs.declared.dialect.Dialect.{Dialect}
 use Rattle.fort_syntax.specs.declared.dialect.Dialect.TheVariants.{Common}
 use Rattle.fort_syntax.specs.declared.name.Name.{Name}
 use Rattle.fort_syntax.specs.declared.unit.Unit.{Unit as Routine}
-use Rattle.fort_model.specs.Program.{Program, Notes, Assertion}
+use Rattle.fort_notes.specs.Assertions.{Notes, Assertion}
+use Rattle.fort_model.specs.Program.{Program}
 use Rattle.fort_model.specs.Paths.{Path}
 use Rattle.fort_model.specs.Conditions.{conditions_of}
 use Rattle.fort_model.specs.Rows.{inc}

@@ -19,7 +19,7 @@ use Rattle.fort_model.specs.Flow.{target, Loop, loops_at, loops_around}
 use Rattle.fort_model.specs.Perform.{card_in}
 use Rattle.fort_model.specs.Senses.{natural, make2, make3, undefined, is_defined, negated, lies_from_to}
 use Rattle.fort_model.specs.Events.{Take}
-use Rattle.fort_model.specs.Seen.{Named, See, see, meet}
+use Rattle.fort_model.specs.Seen.{Named, ◌>>◌, ◌>>=◌, See, see, meet}
 use Rattle.fort_model.specs.WalkCalls.{Sight, call}
 use Rattle.fort_model.specs.WalkExpr.{checked, read, ranged, constant, place_checked, values, operands, value}
 
