@@ -105,10 +105,11 @@ module _ (unit : Segment) where
   reference_in x m = (kept_in (λ f. not (is_intrinsic_name f)) (references_of unit) m).0
 
   module _ (d : Dialect) (earlier : List Segment) (g : Given d earlier unit) where
-    no_data : (x : Name) → IsIn x (functions_of unit) → ¬ IsIn x (data_names unit)
-    no_data x f m =
+    -- a function that the unit references, an intrinsic one too, is no data name
+    pub reference_no_data : (x : Name) → IsIn x (references_of unit) → ¬ IsIn x (data_names unit)
+    reference_no_data x f m =
         either (in_either (dummies_of unit ++ commons_of unit) (own_value_of unit)
-        (data_held unit x m (reference_in x f))) held own
+        (data_held unit x m f)) held own
       where
         of_either : IsIn x (dummies_of unit) ⊎ IsIn x (commons_of unit)
             → (is_among x (dummies_of unit) || is_among x (commons_of unit)) ≡ true
@@ -119,7 +120,7 @@ module _ (unit : Segment) where
 
         held : IsIn x (dummies_of unit ++ commons_of unit) → ⊥
         held k =
-            let w = references_are unit x (reference_in x f) in
+            let w = references_are unit x f in
             clash (of_either (in_either (dummies_of unit) (commons_of unit) k))
             (ap (λ y. is_among y (dummies_of unit) || is_among y (commons_of unit)) (sym w.5)
             ∙ other_false (is_reference (scope_of unit) w.2)
@@ -129,7 +130,10 @@ module _ (unit : Segment) where
         own : IsIn x (own_value_of unit) → ⊥
         own k =
             let o = own_value_is (is_function_segment unit) x (own_name unit) k in
-            own_no_reference d earlier unit g (subst (λ z. IsIn z (references_of unit)) (sym o.1) (reference_in x f))
+            own_no_reference d earlier unit g (subst (λ z. IsIn z (references_of unit)) (sym o.1) f)
+
+    no_data : (x : Name) → IsIn x (functions_of unit) → ¬ IsIn x (data_names unit)
+    no_data x f = reference_no_data x (reference_in x f)
 
     pub functions_proved : are_functions (unit_of unit) ≡ true
     functions_proved =

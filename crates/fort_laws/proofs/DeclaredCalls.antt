@@ -237,4 +237,4 @@ module _ (dialect : Dialect) (p : Program) (wells : AreWellFormedUnits dialect p
 
 pub calls_agree : CallsAgree
 calls_agree dialect deck p w units keeps i j c =
-    agrees dialect p (subst (AreWellFormedUnits dialect) units w.0) (subst (λ us. list_all (λ u. list_all (agree_on_blocks u) us) us ≡ true) units w.1) keeps i j c
+    agrees dialect p (subst (AreWellFormedUnits dialect) units w.units) (subst (λ us. list_all (λ u. list_all (agree_on_blocks u) us) us ≡ true) units w.blocks) keeps i j c

@@ -243,5 +243,5 @@ module _ (dialect : Dialect) (p : Program) (wells : AreWellFormedUnits dialect p
 
 pub well_formed_is_declared : WellFormedIsDeclared
 well_formed_is_declared dialect deck p w same keeps =
-    are_declared dialect p (subst (AreWellFormedUnits dialect) same w.0)
-    (subst (λ us. list_all (λ u. list_all (agree_on_blocks u) us) us ≡ true) same w.1) keeps
+    are_declared dialect p (subst (AreWellFormedUnits dialect) same w.units)
+    (subst (λ us. list_all (λ u. list_all (agree_on_blocks u) us) us ≡ true) same w.blocks) keeps

@@ -171,8 +171,8 @@ module _ (dialect : Dialect) (u : Routine) (w : IsWellFormedUnit dialect u) wher
   -- a name before a bracket that is no array and no intrinsic function is a function
   is_function : (f : Name) (n : ℕ) → is_known u f (use_as.applied n) ≡ true → is_array scope f ≡ false → is_intrinsic_name f ≡ false → is_among f (functions_of_unit u) ≡ true
   is_function f n k h t =
-      one_holds (is_array scope f || is_intrinsic scope f) (is_among f (functions_of_unit u)) k
-      (ap (λ b. b || is_intrinsic scope f) h ∙ ap (λ b. b && not (is_array scope f)) t)
+      one_holds (is_array scope f || (is_intrinsic_name f && not (is_among f (names_of_unit u)))) (is_among f (functions_of_unit u)) k
+      (ap (λ b. b || (is_intrinsic_name f && not (is_among f (names_of_unit u)))) h ∙ ap (λ b. b && not (is_among f (names_of_unit u))) t)
 
   -- what is applied as a reference is a function
   pub reference_is_function : (f : Name) (n : ℕ) → applied u f ≡ Reference → is_known u f (use_as.applied n) ≡ true → is_among f (functions_of_unit u) ≡ true

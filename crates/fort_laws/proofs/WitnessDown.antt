@@ -36,7 +36,7 @@ use Rattle.fort_laws.proofs.WitnessSmashes.{table_is_right}
 use Rattle.fort_laws.proofs.WitnessWorths.{IsTrueBy, Follows, AllFollow, all_valid, stands, IsInteger, integer, zero_is, still_natural, still_below, above_least, less_by_one}
 
 unit_well_formed : IsWellFormedUnit Common down
-unit_well_formed = record { names = refl; held = refl; data_names = refl; roles = refl; functions = refl; dimensions = refl; blocks = refl; statements = refl; order = refl; result = refl }
+unit_well_formed = record { names = refl; held = refl; data_names = refl; roles = refl; functions = refl; dimensions = refl; blocks = refl; statements = refl; order = refl; cards = refl; result = refl }
 
 abbrev notes : Notes
 notes = notes_of down_program 0
@@ -196,7 +196,7 @@ loop_meets_premises = (
   record {
     deck = record { units = down ∷ []; notes = [] };
     same_units = refl;
-    well_formed = (unit_well_formed also tt) also refl;
+    well_formed = record { units = unit_well_formed also tt; blocks = refl; order = refl; notes = refl; places = refl };
     notes = fitting;
     rules = keeps;
     smashed = table;

@@ -36,10 +36,10 @@ abbrev pub units : List Routine
 units = swap ∷ rotate ∷ []
 
 swap_well_formed : IsWellFormedUnit Common swap
-swap_well_formed = record { names = refl; held = refl; data_names = refl; roles = refl; functions = refl; dimensions = refl; blocks = refl; statements = refl; order = refl; result = refl }
+swap_well_formed = record { names = refl; held = refl; data_names = refl; roles = refl; functions = refl; dimensions = refl; blocks = refl; statements = refl; order = refl; cards = refl; result = refl }
 
 rotate_well_formed : IsWellFormedUnit Common rotate
-rotate_well_formed = record { names = refl; held = refl; data_names = refl; roles = refl; functions = refl; dimensions = refl; blocks = refl; statements = refl; order = refl; result = refl }
+rotate_well_formed = record { names = refl; held = refl; data_names = refl; roles = refl; functions = refl; dimensions = refl; blocks = refl; statements = refl; order = refl; cards = refl; result = refl }
 
 fitting : HasFittingNotes rotate_program
 fitting = notes_fit rotate_program refl (
@@ -199,7 +199,7 @@ rot_meets_premises = (
   record {
     deck = record { units = units; notes = [] };
     same_units = refl;
-    well_formed = (swap_well_formed also rotate_well_formed also tt) also refl;
+    well_formed = record { units = swap_well_formed also rotate_well_formed also tt; blocks = refl; order = refl; notes = refl; places = refl };
     notes = fitting;
     rules = keeps;
     smashed = table;

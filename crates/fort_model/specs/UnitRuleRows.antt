@@ -49,14 +49,14 @@ AdjustableDimensionsAgree =
 -- ---- names of units
 
 abbrev pub does_nothing : Name → Routine
-does_nothing name = record { name = name; sort = None; head = 7; dummies = []; names = []; functions = []; blocks = []; lines = line 8 Return ∷ []; «end» = 9 }
+does_nothing name = record { name = name; sort = None; head = 8; dummies = []; names = []; functions = []; blocks = []; lines = line 9 Return ∷ []; «end» = 10 }
 
 -- a name that stands already, that of an intrinsic function, that of a block, and another one
 abbrev pub NamesOfUnits : Type 0
 NamesOfUnits =
-    (cards_of_second UnitTwice (sets K) (K ∷ []) (does_nothing (codes "S")) ≡ 7 ∷ [])
-    × (cards_of_second UnitTwice (sets K) (K ∷ []) (does_nothing (codes "MOD")) ≡ 7 ∷ [])
-    × (cards_of_second UnitTwice (sets K) (K ∷ []) (does_nothing (codes "BOX")) ≡ 7 ∷ [])
+    (cards_of_second UnitTwice (sets K) (K ∷ []) (does_nothing (codes "S")) ≡ 8 ∷ [])
+    × (cards_of_second UnitTwice (sets K) (K ∷ []) (does_nothing (codes "MOD")) ≡ 8 ∷ [])
+    × (cards_of_second UnitTwice (sets K) (K ∷ []) (does_nothing (codes "BOX")) ≡ 8 ∷ [])
     × (cards_of_second UnitTwice (sets K) (K ∷ []) (does_nothing (codes "P")) ≡ [])
 
 -- ---- calls of nobody

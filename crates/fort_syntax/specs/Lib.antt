@@ -2,9 +2,12 @@ pub mod CardFaults
 pub mod CardRules
 pub mod Cards
 pub mod Conditions
+pub mod DeckOrder
 pub mod DeckRows
 pub mod FaultLine
+pub mod FirstFaults
 pub mod Grammar
+pub mod IllFormedRows
 pub mod Misspelled
 pub mod Name
 pub mod NameRows
@@ -12,12 +15,14 @@ pub mod NameRules
 pub mod Names
 pub mod OrderRows
 pub mod OrderRules
+pub mod Readings
 pub mod Rules
 pub mod Scopes
 pub mod SmallDecks
 pub mod Spelled
 pub mod TreePatterns
 pub mod TypeRules
+pub mod UnitFaults
 pub mod UnitRules
 pub mod Units
 pub mod UseRows

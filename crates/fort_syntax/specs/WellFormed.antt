@@ -11,6 +11,7 @@ use Rattle.fort_syntax.specs.Scopes.{Scope, same_option, same_dims, do_meet, is_
 use Rattle.fort_syntax.specs.Uses.{Use, read, assigned, assigned_element, counted, applied, argument_of, actual, called, uses_of, all_parts, used_labels}
 use Rattle.fort_syntax.specs.Units.{class_of, is_performing, gathered, name_of_block, names_of_items, names_in_dims}
 use Rattle.fort_syntax.specs.OrderRules.{is_bad_block}
+use Rattle.fort_syntax.specs.DeckOrder.{stand_between, units_ascend_above, notes_ascend_above, has_place}
 use Rattle.fort_syntax.specs.NameRules.{is_bad_shape, member_of, Member, same_members}
 use Rattle.fort_syntax.specs.TypeRules.{is_well_typed, all_plain_subscripts}
 use Rattle.fort_syntax.specs.UseRules.{is_misused, wants_plain_subscripts, has_label, assigns}
@@ -189,7 +190,7 @@ is_known u x (argument_of f) = is_among x (names_of_unit u)
 is_known u x actual = is_among x (names_of_unit u)
 is_known u x (assigned_element n) = is_array (scope_of_unit u) x
 is_known u x (applied n) =
-    is_array (scope_of_unit u) x || is_intrinsic (scope_of_unit u) x || is_among x (functions_of_unit u)
+    is_array (scope_of_unit u) x || (is_intrinsic_name x && not (is_among x (names_of_unit u))) || is_among x (functions_of_unit u)
 is_known u x called = is_name x && not (is_among x (names_of_unit u))
 
 -- each name is known, arrays have as many subscripts as dimensions or are whole actuals, and intrinsic functions their number of arguments
@@ -207,12 +208,11 @@ is_right_statement dialect u s =
 
 -- ---- the statements of a unit together
 
--- behind some statements, block IFs nest, no label stands a second time, and cards ascend
-abbrev pub are_in_order : List Line → ℕ → List Line → Bool
-are_in_order before card [] = true
-are_in_order before card (line ∷ behind) =
-    not (is_bad_block before line.stmt behind) && not (has_label line.label before) && nat_lt card line.card
-    && are_in_order (before ++ line ∷ []) line.card behind
+-- behind some statements, block IFs nest, and no label stands a second time
+abbrev pub are_in_order : List Line → List Line → Bool
+are_in_order before [] = true
+are_in_order before (line ∷ behind) =
+    not (is_bad_block before line.stmt behind) && not (has_label line.label before) && are_in_order (before ++ line ∷ []) behind
 
 -- the value of a FUNCTION is assigned
 abbrev pub has_result : Routine → Bool
@@ -229,14 +229,19 @@ pub record IsWellFormedUnit (dialect : Dialect) (u : Routine) : Type 0 where
   pub dimensions : IsTrue (list_all (has_right_dims dialect u) u.names)
   pub blocks : IsTrue (are_blocks u)
   pub statements : IsTrue (list_all (λ line. is_right_statement dialect u line.stmt) u.lines)
-  pub order : IsTrue (are_in_order [] 0 u.lines)
+  pub order : IsTrue (are_in_order [] u.lines)
+  pub cards : IsTrue (stand_between u.head u.lines u.«end»)
   pub result : IsTrue (has_result u)
 
 abbrev pub AreWellFormedUnits : Dialect → List Routine → Type 0
 AreWellFormedUnits dialect [] = ⊤
 AreWellFormedUnits dialect (u ∷ us) = IsWellFormedUnit dialect u × AreWellFormedUnits dialect us
 
--- each unit is well formed, and any two of them agree on the blocks that both have
-abbrev pub IsWellFormed : Dialect → Deck → Type 0
-IsWellFormed dialect deck =
-    AreWellFormedUnits dialect deck.units × IsTrue (list_all (λ u. list_all (agree_on_blocks u) deck.units) deck.units)
+-- each unit is well formed, and any two of them agree on the blocks that both have; units stand one behind the other; notes stand on
+-- ascending cards, in units that are there
+pub record IsWellFormed (dialect : Dialect) (deck : Deck) : Type 0 where
+  pub units : AreWellFormedUnits dialect deck.units
+  pub blocks : IsTrue (list_all (λ u. list_all (agree_on_blocks u) deck.units) deck.units)
+  pub order : IsTrue (units_ascend_above 0 deck.units)
+  pub notes : IsTrue (notes_ascend_above 0 deck.notes)
+  pub places : IsTrue (list_all (has_place deck.units) deck.notes)

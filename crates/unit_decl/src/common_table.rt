@@ -20,7 +20,7 @@ pub(crate) struct CommonTable {
 
 impl Model for CommonTable {
     ghost use Rattle.std.specs.Prelude.{List, ℕ};
-ghost use Rattle.formula.specs.Atoms.{same_bytes};
+    ghost use Rattle.formula.specs.Atoms.{same_bytes};
 
     ghost Value = { List (List ℕ × List (List ℕ)) };
 

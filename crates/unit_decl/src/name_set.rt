@@ -18,7 +18,7 @@ pub struct NameSet {
 
 impl Model for NameSet {
     ghost use Rattle.std.specs.Prelude.{List, ℕ};
-ghost use Rattle.formula.specs.Atoms.{is_among};
+    ghost use Rattle.formula.specs.Atoms.{is_among};
 
     ghost Value = { List (List ℕ) };
 
