@@ -1,6 +1,6 @@
 -- The stages in which the rules on calls, storage and flow are judged, and the first fault of a stage.
 use Rattle.std.specs.Prelude.{ℕ, List, [], ◌∷◌}
-use Rattle.fort_syntax.specs.CardFaults.{IsAtMost}
+use Rattle.fort_syntax.specs.FirstFaults.{IsLeastFault}
 use Rattle.fort_syntax.specs.declared.refusal.Fault.{Fault}
 use Rattle.fort_syntax.specs.declared.rule.Rule.{Rule}
 use Rattle.fort_syntax.specs.declared.rule.Rule.TheVariants.{BadLastOfDo, CrossedDo, JumpIntoDo, DoSmashed, FallsOffEnd, UncutCycle, ClockLength, UnitTwice, UnknownUnit, Recursion, BadArguments, SmashedNotName, SmashedTwice, SmashedCommon, BlockMissing, FunctionSmashes, DimensionSmashed}
@@ -32,13 +32,12 @@ rules_of_stages = rules_of_calls ∷ rules_of_smashing ∷ rules_of_ranges ∷ r
 abbrev pub KeepsAll : Program → List Rule → Type 0
 KeepsAll p rules = (rule : Rule) → IsAmong rule rules → KeepsRule p rule
 
--- some unit breaks a rule at a card
-abbrev pub IsBrokenAt : Program → Rule → ℕ → Type 0
-IsBrokenAt p rule card = (i : ℕ) × IsBroken p rule i card
+-- a rule of these is broken at a card by some unit
+pub record IsBrokenOf (p : Program) (rules : List Rule) (rule : Rule) (card : ℕ) : Type 0 where
+  pub among : IsAmong rule rules
+  pub unit : ℕ
+  pub broken : IsBroken p rule unit card
 
--- The first fault of some rules over all units: a unit breaks its rule at its card, and no rule of these is broken at a lesser card,
--- nor one of a lesser number at that card.
-pub record IsFirstBroken (p : Program) (rules : List Rule) (fault : Fault) : Type 0 where
-  pub among : IsAmong fault.rule rules
-  pub broken : IsBrokenAt p fault.rule fault.card
-  pub least : (rule : Rule) (card : ℕ) → IsAmong rule rules → IsBrokenAt p rule card → IsAtMost fault.rule fault.card rule card
+-- the first fault of some rules over all units: on the least card, and there of the least number
+abbrev pub IsFirstBroken : Program → List Rule → Fault → Type 0
+IsFirstBroken p rules fault = IsLeastFault (IsBrokenOf p rules) fault

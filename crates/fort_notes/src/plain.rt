@@ -1,5 +1,5 @@
 // Parts of runs as plain data.
-use crate::{Passing, Site};
+use crate::{Given, Passing, RunCard, Site};
 use edge_io::NoMemory;
 use fort_syntax::Plain;
 use std::alloc::Global;
@@ -30,5 +30,42 @@ impl Plain for Passing {
             (Passing::Listed(sites), Passing::Listed(others)) => sites.is_same(others),
             _ => false,
         }
+    }
+}
+
+impl Plain for Given {
+    fn copied(&self, alloc: Global) -> Result<Given, NoMemory> {
+        Ok(Given {
+            name: self.name,
+            cells: self.cells.copied(alloc)?,
+        })
+    }
+
+    fn is_same(&self, other: &Given) -> bool {
+        self.name == other.name && self.cells.is_same(&other.cells)
+    }
+}
+
+impl Plain for RunCard {
+    fn copied(&self, alloc: Global) -> Result<RunCard, NoMemory> {
+        Ok(RunCard {
+            unit: self.unit,
+            least: self.least,
+            greatest: self.greatest,
+            lazy: self.lazy,
+            passing: self.passing.copied(alloc)?,
+            steps: self.steps,
+            start: self.start.copied(alloc)?,
+        })
+    }
+
+    fn is_same(&self, other: &RunCard) -> bool {
+        self.unit == other.unit
+            && self.least == other.least
+            && self.greatest == other.greatest
+            && self.lazy == other.lazy
+            && self.steps == other.steps
+            && self.passing.is_same(&other.passing)
+            && self.start.is_same(&other.start)
     }
 }
