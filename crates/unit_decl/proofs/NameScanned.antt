@@ -2,8 +2,9 @@
 use Rattle.std.proofs.Common.{◌≡◌, Bool, true, false, List, [], ◌∷◌, ◌++◌, refl, sym, ap, ◌∙◌, append_assoc, rules}
 use Rattle.std.specs.Prelude.{◌||◌, ◌&&◌, not, cond}
 use Rattle.std.specs.List.{list_any}
+use Rattle.formula.specs.Atoms.{same_bytes, is_among, has_twin}
 use Rattle.fort_syntax.specs.CardRules.{fault_or}
-use Rattle.fort_syntax.specs.Scopes.{same_name, is_among, has_twin, do_meet}
+use Rattle.fort_syntax.specs.Scopes.{do_meet}
 use Rattle.fort_syntax.specs.Units.{Segment, gathered, own_name, dummies_of, dummies_by, blocks_by}
 use Rattle.fort_syntax.specs.OrderRules.{Place, places_in}
 use Rattle.fort_syntax.specs.NameRules.{typed_by, dimensioned_by, commons_by, breaks_15, breaks_16, breaks_17, breaks_24, breaks_25, is_bad_block_of}
@@ -22,20 +23,20 @@ use Rattle.unit_decl.proofs.Among.{or_assoc, among_both}
 abbrev pub SameNames : List Name → List Name → Type 0
 SameNames xs ys = (x : Name) → is_among x xs ≡ is_among x ys
 
-pub with_name_of : (xs : List Name) (y x : Name) → is_among x (with_name xs y) ≡ (is_among x xs || same_name x y)
+pub with_name_of : (xs : List Name) (y x : Name) → is_among x (with_name xs y) ≡ (is_among x xs || same_bytes x y)
 with_name_of xs y x = by (is_among y xs) refl
   where
     or_false : (b : Bool) → (b || false) ≡ b
     or_false true = refl
     or_false false = refl
 
-    there : (b : Bool) → same_name x y ≡ b → is_among y xs ≡ true → is_among x xs ≡ (is_among x xs || b)
+    there : (b : Bool) → same_bytes x y ≡ b → is_among y xs ≡ true → is_among x xs ≡ (is_among x xs || b)
     there true e h = ap (λ z. is_among z xs) (same_names x y e) ∙ h ∙ sym (ap (λ z. is_among z xs || true) (same_names x y e) ∙ ap (λ b. b || true) h)
     there false e h = sym (or_false (is_among x xs))
 
-    by : (b : Bool) → is_among y xs ≡ b → is_among x (cond b xs (xs ++ y ∷ [])) ≡ (is_among x xs || same_name x y)
-    by true h = there (same_name x y) refl h
-    by false h = among_both x xs (y ∷ []) ∙ ap (λ b. is_among x xs || b) (or_false (same_name x y))
+    by : (b : Bool) → is_among y xs ≡ b → is_among x (cond b xs (xs ++ y ∷ [])) ≡ (is_among x xs || same_bytes x y)
+    by true h = there (same_bytes x y) refl h
+    by false h = among_both x xs (y ∷ []) ∙ ap (λ b. is_among x xs || b) (or_false (same_bytes x y))
 
 pub with_names_of : (xs ys : List Name) (x : Name) → is_among x (with_names xs ys) ≡ (is_among x xs || is_among x ys)
 with_names_of xs [] x = none (is_among x xs)
@@ -46,7 +47,7 @@ with_names_of xs [] x = none (is_among x xs)
 with_names_of xs (y ∷ ys) x =
     with_names_of (with_name xs y) ys x
     ∙ ap (λ b. b || is_among x ys) (with_name_of xs y x)
-    ∙ or_assoc (is_among x xs) (same_name x y) (is_among x ys)
+    ∙ or_assoc (is_among x xs) (same_bytes x y) (is_among x ys)
 
 four : (a t b m : Bool) → ((a || t) || (b || m)) ≡ (b || (t || (m || a)))
 four true true true m = refl
@@ -70,8 +71,8 @@ meet_behind : (ys before : List Name) (y : Name) → do_meet ys (before ++ y ∷
 meet_behind [] before y = refl
 meet_behind (x ∷ ys) before y =
     ap (λ b. b || do_meet ys (before ++ y ∷ [])) (among_both x before (y ∷ []))
-    ∙ ap (λ b. (is_among x before || (same_name x y || false)) || b) (meet_behind ys before y)
-    ∙ three (is_among x before) (same_name x y) (do_meet ys before) (is_among y ys)
+    ∙ ap (λ b. (is_among x before || (same_bytes x y || false)) || b) (meet_behind ys before y)
+    ∙ three (is_among x before) (same_bytes x y) (do_meet ys before) (is_among y ys)
     ∙ ap (λ b. (is_among x before || do_meet ys before) || (b || is_among y ys)) (swapped x y)
 
 pub repeats_is : (xs ys before : List Name) → SameNames xs before → (has_twin ys || do_meet ys before) ≡ repeats xs ys
@@ -88,8 +89,8 @@ repeats_is xs (y ∷ ys) before same =
 
     more : SameNames (with_name xs y) (before ++ y ∷ [])
     more x =
-        with_name_of xs y x ∙ ap (λ b. b || same_name x y) (same x)
-        ∙ ap (λ b. is_among x before || b) (or_false (same_name x y))
+        with_name_of xs y x ∙ ap (λ b. b || same_bytes x y) (same x)
+        ∙ ap (λ b. is_among x before || b) (or_false (same_bytes x y))
         ∙ sym (among_both x before (y ∷ []))
 
 pub gathered_both : {X : Type 0} (give : Stmt → List X) (xs ys : List Line) → gathered give (xs ++ ys) ≡ gathered give xs ++ gathered give ys
@@ -113,11 +114,11 @@ grown give set before line same x =
     ∙ sym (among_both x (gathered give before) (give line.stmt))
     ∙ ap (is_among x) (sym (gathered_one give before line))
 
-same_letters : (x : Name) → same_name x x ≡ true
+same_letters : (x : Name) → same_bytes x x ≡ true
 same_letters [] = refl
 same_letters (c ∷ cs) = same_letter c cs (same_letters cs)
   where
-    same_letter : (c : _) (cs : Name) → same_name cs cs ≡ true → same_name (c ∷ cs) (c ∷ cs) ≡ true
+    same_letter : (c : _) (cs : Name) → same_bytes cs cs ≡ true → same_bytes (c ∷ cs) (c ∷ cs) ≡ true
     same_letter c cs h = search rules
 
 or_true : (a b : Bool) → b ≡ true → (a || b) ≡ true
@@ -131,8 +132,8 @@ true_or false b h = search rules
 any_same : (f g : Name → Bool) (bs : List Name) → ((b : Name) → is_among b bs ≡ true → f b ≡ g b) → list_any f bs ≡ list_any g bs
 any_same f g [] h = refl
 any_same f g (b ∷ bs) h =
-    ap (λ c. c || list_any f bs) (h b (true_or (same_name b b) (is_among b bs) (same_letters b)))
-    ∙ ap (λ c. g b || c) (any_same f g bs (λ x m. h x (or_true (same_name x b) (is_among x bs) m)))
+    ap (λ c. c || list_any f bs) (h b (true_or (same_bytes b b) (is_among b bs) (same_letters b)))
+    ∙ ap (λ c. g b || c) (any_same f g bs (λ x m. h x (or_true (same_bytes x b) (is_among x bs) m)))
 
 stated : (give : Stmt → List Name) (unit before lines : List Line) (line : Line) (b : Name) → unit ≡ before ++ line ∷ lines
     → is_among b (give line.stmt) ≡ true → is_among b (gathered give unit) ≡ true

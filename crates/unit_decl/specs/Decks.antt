@@ -1,5 +1,5 @@
 -- What the statements and notes of a deck are read as, the deck that they make, and their first fault.
-use Rattle.std.specs.Prelude.{◌≡◌, ◌⊎◌, List, [], ◌∷◌, Some, None, ⊤}
+use Rattle.std.specs.Prelude.{◌≡◌, ◌⊎◌, List, [], ◌∷◌, Some, None}
 use Rattle.fort_syntax.specs.declared.cards.Entry.{Entry}
 use Rattle.fort_syntax.specs.declared.cards.Entry.TheVariants.{Statement, Note}
 use Rattle.fort_syntax.specs.declared.deck.Deck.{Deck}
@@ -8,21 +8,9 @@ use Rattle.fort_syntax.specs.declared.refusal.Fault.{Fault}
 use Rattle.fort_syntax.specs.declared.stmt.Stmt.{Stmt}
 use Rattle.fort_syntax.specs.Grammar.{Spells}
 use Rattle.fort_syntax.specs.Misspelled.{refusal_of}
-use Rattle.fort_syntax.specs.Units.{Piece, stated, remarked, deck_of}
+use Rattle.fort_syntax.specs.Readings.{IsReadAs, AreReadAs}
+use Rattle.fort_syntax.specs.Units.{Piece, deck_of}
 use Rattle.fort_syntax.specs.UnitRules.{unit_fault}
-
--- a statement is read as the one that its text spells, with its card and its label; a note as it is
-abbrev pub IsReadAs : Dialect → Entry → Piece → Type 0
-IsReadAs d (Statement card label text) (stated line) = (line.card ≡ card) × (line.label ≡ label) × Spells d text line.stmt
-IsReadAs d (Statement card label text) (remarked n t) = ⊥
-IsReadAs d (Note card text) (stated line) = ⊥
-IsReadAs d (Note card text) (remarked n t) = (n ≡ card) × (t ≡ text)
-
-abbrev pub AreReadAs : Dialect → List Entry → List Piece → Type 0
-AreReadAs d [] [] = ⊤
-AreReadAs d [] (piece ∷ pieces) = ⊥
-AreReadAs d (entry ∷ entries) [] = ⊥
-AreReadAs d (entry ∷ entries) (piece ∷ pieces) = IsReadAs d entry piece × AreReadAs d entries pieces
 
 -- the text of a statement spells none
 abbrev pub IsMisspelled : Dialect → Entry → Fault → Type 0

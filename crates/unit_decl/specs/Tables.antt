@@ -1,7 +1,8 @@
 -- Tables that keep what was told of a name first.
 use Rattle.std.specs.Prelude.{cond, List, [], ◌∷◌, ◌++◌, map, is_some, Option}
 use Rattle.std.specs.Map.{lookup}
-use Rattle.fort_syntax.specs.Scopes.{same_name, is_given_dims}
+use Rattle.formula.specs.Atoms.{same_bytes}
+use Rattle.fort_syntax.specs.Scopes.{is_given_dims}
 use Rattle.fort_syntax.specs.Units.{Typing, typings_by, items_by}
 use Rattle.fort_syntax.specs.declared.name.Name.{Name}
 use Rattle.fort_syntax.specs.declared.dialect.Sort.{Sort}
@@ -11,7 +12,7 @@ use Rattle.fort_syntax.specs.declared.unit.Line.{Line}
 
 -- what the first of some pairs for a name tells of it
 abbrev pub first_of : {V : Type 0} → List (Name × V) → Name → Option V
-first_of ps x = lookup (same_name x) ps
+first_of ps x = lookup (same_bytes x) ps
 
 -- a table with what is told of one more name: it counts where nothing was told of the name before
 abbrev pub told : {V : Type 0} → List (Name × V) → Name → V → List (Name × V)

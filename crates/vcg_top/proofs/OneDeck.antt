@@ -1,5 +1,6 @@
 -- The deck of some bytes is one, and then they have no fault.
 use Rattle.std.proofs.Common.{◌≡◌, inl, inr, ℕ, List, [], ◌∷◌, Some, None, refl, sym, ap, ◌∙◌}
+use Rattle.fort_syntax.specs.Readings.{IsReadAs, AreReadAs}
 use Rattle.fort_syntax.specs.UnitRules.{unit_fault}
 use Rattle.fort_syntax.specs.Units.{Piece, stated, remarked, deck_of}
 use Rattle.fort_syntax.specs.declared.cards.Entry.{Entry}
@@ -8,7 +9,7 @@ use Rattle.fort_syntax.specs.declared.deck.Deck.{Deck}
 use Rattle.fort_syntax.specs.declared.dialect.Dialect.{Dialect}
 use Rattle.fort_syntax.specs.declared.refusal.Fault.{Fault}
 use Rattle.stmt_parse.proofs.StatementsAgree.{text_spells_one_statement}
-use Rattle.unit_decl.specs.Decks.{IsReadAs, AreReadAs, IsMisspelled, IsFirstMisspelled, IsFirstFault, IsDeckOf}
+use Rattle.unit_decl.specs.Decks.{IsMisspelled, IsFirstMisspelled, IsFirstFault, IsDeckOf}
 use Rattle.vcg_top.specs.Answers.{IsDeckIn, IsFaultIn}
 
 -- an entry is read in one way
