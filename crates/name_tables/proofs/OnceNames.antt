@@ -2,14 +2,10 @@
 use Rattle.std.proofs.Common.{◌≡◌, Bool, true, false, List, [], ◌∷◌, ◌++◌, refl, sym, ap, ◌∙◌, append_assoc, append-nil}
 use Rattle.std.specs.Prelude.{◌||◌, ◌&&◌, not, cond}
 use Rattle.fort_syntax.specs.Scopes.{same_name, is_among, kept, once}
-use Rattle.fort_syntax.specs.Units.{gathered}
 use Rattle.fort_syntax.specs.declared.name.Name.{Name}
-use Rattle.fort_syntax.specs.declared.stmt.Stmt.{Stmt}
-use Rattle.fort_syntax.specs.declared.unit.Line.{Line}
-use Rattle.unit_decl.specs.Sets.{with_name, with_names}
-use Rattle.unit_decl.specs.Commons.{given_from}
-use Rattle.unit_decl.proofs.Told.{swapped}
-use Rattle.unit_decl.proofs.NameScanned.{with_name_of}
+use Rattle.name_tables.specs.Sets.{with_name, with_names}
+use Rattle.name_tables.proofs.Told.{swapped}
+use Rattle.name_tables.proofs.SetNames.{with_name_of}
 
 one_kept : (p q : Name → Bool) (x : Name) (b : Bool) (rest more : List Name) → q x ≡ b → kept p rest ≡ more
     → kept p (cond b (x ∷ []) [] ++ rest) ≡ cond (b && p x) (x ∷ []) [] ++ more
@@ -41,7 +37,7 @@ begun : (b : Bool) (set : List Name) (x : Name) (rest : List Name) → cond b se
 begun true set x rest = ap (λ ys. ys ++ rest) (sym (append-nil set))
 begun false set x rest = refl
 
-set_of : (set xs : List Name) → with_names set xs ≡ set ++ kept (λ y. not (is_among y set)) (once xs)
+pub set_of : (set xs : List Name) → with_names set xs ≡ set ++ kept (λ y. not (is_among y set)) (once xs)
 set_of set [] = sym (append-nil set)
 set_of set (x ∷ xs) =
     set_of (with_name set x) xs
@@ -49,15 +45,10 @@ set_of set (x ∷ xs) =
     ∙ begun (is_among x set) set x (kept (λ y. not (is_among y set)) (kept (λ y. not (same_name x y)) (once xs)))
     ∙ append_assoc set (cond (not (is_among x set)) (x ∷ []) []) (kept (λ y. not (is_among y set)) (kept (λ y. not (same_name x y)) (once xs)))
 
-with_both : (set xs ys : List Name) → with_names set (xs ++ ys) ≡ with_names (with_names set xs) ys
+pub with_both : (set xs ys : List Name) → with_names set (xs ++ ys) ≡ with_names (with_names set xs) ys
 with_both set [] ys = refl
 with_both set (x ∷ xs) ys = with_both (with_name set x) xs ys
 
-given_is : (give : Stmt → List Name) (set : List Name) (lines : List Line) → given_from give set lines ≡ with_names set (gathered give lines)
-given_is give set [] = refl
-given_is give set (line ∷ lines) =
-    given_is give (with_names set (give line.stmt)) lines ∙ sym (with_both set (give line.stmt) (gathered give lines))
-
--- each name that statements give, once
-pub given_once : (give : Stmt → List Name) (lines : List Line) → given_from give [] lines ≡ once (gathered give lines)
-given_once give lines = given_is give [] lines ∙ set_of [] (gathered give lines) ∙ kept_all (once (gathered give lines))
+-- each of some names, once
+pub names_once : (xs : List Name) → with_names [] xs ≡ once xs
+names_once xs = set_of [] xs ∙ kept_all (once xs)

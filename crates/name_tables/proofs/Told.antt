@@ -4,8 +4,7 @@ use Rattle.std.specs.Prelude.{Option, Some, None, is_some, nat_eq, ◌&&◌}
 use Rattle.indexmap.specs.IndexMap.{insert_entry}
 use Rattle.fort_syntax.specs.Scopes.{same_name}
 use Rattle.fort_syntax.specs.declared.name.Name.{Name}
-use Rattle.unit_decl.specs.Tables.{first_of, told, all_told}
-use Rattle.unit_decl.specs.Scoping.{or_else}
+use Rattle.name_tables.specs.Tables.{or_else, first_of, told, all_told}
 
 more_letters : (b : Bool) (c d : ℕ) (cs ds : Name) → nat_eq c d ≡ b → (same_name cs ds ≡ true → cs ≡ ds)
     → (b && same_name cs ds) ≡ true → c ∷ cs ≡ d ∷ ds

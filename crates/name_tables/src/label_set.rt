@@ -1,8 +1,8 @@
 // A set of labels.
 ghost use Rattle.std.specs.Prelude.{◌≡◌, ◌==◌, ◌&&◌, [], not, IfOk, OnOk};
-ghost use Rattle.unit_decl.specs.Labels.{is_known, with_label};
+ghost use Rattle.name_tables.specs.Labels.{is_known, with_label};
 
-use edge_io::NoMemory;
+use edge_io::{Keys, NoMemory};
 use indexmap::IndexSet;
 use std::alloc::Global;
 use std::marker::Model;
@@ -10,7 +10,7 @@ use std::marker::Model;
 /// Labels, which contracts see as the list of them in the order in which they came, each once.
 #[derive(Drop)]
 pub struct LabelSet {
-    set: IndexSet<u32>,
+    set: IndexSet<u32, Keys>,
 }
 
 impl Model for LabelSet {
@@ -23,11 +23,11 @@ impl Model for LabelSet {
 
 impl LabelSet {
     /// No labels.
-    pub fn new(alloc: Global) -> LabelSet
+    pub fn new(alloc: Global, keys: Keys) -> LabelSet
         ensures { result ≡ [] }
     {
         LabelSet {
-            set: IndexSet::new(alloc),
+            set: IndexSet::with_hasher(alloc, keys),
         }
     }
 
@@ -38,7 +38,7 @@ impl LabelSet {
         self.set.contains(&label)
     }
 
-    /// Adds a label.
+    /// Adds a label. At `NoMemory` the set is as before.
     pub fn add(&mut self, label: u32) -> Result<(), NoMemory>
         ensures { OnOk result (self.new ≡ with_label self.old label) }
     {

@@ -3,16 +3,15 @@ use Rattle.std.proofs.Common.{◌≡◌, ◌<◌, ◌≤◌, length, slice_index
 use Rattle.std.specs.Prelude.{◌||◌, ◌&&◌, not, cond, nat_lt, Some, None}
 use Rattle.fort_syntax.specs.CardRules.{fault_or}
 use Rattle.fort_syntax.specs.Units.{Segment}
-use Rattle.fort_syntax.specs.OrderRules.{places_in, places_from, places, blocks_behind, blocks_open, stays_open, still_open, is_ended, is_bad_block, has_no_branch, is_outside}
-use Rattle.fort_syntax.specs.UnitRules.{block_rules, fault_in_stage, fault_before}
+use Rattle.fort_syntax.specs.OrderRules.{places_in, blocks_behind, blocks_open, stays_open, still_open, is_ended, is_bad_block, has_no_branch, is_outside}
+use Rattle.fort_syntax.specs.UnitRules.{block_rules, fault_in_stage}
 use Rattle.fort_syntax.specs.declared.dialect.Dialect.{Dialect}
 use Rattle.fort_syntax.specs.declared.rule.Rule.TheVariants.{BadBlockIf}
 use Rattle.fort_syntax.specs.declared.expr.Expr.{Expr}
 use Rattle.fort_syntax.specs.declared.stmt.Stmt.{Stmt}
 use Rattle.fort_syntax.specs.declared.stmt.Stmt.TheVariants.{BlockIf, ElseIf, Else, EndIf}
 use Rattle.fort_syntax.specs.declared.unit.Line.{Line}
-use Rattle.unit_decl.proofs.OrderScans.{fault_in_both}
-use Rattle.unit_decl.specs.BlockScans.{is_misplaced, before_misplaced, ends_with, ends, is_unclosed, before_unclosed, fault_behind, sooner, block_scan, block_scans}
+use Rattle.order_rules.specs.BlockScans.{is_misplaced, before_misplaced, ends_with, ends, is_unclosed, before_unclosed, fault_behind, sooner, block_scan}
 
 none_below : (m : ℕ) → nat_lt m 0 ≡ false
 none_below m = grind arith
@@ -95,15 +94,3 @@ pub no_fault : (n : ℕ) (lines : List Line) → length lines ≤ n → fault_be
 no_fault n [] h = refl
 no_fault zero (line ∷ lines) h = search rules
 no_fault (suc n) (line ∷ lines) h = no_fault n lines (grind arith)
-
-scanned_units : (dialect : Dialect) (earlier units : List Segment)
-    → fault_in_stage block_rules (places_from dialect earlier units) ≡ block_scans units
-scanned_units dialect earlier [] = refl
-scanned_units dialect earlier (unit ∷ units) =
-    fault_in_both block_rules (places_in dialect earlier unit [] unit) (places_from dialect (earlier ++ unit ∷ []) units)
-    ∙ ap (λ f. fault_before f (fault_in_stage block_rules (places_from dialect (earlier ++ unit ∷ []) units))) (found dialect earlier unit)
-    ∙ ap (fault_before (block_scan [] unit)) (scanned_units dialect (earlier ++ unit ∷ []) units)
-
--- the first fault of a deck is found unit by unit
-pub all_found : (dialect : Dialect) (units : List Segment) → fault_in_stage block_rules (places dialect units) ≡ block_scans units
-all_found dialect units = scanned_units dialect [] units

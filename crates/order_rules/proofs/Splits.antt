@@ -4,7 +4,7 @@ use Rattle.fort_syntax.specs.Units.{Segment, segments, begun_with, put_before, c
 use Rattle.fort_syntax.specs.declared.class.Class.{Class}
 use Rattle.fort_syntax.specs.declared.class.Class.TheVariants.{Heading, Declaring, Performing, Ending}
 use Rattle.fort_syntax.specs.declared.unit.Line.{Line}
-use Rattle.unit_decl.specs.Scans.{size_with, unit_size}
+use Rattle.order_rules.specs.Scans.{size_with, unit_size}
 
 -- the statement in front of the units of others, where those begin with a unit of n
 in_front : (line : Line) (n : ℕ) (lines : List Line) (units : List Segment) → units ≡ take n lines ∷ segments (drop n lines)

@@ -1,7 +1,5 @@
 -- What passes over the statements of a unit find of its block IFs.
 use Rattle.std.specs.Prelude.{ℕ, zero, suc, pred, Bool, true, false, cond, List, [], ◌∷◌, Option, Some, None}
-use Rattle.fort_syntax.specs.UnitRules.{fault_before}
-use Rattle.fort_syntax.specs.Units.{Segment}
 use Rattle.fort_syntax.specs.OrderRules.{blocks_behind, has_no_branch, is_outside}
 use Rattle.fort_syntax.specs.declared.refusal.Fault.{Fault}
 use Rattle.fort_syntax.specs.declared.rule.Rule.TheVariants.{BadBlockIf}
@@ -56,8 +54,3 @@ sooner (suc a) (suc b) = suc (sooner a b)
 -- the first fault of statements by the rule on block IFs
 abbrev pub block_scan : List Bool → List Line → Option Fault
 block_scan blocks lines = fault_behind (sooner (before_misplaced blocks lines) (before_unclosed lines)) lines
-
--- the first fault of units by this rule
-abbrev pub block_scans : List Segment → Option Fault
-block_scans [] = None
-block_scans (unit ∷ units) = fault_before (block_scan [] unit) (block_scans units)

@@ -1,16 +1,13 @@
 -- What one pass over the statements of a unit finds.
-use Rattle.std.specs.Prelude.{ℕ, suc, ◌*◌, ◌&&◌, ◌||◌, not, nat_lt, Bool, true, false, cond, List, [], ◌∷◌, Option, Some, None}
+use Rattle.std.specs.Prelude.{ℕ, suc, ◌&&◌, ◌||◌, not, Bool, true, false, cond, List, [], ◌∷◌, Option, Some, None}
 use Rattle.fort_syntax.specs.CardRules.{fault_or}
-use Rattle.fort_syntax.specs.UnitRules.{fault_before}
-use Rattle.fort_syntax.specs.Units.{Segment, class_of, is_heading, is_declaring, is_performing, is_ending}
+use Rattle.fort_syntax.specs.Units.{class_of, is_heading, is_declaring, is_performing, is_ending}
 use Rattle.fort_syntax.specs.OrderRules.{is_empty}
 use Rattle.fort_syntax.specs.declared.class.Class.{Class}
 use Rattle.fort_syntax.specs.declared.class.Class.TheVariants.{Heading, Declaring, Performing, Ending}
 use Rattle.fort_syntax.specs.declared.refusal.Fault.{Fault}
 use Rattle.fort_syntax.specs.declared.rule.Rule.{Rule}
 use Rattle.fort_syntax.specs.declared.rule.Rule.TheVariants.{StatementOrder, NoHead, NoEnd}
-use Rattle.fort_syntax.specs.declared.stmt.Dim.{Dim}
-use Rattle.fort_syntax.specs.declared.stmt.Dim.TheVariants.{Fixed, Named}
 use Rattle.fort_syntax.specs.declared.unit.Line.{Line}
 
 abbrev pub size_with : Class → ℕ → ℕ
@@ -39,13 +36,7 @@ order_scan first performed (line ∷ lines) =
     fault_or (order_rule (class_of line.stmt) first performed (is_empty lines)) line.card
     (order_scan false (performed || is_performing (class_of line.stmt)) lines)
 
--- the first fault of units by these rules
-abbrev pub order_scans : List Segment → Option Fault
-order_scans [] = None
-order_scans (unit ∷ units) = fault_before (order_scan true false unit) (order_scans units)
-
--- so many elements and those of the dimensions that are constants pass 1,000,000 somewhere
-abbrev pub passes : ℕ → List Dim → Bool
-passes size [] = false
-passes size (Fixed n ∷ dims) = cond (nat_lt 1000000 (size * n)) true (passes (size * n) dims)
-passes size (Named x ∷ dims) = passes size dims
+-- the first of some statements is a head
+abbrev pub has_head : List Line → Bool
+has_head [] = false
+has_head (line ∷ lines) = is_heading (class_of line.stmt)

@@ -4,7 +4,7 @@ ghost use Rattle.fort_syntax.specs.Units.{Segment};
 ghost use Rattle.fort_syntax.specs.OrderRules.{places_in, blocks_behind};
 ghost use Rattle.fort_syntax.specs.UnitRules.{block_rules, fault_in_stage};
 ghost use Rattle.fort_syntax.specs.declared.dialect.Dialect.{Dialect};
-ghost use Rattle.unit_decl.specs.BlockScans.{is_misplaced, before_misplaced, is_unclosed, ends_with, before_unclosed, sooner, fault_behind, block_scan};
+ghost use Rattle.order_rules.specs.BlockScans.{is_misplaced, before_misplaced, is_unclosed, ends_with, before_unclosed, sooner, fault_behind, block_scan};
 
 use edge_io::{NoMemory, Stack};
 use fort_syntax::{Fault, Line, Rule, Stmt};
@@ -101,7 +101,7 @@ fn sooner(a: usize, b: usize) -> usize
 }
 
 /// The first fault of a unit: it is told on the first statement that breaks the rule.
-pub(crate) fn scan_blocks(alloc: Global, unit: &[Line]) -> Result<Option<Fault>, NoMemory>
+fn scan_blocks(alloc: Global, unit: &[Line]) -> Result<Option<Fault>, NoMemory>
     ensures { IfOk result (λ fault. fault ≡ block_scan [] unit.now) }
 {
     let Ok(misplaced) = before_misplaced(alloc, unit) else {

@@ -1,12 +1,12 @@
 // Where a unit ends.
 ghost use Rattle.std.specs.Prelude.{◌≡◌, ◌≤◌, ◌∷◌, length, take, drop};
 ghost use Rattle.fort_syntax.specs.Units.{segments};
-ghost use Rattle.unit_decl.specs.Scans.{unit_size};
+ghost use Rattle.order_rules.specs.Scans.{unit_size};
 
 use fort_syntax::{Class, Line};
 
 /// How many statements stand up to the first END, with it, or in all where there is none.
-pub fn unit_size(lines: &[Line]) -> usize
+fn unit_size(lines: &[Line]) -> usize
     ensures value { result ≡ unit_size lines.now }
     ensures bound { result ≤ length lines.now }
 {

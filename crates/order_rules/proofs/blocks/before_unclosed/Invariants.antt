@@ -1,6 +1,6 @@
 use Rattle.std.proofs.Common.{◌≡◌, ◌≤◌, ◌+◌, length, drop}
-use Rattle.unit_decl.specs.BlockScans.{ends, before_unclosed}
-use Rattle.unit_decl.proofs.blocks.before_unclosed.Given as goal
+use Rattle.order_rules.specs.BlockScans.{ends, before_unclosed}
+use Rattle.order_rules.proofs.blocks.before_unclosed.Given as goal
 
 abbrev pub invariant-loop-i : goal.invariant-loop-i
 invariant-loop-i l = record {

@@ -1,7 +1,7 @@
 use Rattle.std.proofs.Common.{◌≡◌, drop}
 use Rattle.std.specs.Prelude.{◌||◌}
-use Rattle.unit_decl.specs.Sets.{with_names, repeats}
-use Rattle.unit_decl.proofs.name_set.NameSet.add_all.Given as goal
+use Rattle.name_tables.specs.Sets.{with_names, repeats}
+use Rattle.name_tables.proofs.name_set.NameSet.add_all.Given as goal
 
 abbrev pub invariant-loop-name : goal.invariant-loop-name
 invariant-loop-name l = record {

@@ -1,61 +1,39 @@
-// What sets and tables are searched by.
-ghost use Rattle.std.specs.Prelude.{◌≡◌, IfSome};
+// What sets and tables of blocks are searched by.
+ghost use Rattle.std.specs.Prelude.{◌≡◌};
 ghost use Rattle.fort_syntax.specs.Units.{name_of_block, block_of_name};
 
 use fort_syntax::{BlockName, Name};
 use std::hash::{Hash, Hasher};
 use std::marker::Model;
 
-/// A name, or the name without letters, which blank COMMON has.
+/// The name of a block: that of blank COMMON has no letters.
 #[derive(Drop)]
-pub(crate) struct Key {
+pub struct BlockKey {
     name: Option<Name>,
 }
 
-fn named(name: &Name) -> BlockName
-    ensures { result ≡ block_of_name name.now }
-{
-    if name.as_bytes().is_empty() {
-        BlockName::Slashes
-    } else {
-        BlockName::Named(*name)
-    }
-}
-
-impl Model for Key {
+impl Model for BlockKey {
     ghost use Rattle.std.specs.Prelude.{List, ℕ};
-    ghost use Rattle.unit_decl.specs.Keys.{key_name};
+    ghost use Rattle.name_tables.specs.Keys.{key_name};
 
     ghost Value = { List ℕ };
 
     ghost view = { λ k. key_name k.name };
 }
 
-impl Key {
-    pub(crate) fn new(name: Name) -> Key
-        ensures { result ≡ name }
-    {
-        Key { name: Some(name) }
-    }
-
-    pub(crate) fn of_block(block: &BlockName) -> Key
+impl BlockKey {
+    /// The key of a block.
+    pub fn new(block: &BlockName) -> BlockKey
         ensures { result ≡ name_of_block block.now }
     {
         match block {
-            BlockName::Bare | BlockName::Slashes => Key { name: None },
-            BlockName::Named(name) => Key { name: Some(*name) },
+            BlockName::Bare | BlockName::Slashes => BlockKey { name: None },
+            BlockName::Named(name) => BlockKey { name: Some(*name) },
         }
     }
 
-    /// The name, where it has letters.
-    pub(crate) fn name(&self) -> Option<Name>
-        ensures { IfSome result (λ name. name ≡ self.now) }
-    {
-        self.name
-    }
-
     /// The block of this name, blank COMMON as `Slashes`.
-    pub(crate) fn block(&self) -> BlockName
+    pub fn block(&self) -> BlockName
         ensures { result ≡ block_of_name self.now }
     {
         match &self.name {
@@ -74,7 +52,15 @@ impl Key {
     }
 }
 
-impl PartialEq for Key {
+#[tactic(auto, using(crate::proofs::NamedBlocks::named_block))]
+fn named(name: &Name) -> BlockName
+    ensures { result ≡ block_of_name name.now }
+{
+    let _bytes = name.as_bytes();
+    BlockName::Named(*name)
+}
+
+impl PartialEq for BlockKey {
     ghost use Rattle.std.specs.Prelude.{nat_eq};
     ghost use Rattle.std.specs.Cmp.{partial_equiv_from_equiv};
     ghost use Rattle.std.specs.Cmp.Lexicographic.{pointwise, nat_list_eq_equiv};
@@ -83,18 +69,18 @@ impl PartialEq for Key {
 
     ghost laws = { partial_equiv_from_equiv nat_list_eq_equiv };
 
-    fn eq(&self, other: &Key) -> bool {
+    fn eq(&self, other: &BlockKey) -> bool {
         self.as_bytes() == other.as_bytes()
     }
 }
 
-impl Eq for Key {
+impl Eq for BlockKey {
     ghost use Rattle.std.specs.Cmp.Lexicographic.{nat_list_eq_equiv};
 
     ghost laws = { nat_list_eq_equiv };
 }
 
-impl Hash for Key {
+impl Hash for BlockKey {
     ghost use Rattle.std.specs.Hash as fed;
     ghost use Rattle.std.specs.Cmp.Rules.{hashing};
     ghost use Rattle.std.proofs.Common.{rules};
