@@ -4,7 +4,7 @@ use Rattle.std.specs.Prelude.{◌&&◌, not, nat_lt, ◌==◌, is_some}
 use Rattle.std.specs.List.{list_any}
 use Rattle.std.proofs.lemmas.Bool.Decides.{nat_tests}
 use Rattle.fort_syntax.specs.Uses.{uses_of}
-use Rattle.fort_syntax.specs.Units.{Segment, gathered, executables, own_name, is_function, class_of, is_performing, unit_of}
+use Rattle.fort_syntax.specs.Units.{Segment, gathered, executables, own_name, is_function_segment, class_of, is_performing, unit_of}
 use Rattle.fort_syntax.specs.OrderRules.{blocks_behind, blocks_open, has_no_branch, is_outside, still_open, is_ended, stays_open, is_bad_block}
 use Rattle.fort_syntax.specs.UseRules.{has_label, assigns}
 use Rattle.fort_syntax.specs.WellFormed.{are_in_order, has_result}
@@ -163,16 +163,16 @@ module _ (d : Dialect) (earlier : List Segment) (unit : Segment) (g : Given d ea
       ∙ (same_uses lines ∙ ap (λ zs. zs ++ gathered uses_of lines) (sym (no_uses line.stmt f))))
 
   pub result_proved : has_result (unit_of unit) ≡ true
-  result_proved = case (is_function unit) assigned none
+  result_proved = case (is_function_segment unit) assigned none
     where
-      assigned : is_function unit ≡ true → has_result (unit_of unit) ≡ true
+      assigned : is_function_segment unit ≡ true → has_result (unit_of unit) ≡ true
       assigned t =
           right_true (not (is_some (unit_of unit).sort)) (assigns (own_name unit) (gathered uses_of (executables unit)))
           (ap (assigns (own_name unit)) (same_uses unit)
-          ∙ of_not_false (other_false (is_function unit) (not (assigns (own_name unit) (gathered uses_of unit)))
+          ∙ of_not_false (other_false (is_function_segment unit) (not (assigns (own_name unit) (gathered uses_of unit)))
           (g.keeps [] g.part.head g.part.rest (sym g.part.whole)).result t))
 
-      none : is_function unit ≡ false → has_result (unit_of unit) ≡ true
+      none : is_function_segment unit ≡ false → has_result (unit_of unit) ≡ true
       none f =
           left_true (not (is_some (unit_of unit).sort)) (assigns (own_name unit) (gathered uses_of (executables unit)))
           (not_false (is_function_made unit ∙ f))

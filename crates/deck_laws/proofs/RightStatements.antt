@@ -2,7 +2,8 @@
 use Rattle.std.proofs.Common.{◌≡◌, ℕ, true, false, cond, List, Some, refl, sym, ap, ◌∙◌}
 use Rattle.std.specs.Prelude.{◌&&◌, ◌||◌, not, length, ◌==◌}
 use Rattle.std.specs.List.{list_all}
-use Rattle.fort_syntax.specs.Scopes.{Scope, is_among, is_array, is_given_dims, is_intrinsic, is_intrinsic_name}
+use Rattle.formula.specs.Atoms.{is_among}
+use Rattle.fort_syntax.specs.Scopes.{Scope, is_array, is_given_dims, is_intrinsic, is_intrinsic_name}
 use Rattle.fort_syntax.specs.Uses.{Use, read, assigned, assigned_element, counted, applied, argument_of, actual, called, Occurrence, occurrence, uses_of, all_parts, used_labels}
 use Rattle.fort_syntax.specs.Units.{Segment, executables, names_in, data_names, references_of, functions_of, scope_of, unit_of, class_of, is_performing}
 use Rattle.fort_syntax.specs.TypeRules.{is_well_typed, all_plain_subscripts}

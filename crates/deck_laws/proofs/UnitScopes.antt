@@ -1,8 +1,9 @@
 -- What a unit made of statements says of names, and what its declarations say.
 use Rattle.std.proofs.Common.{◌≡◌, Bool, true, false, cond, List, [], ◌∷◌, map, Option, Some, None, refl, sym, ap, ◌∙◌, rules}
 use Rattle.std.specs.Prelude.{is_none, is_some}
-use Rattle.fort_syntax.specs.Scopes.{same_name, is_among, is_array, is_given_dims}
-use Rattle.fort_syntax.specs.Units.{own_name, is_function, Segment, gathered, names_in, data_names, functions_of, data_name_of, function_name_of, scope_of, sort_or_integer, unit_of}
+use Rattle.formula.specs.Atoms.{same_bytes, is_among}
+use Rattle.fort_syntax.specs.Scopes.{is_array, is_given_dims}
+use Rattle.fort_syntax.specs.Units.{own_name, is_function_segment, Segment, gathered, names_in, data_names, functions_of, data_name_of, function_name_of, scope_of, sort_or_integer, unit_of}
 use Rattle.fort_syntax.specs.WellFormed.{sort_of_function, sort_among, dims_among, scope_of_unit, names_of_unit, functions_of_unit}
 use Rattle.fort_syntax.specs.declared.dialect.Dialect.{Dialect}
 use Rattle.fort_syntax.specs.declared.dialect.Sort.{Sort}
@@ -40,10 +41,10 @@ module _ (unit : Segment) where
   dims_in_list : (xs : List Name) (x : Name) → IsIn x xs
       → dims_among (map (data_name_of unit) xs) x ≡ (scope_of unit).dims x
   dims_in_list [] x m = elim m [ ]
-  dims_in_list (y ∷ xs) x m = by (dims_in_list xs x) (same_name y x) refl m
+  dims_in_list (y ∷ xs) x m = by (dims_in_list xs x) (same_bytes y x) refl m
     where
       by : (IsIn x xs → dims_among (map (data_name_of unit) xs) x ≡ (scope_of unit).dims x) → (b : Bool)
-          → same_name y x ≡ b → IsIn x (y ∷ xs)
+          → same_bytes y x ≡ b → IsIn x (y ∷ xs)
           → cond b ((scope_of unit).dims y) (dims_among (map (data_name_of unit) xs) x) ≡ (scope_of unit).dims x
       by later true e k = ap (scope_of unit).dims (same_names y x e)
       by later false e (here s) = absurd (clash (are_same y x s) e)
@@ -72,10 +73,10 @@ module _ (unit : Segment) where
   sort_in_list : (xs fs : List Name) (x : Name) → IsIn x xs
       → sort_among (map (data_name_of unit) xs) (map (function_name_of unit) fs) x ≡ given x
   sort_in_list [] fs x m = elim m [ ]
-  sort_in_list (y ∷ xs) fs x m = by (sort_in_list xs fs x) (same_name y x) refl m
+  sort_in_list (y ∷ xs) fs x m = by (sort_in_list xs fs x) (same_bytes y x) refl m
     where
       by : (IsIn x xs → sort_among (map (data_name_of unit) xs) (map (function_name_of unit) fs) x ≡ given x)
-          → (b : Bool) → same_name y x ≡ b
+          → (b : Bool) → same_bytes y x ≡ b
           → IsIn x (y ∷ xs)
           → cond b (given y) (sort_among (map (data_name_of unit) xs) (map (function_name_of unit) fs) x) ≡ given x
       by later true e k = ap given (same_names y x e)
@@ -94,9 +95,9 @@ module _ (unit : Segment) where
   sort_of_reference : (fs : List Name) (x : Name) → IsIn x fs
       → sort_of_function (map (function_name_of unit) fs) x ≡ given x
   sort_of_reference [] x m = elim m [ ]
-  sort_of_reference (y ∷ fs) x m = by (sort_of_reference fs x) (same_name y x) refl m
+  sort_of_reference (y ∷ fs) x m = by (sort_of_reference fs x) (same_bytes y x) refl m
     where
-      by : (IsIn x fs → sort_of_function (map (function_name_of unit) fs) x ≡ given x) → (b : Bool) → same_name y x ≡ b
+      by : (IsIn x fs → sort_of_function (map (function_name_of unit) fs) x ≡ given x) → (b : Bool) → same_bytes y x ≡ b
           → IsIn x (y ∷ fs) → cond b (given y) (sort_of_function (map (function_name_of unit) fs) x) ≡ given x
       by later true e k = ap given (same_names y x e)
       by later false e (here s) = absurd (clash (are_same y x s) e)
@@ -135,5 +136,5 @@ module _ (unit : Segment) where
   some_is false s = refl
 
   -- the unit is a FUNCTION where its head is that of one
-  pub is_function_made : is_some (unit_of unit).sort ≡ is_function unit
-  is_function_made = some_is (is_function unit) (sort_or_integer ((scope_of unit).sort (own_name unit)))
+  pub is_function_made : is_some (unit_of unit).sort ≡ is_function_segment unit
+  is_function_made = some_is (is_function_segment unit) (sort_or_integer ((scope_of unit).sort (own_name unit)))

@@ -1,8 +1,8 @@
 -- What the tables of a unit tell of its COMMON blocks.
 use Rattle.std.proofs.Common.{◌≡◌, Bool, true, false, List, [], ◌∷◌, ◌++◌, refl, sym, ap, ◌∙◌, append_assoc, rules}
 use Rattle.std.specs.Prelude.{◌||◌, ◌&&◌, not, cond, map, Option, Some}
+use Rattle.formula.specs.Atoms.{same_bytes, is_among}
 use Rattle.indexmap.specs.IndexMap.{insert_entry}
-use Rattle.fort_syntax.specs.Scopes.{same_name, is_among}
 use Rattle.fort_syntax.specs.Units.{Segment, gathered, own_name, dummies_by, scope_of, name_of_block, groups_by, blocks_by, names_of_items, items_of_block_in}
 use Rattle.fort_syntax.specs.NameRules.{Member, member_of, members}
 use Rattle.fort_syntax.specs.declared.name.Name.{Name}
@@ -35,34 +35,34 @@ moved false false v w o h = refl
 
 -- a table has for a name what was put for it last
 insert_of : {V : Type 0} (es : List (Name × V)) (k : Name) (v : V) (x : Name)
-    → first_of (insert_entry same_name es k v) x ≡ cond (same_name x k) (Some v) (first_of es x)
+    → first_of (insert_entry same_bytes es k v) x ≡ cond (same_bytes x k) (Some v) (first_of es x)
 insert_of [] k v x = refl
-insert_of {V} (e ∷ es) k v x = by (insert_of es k v x) (same_name k e.0) refl
+insert_of {V} (e ∷ es) k v x = by (insert_of es k v x) (same_bytes k e.0) refl
   where
-    by : first_of (insert_entry same_name es k v) x ≡ cond (same_name x k) (Some v) (first_of es x) → (b : Bool) → same_name k e.0 ≡ b
-        → first_of (cond b ((e.0, v) ∷ es) (e ∷ insert_entry same_name es k v)) x
-        ≡ cond (same_name x k) (Some v) (cond (same_name x e.0) (Some e.1) (first_of es x))
+    by : first_of (insert_entry same_bytes es k v) x ≡ cond (same_bytes x k) (Some v) (first_of es x) → (b : Bool) → same_bytes k e.0 ≡ b
+        → first_of (cond b ((e.0, v) ∷ es) (e ∷ insert_entry same_bytes es k v)) x
+        ≡ cond (same_bytes x k) (Some v) (cond (same_bytes x e.0) (Some e.1) (first_of es x))
     by rest true h =
-        put_over (same_name x e.0) v e.1 (first_of es x)
-        ∙ ap (λ y. cond (same_name x y) (Some v) (cond (same_name x e.0) (Some e.1) (first_of es x))) (sym (same_names k e.0 h))
+        put_over (same_bytes x e.0) v e.1 (first_of es x)
+        ∙ ap (λ y. cond (same_bytes x y) (Some v) (cond (same_bytes x e.0) (Some e.1) (first_of es x))) (sym (same_names k e.0 h))
     by rest false h =
-        ap (cond (same_name x e.0) (Some e.1)) rest
-        ∙ moved (same_name x e.0) (same_name x k) v e.1 (first_of es x)
-        (λ p q. sym h ∙ ap (λ y. same_name y e.0) (sym (same_names x k q)) ∙ p)
+        ap (cond (same_bytes x e.0) (Some e.1)) rest
+        ∙ moved (same_bytes x e.0) (same_bytes x k) v e.1 (first_of es x)
+        (λ p q. sym h ∙ ap (λ y. same_bytes y e.0) (sym (same_names x k q)) ∙ p)
 
 no_more : {X : Type 0} (xs : List X) → xs ++ [] ≡ xs
 no_more [] = refl
 no_more (x ∷ xs) = ap (λ ys. x ∷ ys) (no_more xs)
 
 appended_of : (table : List (Name × List Name)) (k : Name) (names : List Name) (b : Name)
-    → listed (appended table k names) b ≡ listed table b ++ cond (same_name k b) names []
+    → listed (appended table k names) b ≡ listed table b ++ cond (same_bytes k b) names []
 appended_of table k names b =
-    ap names_or_none (insert_of (insert_entry same_name table k []) k (listed table k ++ names) b)
-    ∙ ap (λ o. names_or_none (cond (same_name b k) (Some (listed table k ++ names)) o)) (insert_of table k [] b)
-    ∙ by (same_name b k) refl
+    ap names_or_none (insert_of (insert_entry same_bytes table k []) k (listed table k ++ names) b)
+    ∙ ap (λ o. names_or_none (cond (same_bytes b k) (Some (listed table k ++ names)) o)) (insert_of table k [] b)
+    ∙ by (same_bytes b k) refl
     ∙ ap (λ s. listed table b ++ cond s names []) (swapped b k)
   where
-    by : (s : Bool) → same_name b k ≡ s
+    by : (s : Bool) → same_bytes b k ≡ s
         → names_or_none (cond s (Some (listed table k ++ names)) (cond s (Some []) (first_of table b))) ≡ listed table b ++ cond s names []
     by true h = ap (λ y. listed table y ++ names) (sym (same_names b k h))
     by false h = sym (no_more (listed table b))
@@ -79,7 +79,7 @@ groups_of : (table : List (Name × List Name)) (groups : List Group) (b : Name)
     → listed (with_groups table groups) b ≡ listed table b ++ names_of_items (items_of_block_in groups b)
 groups_of table [] b = sym (no_more (listed table b))
 groups_of table (g ∷ groups) b =
-    let s = same_name (name_of_block g.block) b in
+    let s = same_bytes (name_of_block g.block) b in
     let rest = items_of_block_in groups b in
     groups_of (appended table (name_of_block g.block) (names_of_items g.items)) groups b
     ∙ ap (λ xs. xs ++ names_of_items rest) (appended_of table (name_of_block g.block) (names_of_items g.items) b)
@@ -90,8 +90,8 @@ groups_of table (g ∷ groups) b =
 items_both : (xs ys : List Group) (b : Name) → items_of_block_in (xs ++ ys) b ≡ items_of_block_in xs b ++ items_of_block_in ys b
 items_both [] ys b = refl
 items_both (x ∷ xs) ys b =
-    ap (λ zs. cond (same_name (name_of_block x.block) b) x.items [] ++ zs) (items_both xs ys b)
-    ∙ sym (append_assoc (cond (same_name (name_of_block x.block) b) x.items []) (items_of_block_in xs b) (items_of_block_in ys b))
+    ap (λ zs. cond (same_bytes (name_of_block x.block) b) x.items [] ++ zs) (items_both xs ys b)
+    ∙ sym (append_assoc (cond (same_bytes (name_of_block x.block) b) x.items []) (items_of_block_in xs b) (items_of_block_in ys b))
 
 pub tabled_of : (table : List (Name × List Name)) (lines : List Line) (b : Name)
     → listed (tabled table lines) b ≡ listed table b ++ names_of_items (items_of_block_in (gathered groups_by lines) b)
@@ -138,31 +138,31 @@ one_bad false false false m t = refl
 
 one_added : (test : Name → Bool) (seen bad : List Name) (k b : Name)
     → is_among b (cond (not (is_among k seen) && test k) (with_name bad k) bad)
-    ≡ (is_among b bad || (same_name b k && (not (is_among b seen) && test b)))
-one_added test seen bad k b = by (same_name b k) refl
+    ≡ (is_among b bad || (same_bytes b k && (not (is_among b seen) && test b)))
+one_added test seen bad k b = by (same_bytes b k) refl
   where
     or_false : (c : Bool) → (c || false) ≡ c
     or_false true = refl
     or_false false = refl
 
-    added : (c : Bool) → is_among b (cond c (with_name bad k) bad) ≡ (is_among b bad || (same_name b k && c))
-    added true = with_name_of bad k b ∙ ap (λ d. is_among b bad || d) (and_true (same_name b k))
+    added : (c : Bool) → is_among b (cond c (with_name bad k) bad) ≡ (is_among b bad || (same_bytes b k && c))
+    added true = with_name_of bad k b ∙ ap (λ d. is_among b bad || d) (and_true (same_bytes b k))
       where
         and_true : (d : Bool) → d ≡ (d && true)
         and_true true = refl
         and_true false = refl
-    added false = sym (ap (λ d. is_among b bad || d) (and_none (same_name b k)) ∙ or_false (is_among b bad))
+    added false = sym (ap (λ d. is_among b bad || d) (and_none (same_bytes b k)) ∙ or_false (is_among b bad))
       where
         and_none : (d : Bool) → (d && false) ≡ false
         and_none true = refl
         and_none false = refl
 
-    by : (e : Bool) → same_name b k ≡ e
+    by : (e : Bool) → same_bytes b k ≡ e
         → is_among b (cond (not (is_among k seen) && test k) (with_name bad k) bad)
-        ≡ (is_among b bad || (same_name b k && (not (is_among b seen) && test b)))
+        ≡ (is_among b bad || (same_bytes b k && (not (is_among b seen) && test b)))
     by true h =
         added (not (is_among k seen) && test k)
-        ∙ ap (λ y. is_among b bad || (same_name b k && (not (is_among y seen) && test y))) (sym (same_names b k h))
+        ∙ ap (λ y. is_among b bad || (same_bytes b k && (not (is_among y seen) && test y))) (sym (same_names b k h))
     by false h =
         added (not (is_among k seen) && test k)
         ∙ ap (λ e. is_among b bad || (e && (not (is_among k seen) && test k))) h
@@ -175,7 +175,7 @@ bad_in_of test seen bad (k ∷ bs) b =
     let more = cond (not (is_among k seen) && test k) (with_name bad k) bad in
     bad_in_of test (with_name seen k) more bs b
     ∙ (λ i. one_added test seen bad k b i || (not (with_name_of seen k b i) && (is_among b bs && test b)))
-    ∙ one_bad (same_name b k) (is_among b bad) (is_among b seen) (is_among b bs) (test b)
+    ∙ one_bad (same_bytes b k) (is_among b bad) (is_among b seen) (is_among b bs) (test b)
 
 all_bad : (b s m g t : Bool)
     → ((b || (not s && (m && t))) || (not (s || m) && (g && t))) ≡ (b || (not s && ((m || g) && t)))

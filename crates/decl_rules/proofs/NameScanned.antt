@@ -2,8 +2,9 @@
 use Rattle.std.proofs.Common.{◌≡◌, Bool, true, false, List, [], ◌∷◌, ◌++◌, refl, sym, ap, ◌∙◌, append_assoc, rules}
 use Rattle.std.specs.Prelude.{◌||◌, ◌&&◌, not, cond}
 use Rattle.std.specs.List.{list_any}
+use Rattle.formula.specs.Atoms.{same_bytes, is_among, has_twin}
 use Rattle.fort_syntax.specs.CardRules.{fault_or}
-use Rattle.fort_syntax.specs.Scopes.{same_name, is_among, has_twin, do_meet}
+use Rattle.fort_syntax.specs.Scopes.{do_meet}
 use Rattle.fort_syntax.specs.Units.{Segment, gathered, own_name, dummies_of, dummies_by, blocks_by}
 use Rattle.fort_syntax.specs.OrderRules.{Place, places_in}
 use Rattle.fort_syntax.specs.NameRules.{typed_by, dimensioned_by, commons_by, breaks_15, breaks_16, breaks_17, breaks_24, breaks_25, is_bad_block_of}
@@ -39,11 +40,11 @@ grown give set before line same x =
     ∙ sym (among_both x (gathered give before) (give line.stmt))
     ∙ ap (is_among x) (sym (gathered_one give before line))
 
-same_letters : (x : Name) → same_name x x ≡ true
+same_letters : (x : Name) → same_bytes x x ≡ true
 same_letters [] = refl
 same_letters (c ∷ cs) = same_letter c cs (same_letters cs)
   where
-    same_letter : (c : _) (cs : Name) → same_name cs cs ≡ true → same_name (c ∷ cs) (c ∷ cs) ≡ true
+    same_letter : (c : _) (cs : Name) → same_bytes cs cs ≡ true → same_bytes (c ∷ cs) (c ∷ cs) ≡ true
     same_letter c cs h = search rules
 
 or_true : (a b : Bool) → b ≡ true → (a || b) ≡ true
@@ -57,8 +58,8 @@ true_or false b h = search rules
 any_same : (f g : Name → Bool) (bs : List Name) → ((b : Name) → is_among b bs ≡ true → f b ≡ g b) → list_any f bs ≡ list_any g bs
 any_same f g [] h = refl
 any_same f g (b ∷ bs) h =
-    ap (λ c. c || list_any f bs) (h b (true_or (same_name b b) (is_among b bs) (same_letters b)))
-    ∙ ap (λ c. g b || c) (any_same f g bs (λ x m. h x (or_true (same_name x b) (is_among x bs) m)))
+    ap (λ c. c || list_any f bs) (h b (true_or (same_bytes b b) (is_among b bs) (same_letters b)))
+    ∙ ap (λ c. g b || c) (any_same f g bs (λ x m. h x (or_true (same_bytes x b) (is_among x bs) m)))
 
 stated : (give : Stmt → List Name) (unit before lines : List Line) (line : Line) (b : Name) → unit ≡ before ++ line ∷ lines
     → is_among b (give line.stmt) ≡ true → is_among b (gathered give unit) ≡ true

@@ -2,8 +2,9 @@
 use Rattle.std.proofs.Common.{◌≡◌, ℕ, Bool, true, false, List, [], ◌∷◌, ◌++◌, refl, sym, ap, ◌∙◌, rules}
 use Rattle.std.specs.Prelude.{◌||◌, ◌&&◌, not, cond, Option, Some, None}
 use Rattle.std.specs.List.{list_any}
+use Rattle.formula.specs.Atoms.{same_bytes, is_among}
+use Rattle.formula.specs.Reading.{or_else}
 use Rattle.fort_syntax.specs.CardRules.{fault_or}
-use Rattle.fort_syntax.specs.Scopes.{same_name, is_among}
 use Rattle.fort_syntax.specs.Units.{Segment, gathered, own_name, dummies_of, scope_of, blocks_by, items_by, names_in}
 use Rattle.fort_syntax.specs.OrderRules.{places_in, places_from, places}
 use Rattle.fort_syntax.specs.NameRules.{Member, same_members, members, declares_otherwise, is_adjustable}
@@ -16,7 +17,6 @@ use Rattle.fort_syntax.specs.declared.unit.Line.{Line}
 use Rattle.unit_decl.specs.declared.done.Done.{Done}
 use Rattle.unit_decl.specs.Sets.{with_names}
 use Rattle.unit_decl.specs.Tables.{first_of, told}
-use Rattle.unit_decl.specs.Scoping.{or_else}
 use Rattle.unit_decl.specs.NameScans.{Facts, facts_of, given_of, nothing_done, done_with, names_twice, has_untyped, has_bad_shape, has_new_bad, is_bad_item, first_rule, name_rule, name_scan}
 use Rattle.unit_decl.specs.Commons.{differs, is_bad_with, remembered, remembered_from, facts_with, name_scans}
 use Rattle.unit_decl.proofs.Told.{same_names, told_of}
@@ -54,7 +54,7 @@ or_none : {V : Type 0} (o : Option V) → o ≡ or_else o None
 or_none (Some v) = refl
 or_none None = refl
 
-kept_if : (mem : Name → List Member) (b x : Name) (s : Bool) → same_name x b ≡ s → cond s (Some (mem b)) None ≡ cond s (Some (mem x)) None
+kept_if : (mem : Name → List Member) (b x : Name) (s : Bool) → same_bytes x b ≡ s → cond s (Some (mem b)) None ≡ cond s (Some (mem x)) None
 kept_if mem b x true h = ap (λ y. Some (mem y)) (sym (same_names x b h))
 kept_if mem b x false h = refl
 
@@ -64,8 +64,8 @@ remembered_of mem table [] x = or_none (first_of table x)
 remembered_of mem table (b ∷ bs) x =
     remembered_of mem (told table b (mem b)) bs x
     ∙ ap (λ o. or_else o (cond (is_among x bs) (Some (mem x)) None))
-    (told_of table b (mem b) x ∙ ap (or_else (first_of table x)) (kept_if mem b x (same_name x b) refl))
-    ∙ or_both (same_name x b) (is_among x bs) (first_of table x) (mem x)
+    (told_of table b (mem b) x ∙ ap (or_else (first_of table x)) (kept_if mem b x (same_bytes x b) refl))
+    ∙ or_both (same_bytes x b) (is_among x bs) (first_of table x) (mem x)
 
 remembered_from_of : (mem : Name → List Member) (table : List (Name × List Member)) (lines : List Line) (x : Name)
     → first_of (remembered_from mem table lines) x ≡ or_else (first_of table x) (cond (is_among x (gathered blocks_by lines)) (Some (mem x)) None)
@@ -103,9 +103,9 @@ right_false false b h = h
 
 none_passes : (test : Name → Bool) (bs : List Name) (b : Name) → list_any test bs ≡ false → is_among b bs ≡ true → test b ≡ false
 none_passes test [] b h m = search rules
-none_passes test (c ∷ bs) b h m = by (none_passes test bs b (right_false (test c) (list_any test bs) h)) (same_name b c) refl m
+none_passes test (c ∷ bs) b h m = by (none_passes test bs b (right_false (test c) (list_any test bs) h)) (same_bytes b c) refl m
   where
-    by : (is_among b bs ≡ true → test b ≡ false) → (s : Bool) → same_name b c ≡ s → (s || is_among b bs) ≡ true → test b ≡ false
+    by : (is_among b bs ≡ true → test b ≡ false) → (s : Bool) → same_bytes b c ≡ s → (s || is_among b bs) ≡ true → test b ≡ false
     by rest true e n = ap test (same_names b c e) ∙ left_false (test c) (list_any test bs) h
     by rest false e n = rest n
 

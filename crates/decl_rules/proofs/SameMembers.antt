@@ -1,7 +1,8 @@
 -- Lists of another length have other members.
 use Rattle.std.proofs.Common.{◌≡◌, ℕ, suc, Bool, true, false, List, [], ◌∷◌, length, refl, sym, ap, rules, arith}
 use Rattle.std.specs.Prelude.{◌&&◌, nat_eq, map, Option, Some, None}
-use Rattle.fort_syntax.specs.Scopes.{same_name, same_option, same_dim, same_dims}
+use Rattle.formula.specs.Atoms.{same_bytes}
+use Rattle.fort_syntax.specs.Scopes.{same_option, same_dim, same_dims}
 use Rattle.fort_syntax.specs.NameRules.{Member, same_member, same_members}
 use Rattle.fort_syntax.specs.declared.dialect.Sort.{Sort}
 use Rattle.fort_syntax.specs.declared.dialect.Sort.TheVariants.{Integer, Logical}
@@ -71,10 +72,10 @@ dims_equal (d ∷ ds) (e ∷ es) h =
 
 member_equal : (a b : Member) → same_member a b ≡ true → a ≡ b
 member_equal a b h =
-    let firsts = first_true (same_name a.name b.name && same_option a.sort b.sort) (same_dims a.dims b.dims) h in
-    let names = same_names a.name b.name (first_true (same_name a.name b.name) (same_option a.sort b.sort) firsts) in
-    let sorts = sorts_equal a.sort b.sort (second_true (same_name a.name b.name) (same_option a.sort b.sort) firsts) in
-    let dims = dims_equal a.dims b.dims (second_true (same_name a.name b.name && same_option a.sort b.sort) (same_dims a.dims b.dims) h) in
+    let firsts = first_true (same_bytes a.name b.name && same_option a.sort b.sort) (same_dims a.dims b.dims) h in
+    let names = same_names a.name b.name (first_true (same_bytes a.name b.name) (same_option a.sort b.sort) firsts) in
+    let sorts = sorts_equal a.sort b.sort (second_true (same_bytes a.name b.name) (same_option a.sort b.sort) firsts) in
+    let dims = dims_equal a.dims b.dims (second_true (same_bytes a.name b.name && same_option a.sort b.sort) (same_dims a.dims b.dims) h) in
     λ i. record { name = names i; sort = sorts i; dims = dims i }
 
 pub members_equal : (a b : List Member) → same_members a b ≡ true → a ≡ b

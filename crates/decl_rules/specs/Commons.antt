@@ -1,8 +1,9 @@
 -- The COMMON blocks of a unit, and of the units before it.
 use Rattle.std.specs.Prelude.{◌&&◌, ◌||◌, not, Bool, false, cond, List, [], ◌∷◌, ◌++◌, map, Option, Some, None}
 use Rattle.std.specs.List.{list_any}
+use Rattle.formula.specs.Atoms.{same_bytes, is_among}
 use Rattle.indexmap.specs.IndexMap.{insert_entry}
-use Rattle.fort_syntax.specs.Scopes.{Scope, same_name, is_among}
+use Rattle.fort_syntax.specs.Scopes.{Scope}
 use Rattle.fort_syntax.specs.Units.{Segment, gathered, own_name, dummies_of, scope_of, name_of_block, groups_by, blocks_by, names_of_items}
 use Rattle.fort_syntax.specs.NameRules.{Member, same_members, member_of, members, is_adjustable}
 use Rattle.fort_syntax.specs.declared.dialect.Dialect.{Dialect}
@@ -26,7 +27,7 @@ listed table b = names_or_none (first_of table b)
 
 -- a table with more names of a block
 abbrev pub appended : List (Name × List Name) → Name → List Name → List (Name × List Name)
-appended table b names = insert_entry same_name (insert_entry same_name table b []) b (listed table b ++ names)
+appended table b names = insert_entry same_bytes (insert_entry same_bytes table b []) b (listed table b ++ names)
 
 abbrev pub with_groups : List (Name × List Name) → List Group → List (Name × List Name)
 with_groups table [] = table

@@ -1,6 +1,6 @@
 -- What the tables of a unit tell of it.
 use Rattle.std.specs.Prelude.{List, map}
-use Rattle.fort_syntax.specs.Scopes.{is_among}
+use Rattle.formula.specs.Atoms.{is_among}
 use Rattle.fort_syntax.specs.NameRules.{Member, member_of}
 use Rattle.fort_syntax.specs.declared.name.Name.{Name}
 use Rattle.unit_decl.specs.declared.name_rules.Known.{Known}

@@ -1,8 +1,9 @@
 -- What one pass over the statements of a unit finds of its declarations.
 use Rattle.std.specs.Prelude.{◌&&◌, ◌||◌, not, Bool, cond, List, [], ◌∷◌, ◌++◌, is_none, Option, Some, None}
 use Rattle.std.specs.List.{list_any}
+use Rattle.formula.specs.Atoms.{is_among}
 use Rattle.fort_syntax.specs.CardRules.{fault_or}
-use Rattle.fort_syntax.specs.Scopes.{Scope, is_among, is_integer_scalar}
+use Rattle.fort_syntax.specs.Scopes.{Scope, is_integer_scalar}
 use Rattle.fort_syntax.specs.Units.{Segment, gathered, own_name, dummies_of, scope_of, dummies_by, items_by, blocks_by, names_in, names_in_dims}
 use Rattle.fort_syntax.specs.NameRules.{typed_by, dimensioned_by, commons_by, is_bad_shape, declares_otherwise, members, is_adjustable}
 use Rattle.fort_syntax.specs.declared.dialect.Dialect.{Dialect}

@@ -1,6 +1,6 @@
 // COMMON blocks that differ from those of earlier units.
 ghost use Rattle.std.specs.Prelude.{◌≡◌, [], ◌&&◌, not, cond, map, IfOk, OnOk};
-ghost use Rattle.fort_syntax.specs.Scopes.{is_among};
+ghost use Rattle.formula.specs.Atoms.{is_among};
 ghost use Rattle.fort_syntax.specs.Units.{dummies_by, blocks_by, name_of_block, own_name};
 ghost use Rattle.fort_syntax.specs.NameRules.{member_of, members};
 ghost use Rattle.unit_decl.specs.Sets.{with_name, with_names};

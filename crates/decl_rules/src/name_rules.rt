@@ -1,7 +1,8 @@
 // What declarations may say.
 ghost use Rattle.std.specs.Prelude.{◌≡◌, [], ◌++◌, ◌||◌, not, ◌&&◌, IfOk, OnOk, map};
 ghost use Rattle.std.specs.List.{list_any};
-ghost use Rattle.fort_syntax.specs.Scopes.{is_among, is_integer_scalar};
+ghost use Rattle.formula.specs.Atoms.{is_among};
+ghost use Rattle.fort_syntax.specs.Scopes.{is_integer_scalar};
 ghost use Rattle.fort_syntax.specs.Units.{dummies_by, items_by, names_in, names_in_dims, name_of_block, blocks_by};
 ghost use Rattle.unit_decl.specs.Sets.{with_names};
 ghost use Rattle.unit_decl.specs.Scoping.{scope_by};

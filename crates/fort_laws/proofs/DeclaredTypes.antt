@@ -2,12 +2,15 @@
 use Rattle.std.proofs.Common.{◌≡◌, ◌≤◌, ℕ, suc, ◌⊎◌, inl, inr, Bool, true, false, cond, not, ◌&&◌, ◌||◌, List, [], ◌∷◌, ◌++◌, map, length, Option, Some, None, nat_le, codes, refl, sym, ap, ◌∙◌, subst, arith, rules}
 use Rattle.std.specs.Prelude.{◌==◌}
 use Rattle.std.specs.List.{list_any, list_all}
+use Rattle.formula.specs.Atoms.{is_among, has_twin, same_bytes}
+use Rattle.fort_syntax.specs.TreePatterns.{listed, only}
+use Rattle.fort_syntax.specs.Names.{Intrinsic, Absolute, Modulo, Greatest, Least, Reference, intrinsic, applied_by, applied, dims_of}
 use mathlib.Core.Former.{Count}
-use Rattle.fort_syntax.specs.Scopes.{Scope, is_among, has_twin, do_meet, same_option, is_intrinsic_name, takes_so_many, is_given_dims, is_array, is_intrinsic}
+use Rattle.fort_syntax.specs.Scopes.{Scope, do_meet, same_option, is_intrinsic_name, takes_so_many, is_given_dims, is_array, is_intrinsic}
 use Rattle.fort_syntax.specs.TypeRules.{type_applied, type_of, gives_integer, are_fit_arguments, has_fit_operands}
 use Rattle.fort_syntax.specs.TreePatterns as syntax
 use Rattle.fort_syntax.specs.UseRules.{is_misused}
-use Rattle.fort_syntax.specs.Uses.{Use, Occurrence, occurrence, read, argument_of, actual, uses_in, uses_in_row, parts, parts_of_row}
+use Rattle.fort_syntax.specs.Uses.{Use, read, argument_of, uses_in, uses_in_row, parts, parts_of_row}
 use Rattle.fort_syntax.specs.Uses as use_as
 use Rattle.fort_syntax.specs.WellFormed.{IsWellFormedUnit, names_of_unit, functions_of_unit, sort_of_function, dims_among, scope_of_unit, is_known}
 use Rattle.fort_syntax.specs.declared.dialect.Dialect.{Dialect}
@@ -20,10 +23,8 @@ use Rattle.fort_syntax.specs.declared.stmt.Dim.{Dim}
 use Rattle.fort_syntax.specs.declared.unit.FunctionName.{FunctionName}
 use Rattle.fort_syntax.specs.declared.unit.Unit.{Unit as Routine}
 use Rattle.fort_model.specs.Arguments.{reference_sort}
-use Rattle.fort_model.specs.Calls.{CallSite, listed, own_site, sites_in, sites_in_row}
+use Rattle.fort_model.specs.Calls.{CallSite, own_site, sites_in, sites_in_row}
 use Rattle.fort_model.specs.Lists.{IsAmong}
-use Rattle.fort_model.specs.Names.{Intrinsic, Absolute, Modulo, Greatest, Least, Reference, intrinsic, applied_by, applied, same_name, dims_of}
-use Rattle.fort_model.specs.Trees.{only}
 use Rattle.fort_laws.specs.Typed.{AreDims, IsCount, row_length, IsScalar, IsArray, IsActual, IsApplied, IsTyped, AreInteger, AreActual}
 use Rattle.fort_laws.proofs.DeclaredNames.{IsNamed, do_not_meet, unnamed_sort, same_dims_told, named_data}
 use Rattle.fort_laws.proofs.DeclaredUnits as unit
@@ -52,7 +53,7 @@ one_type q r h = cc
 -- the type that a unit gives a function is told alike
 function_sort : (fs : List FunctionName) (f : Name) → reference_sort fs f ≡ sort_of_function fs f
 function_sort [] f = refl
-function_sort (g ∷ gs) f = ap (λ o. cond (same_name g.name f) (Some g.sort) o) (function_sort gs f)
+function_sort (g ∷ gs) f = ap (λ o. cond (same_bytes g.name f) (Some g.sort) o) (function_sort gs f)
 
 pub row_count : {m : Count} (args : Row_of-Expr m) → row_length args ≡ length (syntax.listed args)
 row_count end_of-Expr = refl
@@ -79,7 +80,7 @@ intrinsic_by false false false true h = (Least, refl, λ n t. some_at_least n t)
 intrinsic_by false false false false h = absurd (cc)
 
 intrinsic_named : (f : Name) → is_intrinsic_name f ≡ true → IsIntrinsicBy (intrinsic f) (takes_so_many f)
-intrinsic_named f h = intrinsic_by (same_name f (codes "IABS")) (same_name f (codes "MOD")) (same_name f (codes "MAX0")) (same_name f (codes "MIN0")) h
+intrinsic_named f h = intrinsic_by (same_bytes f (codes "IABS")) (same_bytes f (codes "MOD")) (same_bytes f (codes "MAX0")) (same_bytes f (codes "MIN0")) h
 
 not_intrinsic_by : (a b c d : Bool) → (a || (b || (c || (d || false)))) ≡ false → cond a (Some Absolute) (cond b (Some Modulo) (cond c (Some Greatest) (cond d (Some Least) None))) ≡ None
 not_intrinsic_by true b c d h = absurd (cc)
@@ -89,7 +90,7 @@ not_intrinsic_by false false false true h = absurd (cc)
 not_intrinsic_by false false false false h = refl
 
 not_intrinsic : (f : Name) → is_intrinsic_name f ≡ false → intrinsic f ≡ None
-not_intrinsic f h = not_intrinsic_by (same_name f (codes "IABS")) (same_name f (codes "MOD")) (same_name f (codes "MAX0")) (same_name f (codes "MIN0")) h
+not_intrinsic f h = not_intrinsic_by (same_bytes f (codes "IABS")) (same_bytes f (codes "MOD")) (same_bytes f (codes "MAX0")) (same_bytes f (codes "MIN0")) h
 
 no_intrinsic_name : (f : Name) → intrinsic f ≡ None → is_intrinsic_name f ≡ false
 no_intrinsic_name f k = known (is_intrinsic_name f) (λ y. absurd (unlike (sym k ∙ (intrinsic_named f y).1))) (λ y. y)
@@ -190,7 +191,7 @@ module _ (dialect : Dialect) (u : Routine) (w : IsWellFormedUnit dialect u) wher
       by_name (same e t) a rec = (g.sort, ap (λ b. cond b (Some g.sort) (reference_sort fs f)) t)
       by_name (other n t) (same e t2) rec = absurd (n (sym e))
       by_name (other n t) (other m t2) rec =
-          let r = rec (one_holds (same_name f g.name) (is_among f (map (λ g. g.name) fs)) h t2) in
+          let r = rec (one_holds (same_bytes f g.name) (is_among f (map (λ g. g.name) fs)) h t2) in
           (r.0, ap (λ b. cond b (Some g.sort) (reference_sort fs f)) t ∙ r.1)
 
   -- each name before a bracket has a type

@@ -1,6 +1,7 @@
 -- A program with a loop meets all that soundness wants.
 use Rattle.std.proofs.Common.{◌≡◌, ℕ, zero, suc, true, ◌&&◌, ℤ, pos, neg_ℤ, ◌-ℤ◌, List, [], ◌∷◌, Some, slice_get, refl, sym, ap, ◌∙◌, subst, arith}
 use Rattle.std.specs.Prelude.{int_le, codes}
+use Rattle.fort_syntax.specs.SmallDecks.{bin, N}
 use Rattle.formula.specs.declared.function.BuiltIn.TheVariants.{And, Not}
 use Rattle.formula.specs.declared.value.Value.{Value}
 use Rattle.formula.specs.declared.value.Value.TheVariants.{Int}
@@ -15,12 +16,11 @@ use Rattle.fort_syntax.specs.declared.stmt.Stmt.TheVariants.{Assign}
 use Rattle.fort_model.specs.CheckRows.{from_assert, less, difference}
 use Rattle.fort_model.specs.ConditionRows.{start, is_defined, is_equal, is_integer}
 use Rattle.fort_model.specs.Conditions.{AreAllPaths, conditions_of}
-use Rattle.fort_model.specs.Decks.{bin, line}
+use Rattle.fort_model.specs.Decks.{line}
 use Rattle.fort_model.specs.Fitting.{FitsAssertion, HasFittingNotes}
 use Rattle.fort_model.specs.Lists.{IsAmong}
 use Rattle.fort_model.specs.Paths.{Path, ArePathsInOrder, IsPath, IsWay, is_path_from}
 use Rattle.fort_model.specs.Program.{Assertion, Notes, notes_of}
-use Rattle.fort_model.specs.Rows.{N}
 use Rattle.fort_model.specs.Rules.{KeepsRules}
 use Rattle.fort_model.specs.Smashes.{Smashes, HoldsSmashed, sets}
 use Rattle.fort_model.specs.WalkRows.{term, number, at_most, LEAST, GREATEST, the_path}

@@ -1,6 +1,7 @@
 -- A program of two units with two calls meets all that soundness wants.
 use Rattle.std.proofs.Common.{◌≡◌, ℕ, zero, suc, false, List, [], ◌∷◌, Some, slice_get, refl, sym, ap, ◌∙◌, subst, arith}
 use Rattle.std.specs.Prelude.{codes}
+use Rattle.fort_syntax.specs.SmallDecks.{I, J, K}
 use Rattle.formula.specs.Tree.{Tree}
 use Rattle.formula.specs.Values as value
 use Rattle.formula.specs.Worth.{Valuation}
@@ -17,7 +18,7 @@ use Rattle.fort_model.specs.Decks.{line}
 use Rattle.fort_model.specs.Fitting.{HasFittingNotes}
 use Rattle.fort_model.specs.Lists.{IsAmong}
 use Rattle.fort_model.specs.Paths.{ArePathsInOrder, Path, IsPath, IsWay, is_path_from}
-use Rattle.fort_model.specs.Rows.{I, J, K, swap, rotate}
+use Rattle.fort_model.specs.Rows.{swap, rotate}
 use Rattle.fort_model.specs.Rules.{KeepsRules}
 use Rattle.fort_model.specs.Smashes.{Smashes, HoldsSmashed, sets, passes}
 use Rattle.fort_model.specs.Symbols.{AtEntry, word_of}

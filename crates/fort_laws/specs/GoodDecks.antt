@@ -1,5 +1,6 @@
 -- What well-formed decks that keep the rules give: all that soundness takes of their units.
 use Rattle.std.specs.Prelude.{ℕ, ◌≡◌, List, Some, slice_get}
+use Rattle.fort_syntax.specs.Conditions.{ConditionTree}
 use Rattle.fort_syntax.specs.WellFormed.{IsWellFormedUnit, IsWellFormed}
 use Rattle.fort_syntax.specs.declared.deck.Deck.{Deck}
 use Rattle.fort_syntax.specs.declared.dialect.Dialect.{Dialect}
@@ -8,7 +9,7 @@ use Rattle.fort_syntax.specs.declared.rule.Rule.TheVariants.{BlockMissing}
 use Rattle.fort_syntax.specs.declared.unit.Line.{Line}
 use Rattle.fort_syntax.specs.declared.unit.Unit.{Unit as Routine}
 use Rattle.fort_model.specs.Calls.{Calls}
-use Rattle.fort_model.specs.Conditions.{Condition, IsExact, AreValid}
+use Rattle.fort_model.specs.Conditions.{IsExact, AreValid}
 use Rattle.fort_model.specs.Correct.{IsTotallyCorrect}
 use Rattle.fort_model.specs.Fitting.{HasFittingNotes}
 use Rattle.fort_model.specs.Program.{Program}
@@ -63,4 +64,4 @@ EndsAreReturns =
 abbrev pub DecksAreCorrect : Type 0
 DecksAreCorrect =
     (dialect : Dialect) (deck : Deck) (p : Program) → IsWellFormed dialect deck → deck.units ≡ p.units → KeepsRules p → HoldsSmashed p → HasFittingNotes p
-    → (list : List Condition) → IsExact p list → AreValid p.functions list → IsTotallyCorrect p
+    → (list : List ConditionTree) → IsExact p list → AreValid p.functions list → IsTotallyCorrect p

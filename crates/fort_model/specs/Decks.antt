@@ -1,34 +1,23 @@
 -- Short ways to write small decks down.
 use Rattle.std.specs.Prelude.{ℕ, Bool, true, false, pos, neg_ℤ, List, [], ◌∷◌, Some, None}
+use Rattle.fort_syntax.specs.TreePatterns.{only}
 use Rattle.formula.specs.declared.value.Cell.{Cell}
 use Rattle.formula.specs.declared.value.Cell.TheVariants.{Int}
 use Rattle.fort_syntax.specs.declared.name.Name.{Name}
-use Rattle.fort_syntax.specs.declared.dialect.BinOp.{BinOp}
-use Rattle.fort_syntax.specs.declared.dialect.RelOp.{RelOp}
 use Rattle.fort_syntax.specs.declared.dialect.Dialect.{Dialect}
 use Rattle.fort_syntax.specs.declared.dialect.Sort.TheVariants.{Integer}
-use mathlib.Core.Former.{arity, this}
 use Rattle.edge_io.specs.formers.list.List as former
-use Rattle.fort_syntax.specs.declared.expr.Expr.{Expr, Row_of-Expr, end_of-Expr, more_of-Expr}
-use Rattle.fort_syntax.specs.declared.expr.Expr.TheVariants.{Apply', Paren', Neg', Power', Bin', Rel', And'}
+use Rattle.fort_syntax.specs.declared.expr.Expr.{Expr}
+use Rattle.fort_syntax.specs.declared.expr.Expr.TheVariants.{Neg', Power', And'}
 use Rattle.fort_syntax.specs.declared.stmt.Dim.{Dim}
 use Rattle.fort_syntax.specs.declared.stmt.Stmt.{Stmt}
-use Rattle.fort_syntax.specs.declared.stmt.Stmt.TheVariants.{LogicalIf'}
 use Rattle.fort_syntax.specs.declared.unit.DataName.{DataName}
 use Rattle.fort_syntax.specs.declared.unit.Line.{Line}
 use Rattle.fort_syntax.specs.declared.unit.Role.{Role}
 use Rattle.fort_syntax.specs.declared.unit.Role.TheVariants.{OwnValue}
 use Rattle.fort_syntax.specs.declared.unit.Unit.{Unit as Routine}
-use Rattle.fort_model.specs.Trees.{only, carried}
 use Rattle.fort_model.specs.Storage.{Environment, with_extents, side_by_side}
 use Rattle.fort_model.specs.Processor.{Processor}
-
--- expressions
-abbrev pub bin : BinOp → Expr → Expr → Expr
-bin o a b = Bin' o _ (only a) _ (only b)
-
-abbrev pub rel : RelOp → Expr → Expr → Expr
-rel o a b = Rel' o _ (only a) _ (only b)
 
 abbrev pub conj : Expr → Expr → Expr
 conj a b = And' _ (only a) _ (only b)
@@ -39,29 +28,9 @@ power a n = Power' _ (only a) n
 abbrev pub minus : Expr → Expr
 minus a = Neg' _ (only a)
 
-abbrev pub bracket : Expr → Expr
-bracket a = Paren' _ (only a)
-
-abbrev pub shape_of : List Expr → List (Unit {0})
-shape_of [] = []
-shape_of (e ∷ es) = tt ∷ shape_of es
-
-abbrev pub arguments : (es : List Expr) → Row_of-Expr (arity (former.the_former (this {0})) (shape_of es))
-arguments [] = end_of-Expr
-arguments (e ∷ es) = more_of-Expr e (arguments es)
-
-abbrev pub applied_to : Name → List Expr → Expr
-applied_to f args = Apply' f (shape_of args) (arguments args)
-
-abbrev pub if : Expr → Stmt → Stmt
-if e s = LogicalIf' e _ (carried s)
-
 -- statements at their cards, without a label and with one
 abbrev pub line : ℕ → Stmt → Line
 line card s = record { card = card; label = 0; stmt = s }
-
-abbrev pub labelled : ℕ → ℕ → Stmt → Line
-labelled card label s = record { card = card; label = label; stmt = s }
 
 -- integer names
 abbrev pub scalar : Role → Name → DataName

@@ -1,7 +1,5 @@
 pub mod Processor
 pub mod Lists
-pub mod Trees
-pub mod Names
 pub mod Sites
 pub mod Flow
 pub mod Cells

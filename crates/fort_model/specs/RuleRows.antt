@@ -1,5 +1,6 @@
 -- Small decks and the rules that they break.
 use Rattle.std.specs.Prelude.{◌≡◌, ℕ, List, [], ◌∷◌, None, codes}
+use Rattle.fort_syntax.specs.SmallDecks.{bin, rel, bracket, applied_to, A, I, J, K}
 use Rattle.fort_syntax.specs.declared.dialect.BinOp.TheVariants.{Add}
 use Rattle.fort_syntax.specs.declared.dialect.RelOp.TheVariants.{Lt}
 use Rattle.fort_syntax.specs.declared.dialect.Dialect.TheVariants.{Common}
@@ -16,8 +17,7 @@ use Rattle.fort_syntax.specs.declared.unit.DataName.{DataName}
 use Rattle.fort_syntax.specs.declared.unit.Line.{Line}
 use Rattle.fort_syntax.specs.declared.unit.Role.TheVariants.{Dummy, InCommon, Local}
 use Rattle.fort_syntax.specs.declared.unit.Unit.{Unit as Routine}
-use Rattle.fort_model.specs.Decks.{bin, rel, bracket, applied_to, line, scalar, array, routine}
-use Rattle.fort_model.specs.Rows.{A, I, J, K}
+use Rattle.fort_model.specs.Decks.{line, scalar, array, routine}
 use Rattle.fort_model.specs.Program.{Program}
 use Rattle.fort_model.specs.Rules.{cards_breaking, IsBroken}
 use Rattle.fort_model.specs.VerdictRows.{two_units}

@@ -1,5 +1,6 @@
 -- Small decks that break the rules on units: their names, their calls and dimensions, and what they smash.
 use Rattle.std.specs.Prelude.{◌≡◌, ℕ, List, [], ◌∷◌, None, codes}
+use Rattle.fort_syntax.specs.SmallDecks.{bracket, applied_to, labelled, A, F, I, J, K, M, N}
 use Rattle.formula.specs.Tree.{Tree}
 use Rattle.fort_syntax.specs.declared.dialect.Dialect.TheVariants.{Common}
 use Rattle.fort_syntax.specs.declared.expr.Expr.{Expr}
@@ -13,8 +14,8 @@ use Rattle.fort_syntax.specs.declared.stmt.Param.TheVariants as parameter
 use Rattle.fort_syntax.specs.declared.stmt.Stmt.TheVariants.{Assign, Do, Continue, Call, Return}
 use Rattle.fort_syntax.specs.declared.unit.Role.TheVariants.{Dummy, Local}
 use Rattle.fort_syntax.specs.declared.unit.Unit.{Unit as Routine}
-use Rattle.fort_model.specs.Decks.{bracket, applied_to, line, labelled, scalar, array, routine, function_of}
-use Rattle.fort_model.specs.Rows.{A, F, I, J, K, M, N, inc}
+use Rattle.fort_model.specs.Decks.{line, scalar, array, routine, function_of}
+use Rattle.fort_model.specs.Rows.{inc}
 use Rattle.fort_model.specs.Program.{Assertion}
 use Rattle.fort_model.specs.Rules.{cards_breaking}
 use Rattle.fort_model.specs.VerdictRows.{two_units}

@@ -9,6 +9,7 @@ pub mod Misspelled
 pub mod Name
 pub mod NameRows
 pub mod NameRules
+pub mod Names
 pub mod OrderRows
 pub mod OrderRules
 pub mod Rules

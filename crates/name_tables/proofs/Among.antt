@@ -2,7 +2,7 @@
 use Rattle.std.proofs.Common.{◌≡◌, Bool, true, false, List, [], ◌∷◌, ◌++◌, refl, sym, ap, ◌∙◌}
 use Rattle.std.specs.Prelude.{◌||◌}
 use Rattle.std.specs.List.{list_any}
-use Rattle.fort_syntax.specs.Scopes.{same_name, is_among}
+use Rattle.formula.specs.Atoms.{same_bytes, is_among}
 use Rattle.fort_syntax.specs.declared.name.Name.{Name}
 
 pub or_assoc : (a b c : Bool) → ((a || b) || c) ≡ (a || (b || c))
@@ -14,7 +14,7 @@ any_both test [] ys = refl
 any_both test (x ∷ xs) ys = ap (λ b. test x || b) (any_both test xs ys) ∙ sym (or_assoc (test x) (list_any test xs) (list_any test ys))
 
 pub among_both : (x : Name) (xs ys : List Name) → is_among x (xs ++ ys) ≡ (is_among x xs || is_among x ys)
-among_both x xs ys = any_both (same_name x) xs ys
+among_both x xs ys = any_both (same_bytes x) xs ys
 
 pub among_four : (x : Name) (a b c d : List Name)
     → is_among x (a ++ b ++ c ++ d) ≡ (is_among x a || is_among x b || is_among x c || is_among x d)

@@ -1,7 +1,8 @@
 -- A set that names are put into keeps each once, in order of its first place.
 use Rattle.std.proofs.Common.{◌≡◌, Bool, true, false, List, [], ◌∷◌, ◌++◌, refl, sym, ap, ◌∙◌, append_assoc, append-nil}
 use Rattle.std.specs.Prelude.{◌||◌, ◌&&◌, not, cond}
-use Rattle.fort_syntax.specs.Scopes.{same_name, is_among, kept, once}
+use Rattle.formula.specs.Atoms.{same_bytes, is_among}
+use Rattle.fort_syntax.specs.Scopes.{kept, once}
 use Rattle.fort_syntax.specs.declared.name.Name.{Name}
 use Rattle.name_tables.specs.Sets.{with_name, with_names}
 use Rattle.name_tables.proofs.Told.{swapped}
@@ -28,10 +29,10 @@ none_of false false = refl
 
 -- what is not in a set with one more name
 left : (set : List Name) (x : Name) (ys : List Name)
-    → kept (λ y. not (is_among y (with_name set x))) ys ≡ kept (λ y. not (is_among y set)) (kept (λ y. not (same_name x y)) ys)
+    → kept (λ y. not (is_among y (with_name set x))) ys ≡ kept (λ y. not (is_among y set)) (kept (λ y. not (same_bytes x y)) ys)
 left set x ys =
-    (λ i. kept (λ y. (ap not (with_name_of set x y) ∙ none_of (is_among y set) (same_name y x) ∙ ap (λ b. not b && not (is_among y set)) (swapped y x)) i) ys)
-    ∙ sym (kept_twice (λ y. not (is_among y set)) (λ y. not (same_name x y)) ys)
+    (λ i. kept (λ y. (ap not (with_name_of set x y) ∙ none_of (is_among y set) (same_bytes y x) ∙ ap (λ b. not b && not (is_among y set)) (swapped y x)) i) ys)
+    ∙ sym (kept_twice (λ y. not (is_among y set)) (λ y. not (same_bytes x y)) ys)
 
 begun : (b : Bool) (set : List Name) (x : Name) (rest : List Name) → cond b set (set ++ x ∷ []) ++ rest ≡ set ++ cond (not b) (x ∷ []) [] ++ rest
 begun true set x rest = ap (λ ys. ys ++ rest) (sym (append-nil set))
@@ -42,8 +43,8 @@ set_of set [] = sym (append-nil set)
 set_of set (x ∷ xs) =
     set_of (with_name set x) xs
     ∙ ap (λ ys. with_name set x ++ ys) (left set x (once xs))
-    ∙ begun (is_among x set) set x (kept (λ y. not (is_among y set)) (kept (λ y. not (same_name x y)) (once xs)))
-    ∙ append_assoc set (cond (not (is_among x set)) (x ∷ []) []) (kept (λ y. not (is_among y set)) (kept (λ y. not (same_name x y)) (once xs)))
+    ∙ begun (is_among x set) set x (kept (λ y. not (is_among y set)) (kept (λ y. not (same_bytes x y)) (once xs)))
+    ∙ append_assoc set (cond (not (is_among x set)) (x ∷ []) []) (kept (λ y. not (is_among y set)) (kept (λ y. not (same_bytes x y)) (once xs)))
 
 pub with_both : (set xs ys : List Name) → with_names set (xs ++ ys) ≡ with_names (with_names set xs) ys
 with_both set [] ys = refl

@@ -1,6 +1,6 @@
 -- Sets of names, as lists of them in order, each once.
 use Rattle.std.specs.Prelude.{◌||◌, Bool, false, cond, List, [], ◌∷◌, ◌++◌}
-use Rattle.fort_syntax.specs.Scopes.{is_among}
+use Rattle.formula.specs.Atoms.{is_among}
 use Rattle.fort_syntax.specs.declared.name.Name.{Name}
 
 -- a set with one more name

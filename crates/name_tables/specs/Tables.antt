@@ -1,17 +1,12 @@
 -- Tables that keep what was told of a name first.
-use Rattle.std.specs.Prelude.{cond, List, [], ◌∷◌, ◌++◌, is_some, Option, Some, None}
+use Rattle.std.specs.Prelude.{cond, List, [], ◌∷◌, ◌++◌, is_some, Option}
 use Rattle.std.specs.Map.{lookup}
-use Rattle.fort_syntax.specs.Scopes.{same_name}
+use Rattle.formula.specs.Atoms.{same_bytes}
 use Rattle.fort_syntax.specs.declared.name.Name.{Name}
-
--- what is told behind others counts where those tell nothing
-abbrev pub or_else : {V : Type 0} → Option V → Option V → Option V
-or_else (Some v) last = Some v
-or_else None last = last
 
 -- what the first of some pairs for a name tells of it
 abbrev pub first_of : {V : Type 0} → List (Name × V) → Name → Option V
-first_of ps x = lookup (same_name x) ps
+first_of ps x = lookup (same_bytes x) ps
 
 -- a table with what is told of one more name: it counts where nothing was told of the name before
 abbrev pub told : {V : Type 0} → List (Name × V) → Name → V → List (Name × V)

@@ -1,7 +1,6 @@
 // Tables of blocks.
 ghost use Rattle.std.specs.Prelude.{◌≡◌, [], option_copied, IfOk, OnOk};
 ghost use Rattle.indexmap.specs.IndexMap.{insert_entry};
-ghost use Rattle.fort_syntax.specs.Scopes.{same_name};
 ghost use Rattle.fort_syntax.specs.Units.{name_of_block};
 ghost use Rattle.name_tables.specs.Tables.{first_of, told};
 
@@ -21,6 +20,7 @@ pub struct BlockTable<V> {
 impl<V> Model for BlockTable<V> {
     ghost use Rattle.std.specs.Prelude.{List, ℕ};
     ghost use Rattle.std.specs.Coded.{coded_list, coded×, coded_ℕ};
+ghost use Rattle.formula.specs.Atoms.{same_bytes};
 
     ghost Value = { List (List ℕ × V) };
 
@@ -50,7 +50,7 @@ impl<V: Drop> BlockTable<V> {
     /// `NoMemory` the table is as before.
     pub fn put(&mut self, block: &BlockName, value: V) -> Result<Option<V>, NoMemory>
         ensures before { IfOk result (λ before. before ≡ first_of self.old (name_of_block block.now)) }
-        ensures after { OnOk result (self.new ≡ insert_entry same_name self.old (name_of_block block.now) value) }
+        ensures after { OnOk result (self.new ≡ insert_entry same_bytes self.old (name_of_block block.now) value) }
     {
         match self.map.insert(BlockKey::new(block), value) {
             Ok(before) => Ok(before),

@@ -7,6 +7,7 @@ mod block_table;
 mod label_set;
 mod name_set;
 mod name_table;
+mod setting;
 
 pub use block_key::BlockKey;
 pub use block_set::BlockSet;
@@ -14,3 +15,4 @@ pub use block_table::BlockTable;
 pub use label_set::LabelSet;
 pub use name_set::NameSet;
 pub use name_table::NameTable;
+pub use setting::Setting;

@@ -1,8 +1,9 @@
 -- What the tables of a unit tell are its parts.
 use Rattle.std.proofs.Common.{◌≡◌, List, [], ◌∷◌, refl, sym, ap, ◌∙◌}
 use Rattle.std.specs.Prelude.{ℕ, ◌||◌, ◌&&◌, not, cond, map, Option, Some, None}
-use Rattle.fort_syntax.specs.Scopes.{Scope, same_name, is_among, kept, once}
-use Rattle.fort_syntax.specs.Units.{Segment, gathered, own_name, is_function, dummies_of, scope_of, name_of_block, block_of_name, blocks_by, names_in, references_of, held_by, own_value_of, data_names, functions_of, role_of, sort_or_integer, data_name_of, function_name_of, group_of, executables, card_of_first, card_of_last, unit_of}
+use Rattle.formula.specs.Atoms.{same_bytes, is_among}
+use Rattle.fort_syntax.specs.Scopes.{Scope, kept, once}
+use Rattle.fort_syntax.specs.Units.{Segment, gathered, own_name, is_function_segment, dummies_of, scope_of, name_of_block, block_of_name, blocks_by, names_in, references_of, held_by, own_value_of, data_names, functions_of, role_of, sort_or_integer, data_name_of, function_name_of, group_of, executables, card_of_first, card_of_last, unit_of}
 use Rattle.fort_syntax.specs.declared.dialect.Sort.{Sort}
 use Rattle.fort_syntax.specs.declared.name.Name.{Name}
 use Rattle.fort_syntax.specs.declared.stmt.Group.{Group}
@@ -30,13 +31,13 @@ abbrev pub Tells : Roles → Segment → Type 0
 Tells r unit = use_facts_by r (own_name unit) ≡ use_facts_of unit
 
 own_is : (unit : Segment) (r : Roles) → Tells r unit → (x : Name)
-    → (r.function && same_name x (own_name unit)) ≡ is_among x (own_value_of unit)
-own_is unit r t x = ap (λ f. f.is_function && same_name x (own_name unit)) t ∙ sym (own_if (is_function unit) x (own_name unit))
+    → (r.function && same_bytes x (own_name unit)) ≡ is_among x (own_value_of unit)
+own_is unit r t x = ap (λ f. f.is_function && same_bytes x (own_name unit)) t ∙ sym (own_if (is_function_segment unit) x (own_name unit))
 
 data_is : (unit : Segment) (r : Roles) → Tells r unit → r.references ≡ references_of unit → (x : Name)
     → is_data_in r (own_name unit) x ≡ (is_among x (held_by unit) || not (is_among x (references_of unit)))
 data_is unit r t refs x =
-    λ i. (ap (λ f. f.is_dummy x || f.is_common x || (f.is_function && same_name x (own_name unit))) t ∙ sym (held_is unit x)) i
+    λ i. (ap (λ f. f.is_dummy x || f.is_common x || (f.is_function && same_bytes x (own_name unit))) t ∙ sym (held_is unit x)) i
     || not (is_among x (refs i))
 
 role_is : (unit : Segment) (r : Roles) → Tells r unit → (x : Name) → role_in r (own_name unit) x ≡ role_of unit x
@@ -58,7 +59,7 @@ pub functions_made : (unit : Segment) (r : Roles) → Tells r unit → r.referen
 functions_made unit r t refs = λ i. functions_in ((t i).scope) (refs i)
 
 pub sort_made : (unit : Segment) (r : Roles) → Tells r unit
-    → sort_in r (own_name unit) ≡ cond (is_function unit) (Some (sort_or_integer ((scope_of unit).sort (own_name unit)))) None
+    → sort_in r (own_name unit) ≡ cond (is_function_segment unit) (Some (sort_or_integer ((scope_of unit).sort (own_name unit)))) None
 sort_made unit r t = ap (λ f. cond f.is_function (Some (sort_or_integer (f.scope.sort (own_name unit)))) None) t
 
 group_made : (unit : Segment) (scope : Scope) → scope ≡ scope_of unit → (b : Name) → group_in scope (tabled [] unit) b ≡ group_of unit b

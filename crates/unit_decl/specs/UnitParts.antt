@@ -1,6 +1,7 @@
 -- The parts of a unit, as its tables tell them.
 use Rattle.std.specs.Prelude.{◌&&◌, ◌||◌, not, Bool, cond, List, map, Option, Some, None}
-use Rattle.fort_syntax.specs.Scopes.{Scope, same_name, is_among, kept, is_intrinsic_name}
+use Rattle.formula.specs.Atoms.{same_bytes, is_among}
+use Rattle.fort_syntax.specs.Scopes.{Scope, kept, is_intrinsic_name}
 use Rattle.fort_syntax.specs.Units.{sort_or_integer, block_of_name}
 use Rattle.fort_syntax.specs.declared.dialect.Sort.{Sort}
 use Rattle.fort_syntax.specs.declared.name.Name.{Name}
@@ -16,7 +17,7 @@ use Rattle.unit_decl.specs.Scoping.{scope_by}
 
 -- a name is data whatever it is used as
 abbrev pub is_held_in : Roles → Name → Name → Bool
-is_held_in r own x = is_among x r.dummies || is_among x r.commons || (r.function && same_name x own)
+is_held_in r own x = is_among x r.dummies || is_among x r.commons || (r.function && same_bytes x own)
 
 abbrev pub is_data_in : Roles → Name → Name → Bool
 is_data_in r own x = is_held_in r own x || not (is_among x r.references)
@@ -25,7 +26,7 @@ abbrev pub role_in : Roles → Name → Name → Role
 role_in r own x =
     cond (is_among x r.dummies) Dummy
     (cond (is_among x r.commons) InCommon
-    (cond (r.function && same_name x own) OwnValue Local))
+    (cond (r.function && same_bytes x own) OwnValue Local))
 
 abbrev pub data_name_in : Roles → Name → Name → DataName
 data_name_in r own x = record {

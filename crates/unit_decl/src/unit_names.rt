@@ -1,6 +1,6 @@
 // The data names and the functions of a unit.
 ghost use Rattle.std.specs.Prelude.{◌≡◌, ◌&&◌, IfOk};
-ghost use Rattle.fort_syntax.specs.Scopes.{same_name};
+ghost use Rattle.formula.specs.Atoms.{same_bytes};
 ghost use Rattle.fort_syntax.specs.Units.{sort_or_integer};
 ghost use Rattle.unit_decl.specs.Scoping.{scope_by};
 ghost use Rattle.unit_decl.specs.UnitParts.{is_held_in, is_data_in, role_in, data_name_in, data_names_in, function_name_in, functions_in, sort_in};
@@ -23,7 +23,7 @@ fn sort_or_integer(sort: Option<Sort>) -> Sort
 }
 
 fn is_own_value(roles: &Roles, own: &[u8], name: &Name) -> bool
-    ensures { result ≡ (roles.now.function && same_name name.now own.now) }
+    ensures { result ≡ (roles.now.function && same_bytes name.now own.now) }
 {
     roles.function && is_own(own, name)
 }

@@ -1,7 +1,9 @@
 -- The tables of a unit say what its declarations say.
 use Rattle.std.proofs.Common.{◌≡◌, Bool, true, false, cond, List, [], ◌∷◌, ◌++◌, refl, sym, ap, ◌∙◌}
 use Rattle.std.specs.Prelude.{Option, Some, None, ◌&&◌}
-use Rattle.fort_syntax.specs.Scopes.{same_name, sort_by_letter, is_given_dims}
+use Rattle.formula.specs.Atoms.{same_bytes}
+use Rattle.formula.specs.Reading.{or_else}
+use Rattle.fort_syntax.specs.Scopes.{sort_by_letter, is_given_dims}
 use Rattle.fort_syntax.specs.Units.{Segment, Typing, typings_by, items_by, gathered, sort_in, dims_in, scope_of}
 use Rattle.fort_syntax.specs.declared.name.Name.{Name}
 use Rattle.fort_syntax.specs.declared.dialect.Sort.{Sort}
@@ -10,14 +12,14 @@ use Rattle.fort_syntax.specs.declared.stmt.Item.{Item}
 use Rattle.fort_syntax.specs.declared.stmt.Stmt.TheVariants.{Declare}
 use Rattle.fort_syntax.specs.declared.unit.Line.{Line}
 use Rattle.unit_decl.specs.Tables.{first_of, told, all_told, pairs_of, typed_from, typed_items, shaped, shaped_from}
-use Rattle.unit_decl.specs.Scoping.{or_else, dims_or, scope_by}
+use Rattle.unit_decl.specs.Scoping.{dims_or, scope_by}
 use Rattle.unit_decl.proofs.Told.{swapped, told_of, all_told_of, one_before}
 
 sort_behind : (ts more : List Typing) (x : Name) → sort_in (ts ++ more) x ≡ or_else (first_of (pairs_of ts) x) (sort_in more x)
 sort_behind [] more x = refl
 sort_behind (t ∷ ts) more x =
     ap (λ b. cond b (Some t.sort) (sort_in (ts ++ more) x)) (swapped t.name x)
-    ∙ one_before (same_name x t.name) t.sort (first_of (pairs_of ts) x) (sort_in (ts ++ more) x) (sort_in more x) (sort_behind ts more x)
+    ∙ one_before (same_bytes x t.name) t.sort (first_of (pairs_of ts) x) (sort_in (ts ++ more) x) (sort_in more x) (sort_behind ts more x)
 
 or_assoc : {V : Type 0} (a b c : Option V) → or_else (or_else a b) c ≡ or_else a (or_else b c)
 or_assoc (Some v) b c = refl
@@ -44,12 +46,12 @@ without false o dims last = refl
 
 one_item : (g : Bool) (table : List (Name × List Dim)) (item : Item) (last : List Dim) (x : Name)
     → dims_or (first_of (cond g (told table item.name item.dims) table) x) last
-    ≡ dims_or (first_of table x) (cond (same_name item.name x && g) item.dims last)
+    ≡ dims_or (first_of table x) (cond (same_bytes item.name x && g) item.dims last)
 one_item true table item last x =
     ap (λ o. dims_or o last) (told_of table item.name item.dims x)
-    ∙ dims_assoc (same_name x item.name) (first_of table x) item.dims last
+    ∙ dims_assoc (same_bytes x item.name) (first_of table x) item.dims last
     ∙ ap (λ b. dims_or (first_of table x) (cond (b && true) item.dims last)) (swapped x item.name)
-one_item false table item last x = without (same_name item.name x) (first_of table x) item.dims last
+one_item false table item last x = without (same_bytes item.name x) (first_of table x) item.dims last
 
 items_told : (table : List (Name × List Dim)) (items more : List Item) (x : Name)
     → dims_or (first_of (shaped table items) x) (dims_in more x) ≡ dims_or (first_of table x) (dims_in (items ++ more) x)

@@ -1,14 +1,10 @@
 -- What a table of types and one of dimensions say of names.
 use Rattle.std.specs.Prelude.{List, [], Option, Some, None}
+use Rattle.formula.specs.Reading.{or_else}
 use Rattle.fort_syntax.specs.Scopes.{Scope, sort_by_letter}
 use Rattle.fort_syntax.specs.declared.stmt.Dim.{Dim}
 use Rattle.unit_decl.specs.declared.scoped.Scoped.{Scoped}
 use Rattle.unit_decl.specs.Tables.{first_of}
-
--- what is told behind others counts where those tell nothing
-abbrev pub or_else : {V : Type 0} → Option V → Option V → Option V
-or_else (Some v) last = Some v
-or_else None last = last
 
 abbrev pub dims_or : Option (List Dim) → List Dim → List Dim
 dims_or (Some dims) last = dims

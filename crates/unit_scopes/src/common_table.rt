@@ -1,7 +1,6 @@
 // The names in the COMMON blocks of a unit.
 ghost use Rattle.std.specs.Prelude.{◌≡◌, [], ◌++◌, IfOk, OnOk};
 ghost use Rattle.indexmap.specs.IndexMap.{insert_entry};
-ghost use Rattle.fort_syntax.specs.Scopes.{same_name};
 ghost use Rattle.fort_syntax.specs.Units.{name_of_block, names_of_items};
 ghost use Rattle.unit_decl.specs.Commons.{listed, appended, with_groups, tabled};
 
@@ -21,6 +20,7 @@ pub(crate) struct CommonTable {
 
 impl Model for CommonTable {
     ghost use Rattle.std.specs.Prelude.{List, ℕ};
+ghost use Rattle.formula.specs.Atoms.{same_bytes};
 
     ghost Value = { List (List ℕ × List (List ℕ)) };
 
@@ -60,7 +60,7 @@ impl CommonTable {
     /// Takes the names out of a block, which stays.
     fn emptied(&mut self, alloc: Global, block: &BlockName) -> Result<List<Name>, NoMemory>
         ensures names { IfOk result (λ names. names ≡ listed self.old (name_of_block block.now)) }
-        ensures after { OnOk result (self.new ≡ insert_entry same_name self.old (name_of_block block.now) []) }
+        ensures after { OnOk result (self.new ≡ insert_entry same_bytes self.old (name_of_block block.now) []) }
     {
         match self
             .map
@@ -73,7 +73,7 @@ impl CommonTable {
     }
 
     fn put(&mut self, block: &BlockName, names: List<Name>) -> Result<(), NoMemory>
-        ensures { OnOk result (self.new ≡ insert_entry same_name self.old (name_of_block block.now) names) }
+        ensures { OnOk result (self.new ≡ insert_entry same_bytes self.old (name_of_block block.now) names) }
     {
         match self.map.insert(Key::of_block(block), names) {
             Ok(_) => Ok(()),

@@ -1,6 +1,6 @@
 // The heads of units.
 ghost use Rattle.std.specs.Prelude.{◌≡◌};
-ghost use Rattle.fort_syntax.specs.Units.{headed_by, own_name, is_function_head, is_function, dummies_by, groups_by};
+ghost use Rattle.fort_syntax.specs.Units.{headed_by, own_name, is_function_head, is_function_segment, dummies_by, groups_by};
 
 use fort_syntax::{Group, Line, Name, Stmt};
 
@@ -33,7 +33,7 @@ fn is_function_head(stmt: &Stmt) -> bool
 
 /// Whether a unit is a FUNCTION.
 pub(crate) fn is_function(unit: &[Line]) -> bool
-    ensures { result ≡ is_function unit.now }
+    ensures { result ≡ is_function_segment unit.now }
 {
     !unit.is_empty() && is_function_head(&unit[0].stmt)
 }

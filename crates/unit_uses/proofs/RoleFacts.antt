@@ -2,9 +2,10 @@
 use Rattle.std.proofs.Common.{◌≡◌, ℕ, Bool, true, false, List, [], ◌∷◌, ◌++◌, refl, sym, ap, ◌∙◌, rules, arith}
 use Rattle.std.specs.Prelude.{◌==◌, ◌||◌, ◌&&◌, not, nat_eq, cond, map}
 use Rattle.std.specs.List.{list_any}
-use Rattle.fort_syntax.specs.Scopes.{Scope, same_name, is_among, kept, once}
+use Rattle.formula.specs.Atoms.{same_bytes, is_among}
+use Rattle.fort_syntax.specs.Scopes.{Scope, kept, once}
 use Rattle.fort_syntax.specs.NameRules.{commons_by}
-use Rattle.fort_syntax.specs.Units.{Segment, gathered, class_of, is_performing, executables, own_name, is_function, dummies_by, dummies_of, common_items_by, commons_of, names_of_items, scope_of, names_in, is_reference, references_in, references_of, held_by, own_value_of, data_names}
+use Rattle.fort_syntax.specs.Units.{Segment, gathered, class_of, is_performing, executables, own_name, is_function_segment, dummies_by, dummies_of, common_items_by, commons_of, names_of_items, scope_of, names_in, is_reference, references_in, references_of, held_by, own_value_of, data_names}
 use Rattle.fort_syntax.specs.Uses.{Occurrence, uses_of}
 use Rattle.fort_syntax.specs.UseRules.{is_assigned, assigns}
 use Rattle.fort_syntax.specs.declared.name.Name.{Name}
@@ -34,8 +35,8 @@ kept_case true false false false h = refl
 kept_case false true k m h = refl
 kept_case false false k m h = refl
 
-among_if : (t : Bool) (x y : Name) → is_among x (cond t (y ∷ []) []) ≡ cond t (same_name x y) false
-among_if true x y = or_false (same_name x y)
+among_if : (t : Bool) (x y : Name) → is_among x (cond t (y ∷ []) []) ≡ cond t (same_bytes x y) false
+among_if true x y = or_false (same_bytes x y)
 among_if false x y = refl
 
 among_kept : (test : Name → Bool) (xs : List Name) (x : Name) → is_among x (kept test xs) ≡ (is_among x xs && test x)
@@ -43,7 +44,7 @@ among_kept test [] x = refl
 among_kept test (y ∷ xs) x =
     among_both x (cond (test y) (y ∷ []) []) (kept test xs)
     ∙ (λ i. among_if (test y) x y i || among_kept test xs x i)
-    ∙ kept_case (same_name x y) (test y) (test x) (is_among x xs) (λ e. ap test (sym (same_names x y e)))
+    ∙ kept_case (same_bytes x y) (test y) (test x) (is_among x xs) (λ e. ap test (sym (same_names x y e)))
 
 once_case : (e m : Bool) → (e || (m && not e)) ≡ (e || m)
 once_case true m = refl
@@ -53,9 +54,9 @@ once_case false false = refl
 pub among_once : (xs : List Name) (x : Name) → is_among x (once xs) ≡ is_among x xs
 among_once [] x = refl
 among_once (y ∷ xs) x =
-    ap (λ b. same_name x y || b) (among_kept (λ z. not (same_name y z)) (once xs) x)
-    ∙ (λ i. same_name x y || (among_once xs x i && not (swapped y x i)))
-    ∙ once_case (same_name x y) (is_among x xs)
+    ap (λ b. same_bytes x y || b) (among_kept (λ z. not (same_bytes y z)) (once xs) x)
+    ∙ (λ i. same_bytes x y || (among_once xs x i && not (swapped y x i)))
+    ∙ once_case (same_bytes x y) (is_among x xs)
 
 -- ---- functions
 
@@ -91,20 +92,20 @@ commons_gathered (line ∷ lines) =
 
 -- ---- data names
 
-pub own_if : (f : Bool) (x own : Name) → is_among x (cond f (own ∷ []) []) ≡ (f && same_name x own)
-own_if true x own = or_false (same_name x own)
+pub own_if : (f : Bool) (x own : Name) → is_among x (cond f (own ∷ []) []) ≡ (f && same_bytes x own)
+own_if true x own = or_false (same_bytes x own)
 own_if false x own = refl
 
 pub held_is : (unit : Segment) (x : Name)
-    → is_among x (held_by unit) ≡ (is_among x (dummies_of unit) || is_among x (commons_of unit) || (is_function unit && same_name x (own_name unit)))
+    → is_among x (held_by unit) ≡ (is_among x (dummies_of unit) || is_among x (commons_of unit) || (is_function_segment unit && same_bytes x (own_name unit)))
 held_is unit x =
     among_both x (dummies_of unit ++ commons_of unit) (own_value_of unit)
-    ∙ (λ i. among_both x (dummies_of unit) (commons_of unit) i || own_if (is_function unit) x (own_name unit) i)
+    ∙ (λ i. among_both x (dummies_of unit) (commons_of unit) i || own_if (is_function_segment unit) x (own_name unit) i)
 
 data_is : (unit : Segment) (x : Name)
     → is_among x (data_names unit)
     ≡ (is_among x (gathered names_in unit)
-    && (is_among x (dummies_of unit) || is_among x (commons_of unit) || (is_function unit && same_name x (own_name unit))
+    && (is_among x (dummies_of unit) || is_among x (commons_of unit) || (is_function_segment unit && same_bytes x (own_name unit))
     || not (is_among x (references_in (scope_of unit) (gathered uses_of unit)))))
 data_is unit x =
     among_kept (λ y. is_among y (held_by unit) || not (is_among y (references_of unit))) (once (gathered names_in unit)) x
@@ -152,13 +153,13 @@ assigned_is : (own : Name) (lines : List Line) → assigned_from own lines ≡ a
 assigned_is own [] = refl
 assigned_is own (line ∷ lines) =
     ap (λ b. assigns own (uses_of line.stmt) || b) (assigned_is own lines)
-    ∙ sym (any_both (λ o. same_name o.name own && is_assigned o.«use») (uses_of line.stmt) (gathered uses_of lines))
+    ∙ sym (any_both (λ o. same_bytes o.name own && is_assigned o.«use») (uses_of line.stmt) (gathered uses_of lines))
 
 -- what the tables of a unit tell is what the unit says
 pub roles_made : (unit : Segment) (scope : Scoped) (dummies commons names references : List Name) (lines : List ℕ) (assigned function : Bool)
     → scope_by scope ≡ scope_of unit → dummies ≡ given_from dummies_by [] unit → commons ≡ given_from commons_by [] unit
     → names ≡ given_from names_in [] unit → references ≡ given_from (λ s. references_in (scope_by scope) (uses_of s)) [] unit
-    → lines ≡ lines_from [] unit → assigned ≡ assigned_from (own_name unit) unit → function ≡ is_function unit
+    → lines ≡ lines_from [] unit → assigned ≡ assigned_from (own_name unit) unit → function ≡ is_function_segment unit
     → use_facts_by (record {
       function = function;
       assigned = assigned;
@@ -180,11 +181,11 @@ roles_made unit scope dummies commons names references lines assigned function s
     ∙ ap (λ t. is_among x (references_in t (gathered uses_of unit))) s in
     λ i. record {
       own = own;
-      is_function = f i;
+      is_function_segment = f i;
       scope = s i;
       is_dummy = λ x. is_dummy x i;
       is_common = λ x. is_common x i;
-      is_data = λ x. ((λ j. is_name x j && (is_dummy x j || is_common x j || (f j && same_name x own) || not (is_used x j))) ∙ sym (data_is unit x)) i;
+      is_data = λ x. ((λ j. is_name x j && (is_dummy x j || is_common x j || (f j && same_bytes x own) || not (is_used x j))) ∙ sym (data_is unit x)) i;
       has_line = λ label. (ap (λ ls. not (label == 0) && is_known label ls) l ∙ ap (λ b. not (label == 0) && b) (lines_is [] unit label)) i;
       is_assigned = (a ∙ assigned_is own unit) i;
     }

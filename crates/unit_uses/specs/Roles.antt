@@ -1,6 +1,6 @@
 -- What the tables of a unit tell of the uses of its names.
 use Rattle.std.specs.Prelude.{◌&&◌, ◌||◌, not, Bool}
-use Rattle.fort_syntax.specs.Scopes.{same_name, is_among}
+use Rattle.formula.specs.Atoms.{same_bytes, is_among}
 use Rattle.fort_syntax.specs.declared.name.Name.{Name}
 use Rattle.unit_decl.specs.Scoping.{scope_by}
 use Rattle.unit_decl.specs.UseScans.{UseFacts, has_label_in}
@@ -10,7 +10,7 @@ use Rattle.unit_decl.specs.declared.use_rules.Roles.{Roles}
 abbrev pub is_data_by : Roles → Name → Name → Bool
 is_data_by r own x =
     is_among x r.names
-    && (is_among x r.dummies || is_among x r.commons || (r.function && same_name x own) || not (is_among x r.references))
+    && (is_among x r.dummies || is_among x r.commons || (r.function && same_bytes x own) || not (is_among x r.references))
 
 abbrev pub use_facts_by : Roles → Name → UseFacts
 use_facts_by r own = record {

@@ -1,6 +1,7 @@
 // What names and labels of a unit are.
 ghost use Rattle.std.specs.Prelude.{◌≡◌, ◌&&◌, [], IfOk, OnOk};
-ghost use Rattle.fort_syntax.specs.Scopes.{same_name, once};
+ghost use Rattle.formula.specs.Atoms.{same_bytes};
+ghost use Rattle.fort_syntax.specs.Scopes.{once};
 ghost use Rattle.fort_syntax.specs.NameRules.{commons_by};
 ghost use Rattle.fort_syntax.specs.Units.{gathered, names_in, own_name, references_in, references_of};
 ghost use Rattle.fort_syntax.specs.Uses.{uses_of};
@@ -110,7 +111,7 @@ fn is_assigned(how: &How) -> bool
 }
 
 fn assigns_here(own: &[u8], seen: &Seen) -> bool
-    ensures { result ≡ (same_name seen.now.name own.now && is_assigned seen.now.«use») }
+    ensures { result ≡ (same_bytes seen.now.name own.now && is_assigned seen.now.«use») }
 {
     is_own(own, &seen.name()) && is_assigned(&seen.how())
 }

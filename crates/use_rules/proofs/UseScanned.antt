@@ -2,8 +2,9 @@
 use Rattle.std.proofs.Common.{◌≡◌, ℕ, Bool, true, false, List, [], ◌∷◌, ◌++◌, refl, sym, ap, ◌∙◌, rules}
 use Rattle.std.specs.Prelude.{◌==◌, ◌||◌, ◌&&◌, not, cond, map, Option, Some, None}
 use Rattle.std.specs.List.{list_any}
+use Rattle.formula.specs.Atoms.{same_bytes, is_among}
 use Rattle.fort_syntax.specs.CardRules.{fault_or}
-use Rattle.fort_syntax.specs.Scopes.{Scope, same_name, is_among, kept}
+use Rattle.fort_syntax.specs.Scopes.{Scope, kept}
 use Rattle.fort_syntax.specs.OrderRules.{Place, places_in, places_from, places, is_empty}
 use Rattle.fort_syntax.specs.UnitRules.{use_rules, first_broken, fault_in_stage, fault_before}
 use Rattle.fort_syntax.specs.Units.{Segment, gathered, scope_of, is_reference, references_in}
@@ -47,15 +48,15 @@ right_false false b h = h
 -- ---- what statements have used
 
 named_one : (t : Bool) (o : Occurrence) (more : List Occurrence) (x : Name) (rest : Bool) → is_among x (map (λ p. p.name) more) ≡ rest
-    → is_among x (map (λ p. p.name) (cond t (o ∷ []) [] ++ more)) ≡ ((same_name o.name x && t) || rest)
-named_one true o more x rest h = (λ i. swapped x o.name i || h i) ∙ ap (λ b. b || rest) (sym (and_true (same_name o.name x)))
-named_one false o more x rest h = h ∙ ap (λ b. b || rest) (sym (and_false (same_name o.name x)))
+    → is_among x (map (λ p. p.name) (cond t (o ∷ []) [] ++ more)) ≡ ((same_bytes o.name x && t) || rest)
+named_one true o more x rest h = (λ i. swapped x o.name i || h i) ∙ ap (λ b. b || rest) (sym (and_true (same_bytes o.name x)))
+named_one false o more x rest h = h ∙ ap (λ b. b || rest) (sym (and_false (same_bytes o.name x)))
 
 named : (test : Occurrence → Bool) (uses : List Occurrence) (x : Name)
-    → is_among x (map (λ o. o.name) (kept test uses)) ≡ list_any (λ o. same_name o.name x && test o) uses
+    → is_among x (map (λ o. o.name) (kept test uses)) ≡ list_any (λ o. same_bytes o.name x && test o) uses
 named test [] x = refl
 named test (o ∷ uses) x =
-    named_one (test o) o (kept test uses) x (list_any (λ p. same_name p.name x && test p) uses) (named test uses x)
+    named_one (test o) o (kept test uses) x (list_any (λ p. same_bytes p.name x && test p) uses) (named test uses x)
 
 pub record UsedBy (scope : Scope) (used : Used) (before : List Line) : Type 0 where
   pub references : (x : Name) → is_among x used.references ≡ list_any (is_reference_to scope x) (gathered uses_of before)
@@ -93,30 +94,30 @@ abbrev pub Apart : Used → Type 0
 Apart used = (x : Name) → is_both used x ≡ false
 
 found : (facts : UseFacts) (used : Used) (uses : List Occurrence) (x : Name) → has_bad_use facts used uses ≡ false
-    → list_any (λ o. same_name o.name x) uses ≡ true → is_both used x ≡ false
+    → list_any (λ o. same_bytes o.name x) uses ≡ true → is_both used x ≡ false
 found facts used [] x h m = search rules
-found facts used (o ∷ uses) x h m = by (found facts used uses x (right_false (is_bad_use facts used o) (has_bad_use facts used uses) h)) (same_name o.name x) refl m
+found facts used (o ∷ uses) x h m = by (found facts used uses x (right_false (is_bad_use facts used o) (has_bad_use facts used uses) h)) (same_bytes o.name x) refl m
   where
-    by : (list_any (λ p. same_name p.name x) uses ≡ true → is_both used x ≡ false) → (s : Bool) → same_name o.name x ≡ s
-        → (s || list_any (λ p. same_name p.name x) uses) ≡ true → is_both used x ≡ false
+    by : (list_any (λ p. same_bytes p.name x) uses ≡ true → is_both used x ≡ false) → (s : Bool) → same_bytes o.name x ≡ s
+        → (s || list_any (λ p. same_bytes p.name x) uses) ≡ true → is_both used x ≡ false
     by rest true e n =
         ap (is_both used) (sym (same_names o.name x e))
         ∙ right_false (is_misused facts.scope o.name o.«use» || is_of_other_kind facts o) (is_both used o.name)
         (left_false (is_bad_use facts used o) (has_bad_use facts used uses) h)
     by rest false e n = rest n
 
-not_named : (test : Occurrence → Bool) (uses : List Occurrence) (x : Name) → list_any (λ o. same_name o.name x) uses ≡ false
-    → list_any (λ o. same_name o.name x && test o) uses ≡ false
+not_named : (test : Occurrence → Bool) (uses : List Occurrence) (x : Name) → list_any (λ o. same_bytes o.name x) uses ≡ false
+    → list_any (λ o. same_bytes o.name x && test o) uses ≡ false
 not_named test [] x h = refl
 not_named test (o ∷ uses) x h =
-    (λ i. (left_false (same_name o.name x) (list_any (λ p. same_name p.name x) uses) h i && test o) || list_any (λ p. same_name p.name x && test p) uses)
-    ∙ not_named test uses x (right_false (same_name o.name x) (list_any (λ p. same_name p.name x) uses) h)
+    (λ i. (left_false (same_bytes o.name x) (list_any (λ p. same_bytes p.name x) uses) h i && test o) || list_any (λ p. same_bytes p.name x && test p) uses)
+    ∙ not_named test uses x (right_false (same_bytes o.name x) (list_any (λ p. same_bytes p.name x) uses) h)
 
 apart_more : (facts : UseFacts) (used : Used) (uses : List Occurrence) (label : ℕ) → Apart used
     → has_bad_use facts (used_with facts.scope used uses label) uses ≡ false → Apart (used_with facts.scope used uses label)
-apart_more facts used uses label apart h x = by (list_any (λ o. same_name o.name x) uses) refl
+apart_more facts used uses label apart h x = by (list_any (λ o. same_bytes o.name x) uses) refl
   where
-    by : (m : Bool) → list_any (λ o. same_name o.name x) uses ≡ m → is_both (used_with facts.scope used uses label) x ≡ false
+    by : (m : Bool) → list_any (λ o. same_bytes o.name x) uses ≡ m → is_both (used_with facts.scope used uses label) x ≡ false
     by true m = found facts (used_with facts.scope used uses label) uses x h m
     by false m =
         (λ i. (with_names_of used.references (references_in facts.scope uses) x

@@ -1,10 +1,11 @@
 -- What one pass over the statements of a unit finds of the uses of its names and labels.
 use Rattle.std.specs.Prelude.{ℕ, ◌==◌, ◌&&◌, ◌||◌, not, Bool, true, false, cond, List, [], ◌∷◌, map, Option, Some, None}
 use Rattle.std.specs.List.{list_any}
+use Rattle.formula.specs.Atoms.{same_bytes, is_among}
 use Rattle.fort_syntax.specs.CardRules.{fault_or}
-use Rattle.fort_syntax.specs.Scopes.{Scope, same_name, is_among, kept}
+use Rattle.fort_syntax.specs.Scopes.{Scope, kept}
 use Rattle.fort_syntax.specs.TypeRules.{all_plain_subscripts}
-use Rattle.fort_syntax.specs.Units.{Segment, class_of, is_performing, gathered, executables, own_name, is_function, dummies_of, commons_of, scope_of, data_names, is_called, is_reference, references_in}
+use Rattle.fort_syntax.specs.Units.{Segment, class_of, is_performing, gathered, executables, own_name, is_function_segment, dummies_of, commons_of, scope_of, data_names, is_called, is_reference, references_in}
 use Rattle.fort_syntax.specs.Uses.{Occurrence, uses_of, used_labels}
 use Rattle.fort_syntax.specs.UseRules.{is_misused, is_bare, wants_plain_subscripts, has_label, assigns}
 use Rattle.fort_syntax.specs.UnitRules.{fault_before}
@@ -23,7 +24,7 @@ use Rattle.unit_decl.specs.declared.used.Used.{Used}
 -- own name is assigned
 pub record UseFacts : Type 0 where
   pub own : Name
-  pub is_function : Bool
+  pub is_function_segment : Bool
   pub scope : Scope
   pub is_dummy : Name → Bool
   pub is_common : Name → Bool
@@ -34,7 +35,7 @@ pub record UseFacts : Type 0 where
 abbrev pub use_facts_of : Segment → UseFacts
 use_facts_of unit = record {
   own = own_name unit;
-  is_function = is_function unit;
+  is_function_segment = is_function_segment unit;
   scope = scope_of unit;
   is_dummy = λ x. is_among x (dummies_of unit);
   is_common = λ x. is_among x (commons_of unit);
@@ -58,7 +59,7 @@ abbrev pub is_of_other_kind : UseFacts → Occurrence → Bool
 is_of_other_kind facts o =
     (is_reference facts.scope o && (facts.is_dummy o.name || facts.is_common o.name))
     || (is_called o.«use» && facts.is_data o.name)
-    || (not (is_called o.«use») && not facts.is_function && same_name o.name facts.own)
+    || (not (is_called o.«use») && not facts.is_function && same_bytes o.name facts.own)
 
 -- the names that stand as scalars
 abbrev pub bares_in : List Occurrence → List Name

@@ -1,7 +1,7 @@
 // What executable statements may do.
 ghost use Rattle.std.specs.Prelude.{◌≡◌, ◌&&◌, ◌||◌, [], not, true, IfOk, OnOk};
 ghost use Rattle.std.specs.List.{list_any};
-ghost use Rattle.fort_syntax.specs.Scopes.{same_name, is_among};
+ghost use Rattle.formula.specs.Atoms.{same_bytes, is_among};
 ghost use Rattle.fort_syntax.specs.Units.{is_called, is_reference};
 ghost use Rattle.fort_syntax.specs.UseRules.{wants_plain_subscripts};
 ghost use Rattle.fort_syntax.specs.TypeRules.{all_plain_subscripts};
@@ -37,7 +37,7 @@ pub struct Roles {
 }
 
 pub(crate) fn is_own(own: &[u8], name: &Name) -> bool
-    ensures { result ≡ same_name name.now own.now }
+    ensures { result ≡ same_bytes name.now own.now }
 {
     name.as_bytes() == own
 }
@@ -66,7 +66,7 @@ fn is_called_data(roles: &Roles, own: &[u8], seen: &Seen) -> bool
 }
 
 fn is_own_name_used(roles: &Roles, own: &[u8], seen: &Seen) -> bool
-    ensures { result ≡ (not (is_called seen.now.«use») && not roles.now.function && same_name seen.now.name own.now) }
+    ensures { result ≡ (not (is_called seen.now.«use») && not roles.now.function && same_bytes seen.now.name own.now) }
 {
     !seen.is_called() && !roles.function && is_own(own, &seen.name())
 }

@@ -1,7 +1,8 @@
 // Uses of names and of labels.
 ghost use Rattle.std.specs.Prelude.{◌≡◌, ◌&&◌, ◌||◌, [], not, IfOk, OnOk};
 ghost use Rattle.std.specs.List.{list_any};
-ghost use Rattle.fort_syntax.specs.Scopes.{is_among, kept};
+ghost use Rattle.formula.specs.Atoms.{is_among};
+ghost use Rattle.fort_syntax.specs.Scopes.{kept};
 ghost use Rattle.fort_syntax.specs.Units.{is_applied, is_reference, references_in};
 ghost use Rattle.fort_syntax.specs.Uses.{used_labels};
 ghost use Rattle.fort_syntax.specs.UseRules.{is_misused, is_bare};

@@ -2,6 +2,7 @@
 use Rattle.std.specs.Prelude.{ℕ, ◌≡◌, ◌⊎◌, ◌&&◌, if◌then◌else◌, Option, Some, None, List, [], ◌∷◌, length, map, replicate, codes, string_bytes}
 use Rattle.std.specs.Io.KnownBytes.{Appends}
 use Rattle.std.specs.declared.string.String.{String}
+use Rattle.fort_syntax.specs.Conditions.{ConditionTree}
 use Rattle.formula.specs.Atoms.{same_bytes}
 use Rattle.fort_syntax.specs.CardRules.{card_fault}
 use Rattle.fort_syntax.specs.Cards.{entries_of}
@@ -12,7 +13,6 @@ use Rattle.fort_syntax.specs.declared.dialect.Dialect.TheVariants.{Common, Seven
 use Rattle.fort_syntax.specs.declared.refusal.Fault.{Fault}
 use Rattle.fort_syntax.specs.declared.rule.Rule.TheVariants.{NotBuilt}
 use Rattle.unit_decl.specs.Decks.{IsDeckOf, IsFirstFault}
-use Rattle.event_text.specs.Conditions.{ConditionTree}
 use Rattle.event_text.specs.EventText.{event_text}
 use Rattle.event_text.specs.Sending.{AppendsPart}
 use Rattle.event_text.specs.declared.marks.Marks.{Marks}

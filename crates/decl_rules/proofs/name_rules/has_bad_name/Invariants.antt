@@ -1,8 +1,9 @@
 use Rattle.std.proofs.Common.{◌≡◌, drop}
-use Rattle.fort_syntax.specs.Scopes.{is_among, is_integer_scalar}
+use Rattle.fort_syntax.specs.Scopes.{is_integer_scalar}
 use Rattle.std.specs.List.{list_any}
 use Rattle.unit_decl.specs.Scoping.{scope_by}
 use Rattle.std.specs.Prelude.{◌||◌, ◌&&◌, not}
+use Rattle.formula.specs.Atoms.{is_among}
 use Rattle.fort_syntax.specs.Units.{names_in_dims}
 use Rattle.unit_decl.proofs.name_rules.has_bad_name.Given as goal
 

@@ -1,7 +1,7 @@
 use Rattle.std.proofs.Common.{◌≡◌, drop}
 use Rattle.unit_decl.specs.NameScans.{has_new_bad}
-use Rattle.fort_syntax.specs.Scopes.{is_among}
 use Rattle.std.specs.Prelude.{map}
+use Rattle.formula.specs.Atoms.{is_among}
 use Rattle.fort_syntax.specs.Units.{name_of_block}
 use Rattle.unit_decl.proofs.name_rules.has_new_bad.Given as goal
 

@@ -1,6 +1,6 @@
 use Rattle.std.proofs.Common.{◌≡◌, drop}
-use Rattle.fort_syntax.specs.Scopes.{is_among}
 use Rattle.std.specs.List.{list_any}
+use Rattle.formula.specs.Atoms.{is_among}
 use Rattle.unit_decl.proofs.name_rules.meets.Given as goal
 
 abbrev pub invariant-loop-name : goal.invariant-loop-name

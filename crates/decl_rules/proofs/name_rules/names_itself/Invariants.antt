@@ -1,5 +1,5 @@
 use Rattle.std.proofs.Common.{◌≡◌, drop}
-use Rattle.fort_syntax.specs.Scopes.{is_among}
+use Rattle.formula.specs.Atoms.{is_among}
 use Rattle.unit_decl.proofs.name_rules.names_itself.Given as goal
 
 abbrev pub invariant-loop-name : goal.invariant-loop-name

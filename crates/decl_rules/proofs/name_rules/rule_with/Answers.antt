@@ -1,6 +1,6 @@
 use Rattle.std.proofs.Common.{ap, ◌∙◌}
 use Rattle.std.specs.List.{list_any}
-use Rattle.fort_syntax.specs.Scopes.{is_among}
+use Rattle.formula.specs.Atoms.{is_among}
 use Rattle.unit_decl.specs.Scoping.{scope_by}
 use Rattle.unit_decl.specs.NameScans.{has_bad_shape, is_bad_item, first_rule}
 use Rattle.unit_decl.proofs.name_rules.rule_with.Goals as goal
