@@ -1,37 +1,40 @@
 -- Unit by unit the first fault in declarations is found.
-use Rattle.std.proofs.Common.{◌≡◌, ℕ, Bool, true, false, List, [], ◌∷◌, ◌++◌, refl, sym, ap, ◌∙◌, rules}
-use Rattle.std.specs.Prelude.{◌||◌, ◌&&◌, not, cond, Option, Some, None}
+use Rattle.std.proofs.Common.{◌≡◌, ℕ, Bool, true, false, List, [], ◌∷◌, ◌++◌, refl, sym, ap, subst, ◌∙◌, rules}
+use Rattle.std.specs.Prelude.{◌||◌, ◌&&◌, not, cond, map, Option, Some, None}
 use Rattle.std.specs.List.{list_any}
 use Rattle.formula.specs.Atoms.{same_bytes, is_among}
 use Rattle.formula.specs.Reading.{or_else}
 use Rattle.fort_syntax.specs.CardRules.{fault_or}
-use Rattle.fort_syntax.specs.Units.{Segment, gathered, own_name, dummies_of, scope_of, blocks_by, items_by, names_in}
-use Rattle.fort_syntax.specs.OrderRules.{places_in, places_from, places}
-use Rattle.fort_syntax.specs.NameRules.{Member, same_members, members, declares_otherwise, is_adjustable}
-use Rattle.fort_syntax.specs.UnitRules.{name_rules, fault_in_stage, fault_before}
+use Rattle.fort_syntax.specs.Units.{Segment, gathered, own_name, dummies_of, scope_of, blocks_by}
+use Rattle.fort_syntax.specs.OrderRules.{places_in}
+use Rattle.fort_syntax.specs.NameRules.{Member, member_of, same_members, members, declares_otherwise, is_adjustable}
+use Rattle.fort_syntax.specs.UnitRules.{name_rules, fault_in_stage}
 use Rattle.fort_syntax.specs.declared.dialect.Dialect.{Dialect}
 use Rattle.fort_syntax.specs.declared.name.Name.{Name}
 use Rattle.fort_syntax.specs.declared.refusal.Fault.{Fault}
 use Rattle.fort_syntax.specs.declared.rule.Rule.{Rule}
 use Rattle.fort_syntax.specs.declared.unit.Line.{Line}
-use Rattle.unit_decl.specs.declared.done.Done.{Done}
-use Rattle.unit_decl.specs.Sets.{with_names}
-use Rattle.unit_decl.specs.Tables.{first_of, told}
-use Rattle.unit_decl.specs.NameScans.{Facts, facts_of, given_of, nothing_done, done_with, names_twice, has_untyped, has_bad_shape, has_new_bad, is_bad_item, first_rule, name_rule, name_scan}
-use Rattle.unit_decl.specs.Commons.{differs, is_bad_with, remembered, remembered_from, facts_with, name_scans}
-use Rattle.unit_decl.proofs.Told.{same_names, told_of}
-use Rattle.unit_decl.proofs.Among.{any_both, among_both}
-use Rattle.unit_decl.proofs.NameScanned.{with_names_of, names_scanned}
-use Rattle.unit_decl.proofs.OrderScans.{fault_in_both}
-use Rattle.unit_decl.proofs.SameMembers.{members_equal}
+use Rattle.name_tables.specs.Sets.{with_names}
+use Rattle.name_tables.specs.Tables.{first_of, told}
+use Rattle.name_tables.proofs.Told.{same_names, told_of}
+use Rattle.name_tables.proofs.Among.{any_both, among_both}
+use Rattle.name_tables.proofs.SetNames.{with_names_of}
+use Rattle.unit_scopes.specs.Blocks.{names_of_block, tabled}
+use Rattle.unit_scopes.proofs.BlockNames.{tabled_of}
+use Rattle.unit_uses.specs.Roles.{use_facts_by}
+use Rattle.unit_uses.specs.UseFacts.{use_facts_of}
+use Rattle.unit_uses.specs.declared.roles.Roles.{Roles}
+use Rattle.decl_rules.specs.declared.declarations.Declarations.{Declarations}
+use Rattle.decl_rules.specs.declared.rules.Breaches.{Breaches}
+use Rattle.decl_rules.specs.NameScans.{Facts, facts_of, no_declarations, declarations_with, first_rule, breaches, name_rule, name_scan}
+use Rattle.decl_rules.specs.Commons.{differs, is_bad_with, remembered, remembered_from, Agrees, facts_with}
+use Rattle.decl_rules.specs.Facts.{members_by, facts_by}
+use Rattle.decl_rules.proofs.NameScanned.{new_bad_any, names_scanned}
+use Rattle.decl_rules.proofs.SameMembers.{members_equal}
 
 or_false : (b : Bool) → (b || false) ≡ b
 or_false true = refl
 or_false false = refl
-
--- what is kept of blocks tells how a block differs from those of earlier units
-abbrev pub Agrees : List (Name × List Member) → List Segment → Type 0
-Agrees table earlier = (b : Name) (own : List Member) → list_any (declares_otherwise b own) earlier ≡ differs (first_of table b) own
 
 facts_agree : (table : List (Name × List Member)) (earlier : List Segment) (unit : Segment) → Agrees table earlier
     → facts_of earlier unit ≡ facts_with table unit
@@ -39,7 +42,7 @@ facts_agree table earlier unit agrees = λ i. record {
   own = own_name unit;
   scope = scope_of unit;
   is_dummy = λ x. is_among x (dummies_of unit);
-  is_bad_block = λ b. is_among b (gathered blocks_by unit) && (agrees b (members unit b) i || list_any (λ m. is_adjustable m.dims) (members unit b));
+  is_bad_block = λ b. agrees b (members unit b) i || list_any (λ m. is_adjustable m.dims) (members unit b);
 }
 
 -- ---- what is kept
@@ -86,12 +89,15 @@ rest_none : (r : Option Rule) (card : ℕ) (rest : Option Fault) → fault_or r 
 rest_none (Some rule) card rest h = search rules
 rest_none None card rest h = h
 
-no_block : (a b c d e : Bool) → first_rule a b c d e ≡ None → d ≡ false
-no_block true b c d e h = search rules
-no_block false true c d e h = search rules
-no_block false false true d e h = search rules
-no_block false false false true e h = search rules
-no_block false false false false e h = refl
+no_block : (b : Breaches) → first_rule b ≡ None → b.block ≡ false
+no_block b h = by b.twice b.untyped b.shape b.block b.adjustable h
+  where
+    by : (t u s k a : Bool) → first_rule (record { twice = t; untyped = u; shape = s; block = k; adjustable = a }) ≡ None → k ≡ false
+    by true u s k a h = search rules
+    by false true s k a h = search rules
+    by false false true k a h = search rules
+    by false false false true a h = search rules
+    by false false false false a h = refl
 
 left_false : (a b : Bool) → (a || b) ≡ false → a ≡ false
 left_false true b h = search rules
@@ -109,30 +115,30 @@ none_passes test (c ∷ bs) b h m = by (none_passes test bs b (right_false (test
     by rest true e n = ap test (same_names b c e) ∙ left_false (test c) (list_any test bs) h
     by rest false e n = rest n
 
-good : (dialect : Dialect) (facts : Facts) (done : Done) (blocks : List Name) (lines : List Line)
-    → name_scan dialect facts done blocks lines ≡ None → (b : Name) → is_among b (gathered blocks_by lines) ≡ true
-    → (not (is_among b blocks) && facts.is_bad_block b) ≡ false
-good dialect facts done blocks [] h b m = search rules
-good dialect facts done blocks (line ∷ lines) h b m =
-    by (good dialect facts (done_with done line.stmt (given_of line.stmt)) (with_names blocks (blocks_by line.stmt)) lines rest b)
+good : (dialect : Dialect) (facts : Facts) (done : Declarations) (lines : List Line)
+    → name_scan dialect facts done lines ≡ None → (b : Name) → is_among b (gathered blocks_by lines) ≡ true
+    → (not (is_among b done.blocks) && facts.is_bad_block b) ≡ false
+good dialect facts done [] h b m = search rules
+good dialect facts done (line ∷ lines) h b m =
+    by (good dialect facts (declarations_with done line.stmt) lines rest b)
     (is_among b (blocks_by line.stmt)) refl (sym (among_both b (blocks_by line.stmt) (gathered blocks_by lines)) ∙ m)
   where
-    rest : name_scan dialect facts (done_with done line.stmt (given_of line.stmt)) (with_names blocks (blocks_by line.stmt)) lines ≡ None
-    rest = rest_none (name_rule dialect facts done blocks line.stmt) line.card (name_scan dialect facts (done_with done line.stmt (given_of line.stmt)) (with_names blocks (blocks_by line.stmt)) lines) h
+    rest : name_scan dialect facts (declarations_with done line.stmt) lines ≡ None
+    rest = rest_none (name_rule dialect facts done line.stmt) line.card (name_scan dialect facts (declarations_with done line.stmt) lines) h
 
-    here : has_new_bad facts.is_bad_block blocks (blocks_by line.stmt) ≡ false
+    here : list_any (λ c. not (is_among c done.blocks) && facts.is_bad_block c) (blocks_by line.stmt) ≡ false
     here =
-        no_block (names_twice facts done line.stmt (given_of line.stmt)) (has_untyped facts.scope (names_in line.stmt)) (has_bad_shape dialect (items_by line.stmt))
-        (has_new_bad facts.is_bad_block blocks (blocks_by line.stmt)) (list_any (is_bad_item facts.is_dummy facts.scope) (items_by line.stmt))
-        (rule_none (name_rule dialect facts done blocks line.stmt) line.card (name_scan dialect facts (done_with done line.stmt (given_of line.stmt)) (with_names blocks (blocks_by line.stmt)) lines) h)
+        sym (new_bad_any facts.is_bad_block done.blocks (blocks_by line.stmt))
+        ∙ no_block (breaches dialect facts done line.stmt)
+        (rule_none (name_rule dialect facts done line.stmt) line.card (name_scan dialect facts (declarations_with done line.stmt) lines) h)
 
-    by : (is_among b (gathered blocks_by lines) ≡ true → (not (is_among b (with_names blocks (blocks_by line.stmt))) && facts.is_bad_block b) ≡ false)
+    by : (is_among b (gathered blocks_by lines) ≡ true → (not (is_among b (with_names done.blocks (blocks_by line.stmt))) && facts.is_bad_block b) ≡ false)
         → (t : Bool) → is_among b (blocks_by line.stmt) ≡ t → (t || is_among b (gathered blocks_by lines)) ≡ true
-        → (not (is_among b blocks) && facts.is_bad_block b) ≡ false
-    by later true e n = none_passes (λ c. not (is_among c blocks) && facts.is_bad_block c) (blocks_by line.stmt) b here e
+        → (not (is_among b done.blocks) && facts.is_bad_block b) ≡ false
+    by later true e n = none_passes (λ c. not (is_among c done.blocks) && facts.is_bad_block c) (blocks_by line.stmt) b here e
     by later false e n =
         ap (λ c. not c && facts.is_bad_block b)
-        (sym (with_names_of blocks (blocks_by line.stmt) b ∙ ap (λ t. is_among b blocks || t) e ∙ or_false (is_among b blocks)))
+        (sym (with_names_of done.blocks (blocks_by line.stmt) b ∙ ap (λ t. is_among b done.blocks || t) e ∙ or_false (is_among b done.blocks)))
         ∙ later n
 
 not_false : (b : Bool) → not b ≡ false → b ≡ true
@@ -145,7 +151,7 @@ twice false = refl
 
 -- what is kept of one more unit without a fault
 agrees_more : (dialect : Dialect) (table : List (Name × List Member)) (earlier : List Segment) (unit : Segment) → Agrees table earlier
-    → name_scan dialect (facts_with table unit) nothing_done [] unit ≡ None
+    → name_scan dialect (facts_with table unit) no_declarations unit ≡ None
     → Agrees (remembered_from (members unit) table unit) (earlier ++ unit ∷ [])
 agrees_more dialect table earlier unit agrees h b own =
     any_both (declares_otherwise b own) earlier (unit ∷ [])
@@ -159,8 +165,7 @@ agrees_more dialect table earlier unit agrees h b own =
         (not_false (same_members (members unit b) kept)
         (left_false (not (same_members (members unit b) kept)) (list_any (λ m. is_adjustable m.dims) (members unit b))
         (ap (λ o. differs o (members unit b) || list_any (λ m. is_adjustable m.dims) (members unit b)) (sym e)
-        ∙ ap (λ c. c && is_bad_with table (members unit b) b) (sym a)
-        ∙ good dialect (facts_with table unit) nothing_done [] unit h b a)))
+        ∙ good dialect (facts_with table unit) no_declarations unit h b a)))
 
     by : (o : Option (List Member)) → first_of table b ≡ o → (a : Bool) → is_among b (gathered blocks_by unit) ≡ a
         → (differs o own || ((a && not (same_members own (members unit b))) || false)) ≡ differs (or_else o (cond a (Some (members unit b)) None)) own
@@ -170,22 +175,34 @@ agrees_more dialect table earlier unit agrees h b own =
         ap (λ m. not (same_members own kept) || (not (same_members own m) || false)) (equal kept e a) ∙ twice (not (same_members own kept))
     by (Some kept) e false a = or_false (not (same_members own kept))
 
-joined : (o : Option Fault) (x y : Option Fault) → (o ≡ None → x ≡ y) → fault_before o x ≡ fault_before o y
-joined (Some fault) x y h = refl
-joined None x y h = h refl
+pub members_made : (unit : Segment) (roles : Roles) → use_facts_by roles ≡ use_facts_of unit → roles.blocks ≡ tabled [] unit
+    → members_by roles ≡ members unit
+members_made unit roles t b = λ i x. map (member_of ((t i).scope)) ((ap (λ table. names_of_block table x) b ∙ tabled_of [] unit x) i)
 
-scanned_units : (dialect : Dialect) (table : List (Name × List Member)) (earlier units : List Segment) → Agrees table earlier
-    → fault_in_stage name_rules (places_from dialect earlier units) ≡ name_scans dialect table units
-scanned_units dialect table earlier [] agrees = refl
-scanned_units dialect table earlier (unit ∷ units) agrees =
-    let scan = name_scan dialect (facts_with table unit) nothing_done [] unit in
-    let first = names_scanned dialect earlier unit ∙ ap (λ f. name_scan dialect f nothing_done [] unit) (facts_agree table earlier unit agrees) in
-    let later = fault_in_stage name_rules (places_from dialect (earlier ++ unit ∷ []) units) in
-    fault_in_both name_rules (places_in dialect earlier unit [] unit) (places_from dialect (earlier ++ unit ∷ []) units)
-    ∙ ap (λ f. fault_before f later) first
-    ∙ joined scan later (name_scans dialect (remembered_from (members unit) table unit) units)
-    (λ h. scanned_units dialect (remembered_from (members unit) table unit) (earlier ++ unit ∷ []) units (agrees_more dialect table earlier unit agrees h))
+-- the tables of a unit tell what is known of it
+pub facts_made : (earlier : List (Name × List Member)) (unit : Segment) (roles : Roles) → use_facts_by roles ≡ use_facts_of unit → roles.blocks ≡ tabled [] unit
+    → facts_by earlier roles ≡ facts_with earlier unit
+facts_made earlier unit roles t b = λ i. record {
+  own = (t i).own;
+  scope = (t i).scope;
+  is_dummy = (t i).is_dummy;
+  is_bad_block = λ x. is_bad_with earlier (members_made unit roles t b i x) x;
+}
 
--- the first fault of a deck is found unit by unit
-pub names_found : (dialect : Dialect) (units : List Segment) → fault_in_stage name_rules (places dialect units) ≡ name_scans dialect [] units
-names_found dialect units = scanned_units dialect [] [] units (λ b own. refl)
+-- the first fault of a unit
+pub fault_found : (dialect : Dialect) (table : List (Name × List Member)) (unit : Segment) (roles : Roles)
+    → use_facts_by roles ≡ use_facts_of unit → roles.blocks ≡ tabled [] unit → (earlier : List Segment) → Agrees table earlier
+    → name_scan dialect (facts_by table roles) no_declarations unit ≡ fault_in_stage name_rules (places_in dialect earlier unit [] unit)
+fault_found dialect table unit roles t b earlier agrees =
+    ap (λ f. name_scan dialect f no_declarations unit) (facts_made table unit roles t b ∙ sym (facts_agree table earlier unit agrees))
+    ∙ sym (names_scanned dialect earlier unit)
+
+-- what is kept behind a unit without a fault
+pub kept_more : (dialect : Dialect) (table after : List (Name × List Member)) (unit : Segment) (roles : Roles)
+    → use_facts_by roles ≡ use_facts_of unit → roles.blocks ≡ tabled [] unit → after ≡ remembered_from (members_by roles) table unit
+    → (earlier : List Segment) → Agrees table earlier → name_scan dialect (facts_by table roles) no_declarations unit ≡ None
+    → Agrees after (earlier ++ unit ∷ [])
+kept_more dialect table after unit roles t b a earlier agrees h =
+    subst (λ kept. Agrees kept (earlier ++ unit ∷ []))
+    (sym (a ∙ ap (λ mem. remembered_from mem table unit) (members_made unit roles t b)))
+    (agrees_more dialect table earlier unit agrees (ap (λ f. name_scan dialect f no_declarations unit) (sym (facts_made table unit roles t b)) ∙ h))

@@ -9,7 +9,7 @@ use Rattle.fort_syntax.specs.declared.dialect.Sort.TheVariants.{Integer, Logical
 use Rattle.fort_syntax.specs.declared.name.Name.{Name}
 use Rattle.fort_syntax.specs.declared.stmt.Dim.{Dim}
 use Rattle.fort_syntax.specs.declared.stmt.Dim.TheVariants.{Fixed, Named}
-use Rattle.unit_decl.proofs.Told.{same_names}
+use Rattle.name_tables.proofs.Told.{same_names}
 
 and_false : (b c : Bool) → c ≡ false → (b && c) ≡ false
 and_false true c h = h

@@ -6,7 +6,7 @@ use Rattle.std.specs.List.{list_any}
 use Rattle.fort_syntax.specs.declared.stmt.Dim.{Dim}
 use Rattle.fort_syntax.specs.declared.stmt.Dim.TheVariants.{Fixed, Named}
 use Rattle.fort_syntax.specs.NameRules.{is_zero_dim, fixed_size}
-use Rattle.unit_decl.specs.Scans.{passes}
+use Rattle.decl_rules.specs.Sizes.{passes}
 
 either : (a b : Bool) → (a || b) ≡ false → b ≡ false
 either true b h = search rules

@@ -1,7 +1,7 @@
 // Dimensions.
 ghost use Rattle.std.specs.Prelude.{◌≡◌, ◌≤◌, ◌*◌, nat_lt, false};
 ghost use Rattle.std.specs.List.{list_any};
-ghost use Rattle.unit_decl.specs.Scans.{passes};
+ghost use Rattle.decl_rules.specs.Sizes.{passes};
 ghost use Rattle.fort_syntax.specs.NameRules.{most_dims, is_zero_dim, is_bad_shape, fixed_size};
 
 use fort_syntax::{Dialect, Dim};
@@ -52,7 +52,7 @@ fn is_large(dims: &[Dim]) -> bool
 }
 
 /// Whether dimensions are too many, one of them is 0, or those that are constants give too many elements.
-pub fn is_bad_shape(dialect: Dialect, dims: &[Dim]) -> bool
+pub(crate) fn is_bad_shape(dialect: Dialect, dims: &[Dim]) -> bool
     ensures { result ≡ is_bad_shape dialect dims.now }
 {
     dims.len() > most_dims(dialect) || has_zero(dims) || is_large(dims)

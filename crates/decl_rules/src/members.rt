@@ -1,41 +1,30 @@
 // The members of COMMON blocks.
 ghost use Rattle.std.specs.Prelude.{◌≡◌, map, IfOk};
 ghost use Rattle.std.specs.List.{list_any};
-ghost use Rattle.fort_syntax.specs.Scopes.{same_option, same_dim, same_dims};
+ghost use Rattle.fort_syntax.specs.Scopes.{same_dim, same_dims};
 ghost use Rattle.fort_syntax.specs.NameRules.{same_member, same_members, member_of, is_adjustable};
-ghost use Rattle.unit_decl.specs.Scoping.{scope_by};
+ghost use Rattle.unit_scopes.specs.Scoping.{scope_by};
 
-use crate::scoped::Scoped;
 use edge_io::{List, NoMemory};
 use fort_syntax::{Dim, Name, Sort};
 use std::alloc::Global;
 use std::marker::Model;
+use unit_scopes::{Scoped, copied_dims, same_sorts};
 
 /// A name of a block with its type and its dimensions.
 #[derive(Drop)]
-pub struct Kept {
+pub struct BlockMember {
     name: Name,
     sort: Option<Sort>,
     dims: List<Dim>,
 }
 
-impl Model for Kept {
+impl Model for BlockMember {
     ghost use Rattle.fort_syntax.specs.NameRules.{Member};
 
     ghost Value = { Member };
 
     ghost view = { λ m. record { name = m.name; sort = m.sort; dims = m.dims } };
-}
-
-pub(crate) fn same_sorts(a: Option<Sort>, b: Option<Sort>) -> bool
-    ensures { result ≡ same_option a b }
-{
-    match (a, b) {
-        (None, None) => true,
-        (Some(Sort::Integer), Some(Sort::Integer)) => true,
-        (Some(Sort::Logical), Some(Sort::Logical)) => true,
-        _ => false,
-    }
 }
 
 fn is_same_dim(a: &Dim, b: &Dim) -> bool
@@ -63,26 +52,14 @@ fn are_same_dims(a: &[Dim], b: &[Dim]) -> bool
     true
 }
 
-fn copied_dims(alloc: Global, dims: &[Dim]) -> Result<List<Dim>, NoMemory>
-    ensures { IfOk result (λ copy. copy ≡ dims.now) }
-{
-    let mut all = Vec::new(alloc);
-    for dim in dims {
-        if all.push(*dim).is_err() {
-            return Err(NoMemory);
-        }
-    }
-    Ok(List::from_vec(all))
-}
-
-impl Kept {
-    fn new(alloc: Global, scope: &Scoped, name: Name) -> Result<Kept, NoMemory>
-        ensures { IfOk result (λ kept. kept ≡ member_of (scope_by scope.now) name) }
+impl BlockMember {
+    fn new(alloc: Global, scope: &Scoped, name: Name) -> Result<BlockMember, NoMemory>
+        ensures { IfOk result (λ member. member ≡ member_of (scope_by scope.now) name) }
     {
         let Ok(dims) = copied_dims(alloc, scope.dims(&name)) else {
             return Err(NoMemory);
         };
-        Ok(Kept {
+        Ok(BlockMember {
             name,
             sort: scope.sort(&name),
             dims,
@@ -104,12 +81,12 @@ pub(crate) fn members_of(
     alloc: Global,
     scope: &Scoped,
     names: &[Name],
-) -> Result<List<Kept>, NoMemory>
+) -> Result<List<BlockMember>, NoMemory>
     ensures { IfOk result (λ members. members ≡ map (member_of (scope_by scope.now)) names.now) }
 {
     let mut all = Vec::new(alloc);
     for name in names {
-        let Ok(member) = Kept::new(alloc, scope, *name) else {
+        let Ok(member) = BlockMember::new(alloc, scope, *name) else {
             return Err(NoMemory);
         };
         if all.push(member).is_err() {
@@ -121,7 +98,7 @@ pub(crate) fn members_of(
 
 /// Whether names of a unit are these members.
 #[tactic(auto, using(crate::proofs::SameMembers::unlike_members))]
-pub(crate) fn are_members(scope: &Scoped, names: &[Name], members: &[Kept]) -> bool
+pub(crate) fn are_members(scope: &Scoped, names: &[Name], members: &[BlockMember]) -> bool
     ensures { result ≡ same_members (map (member_of (scope_by scope.now)) names.now) members.now }
 {
     if names.len() != members.len() {

@@ -15,9 +15,3 @@ any_both test (x ∷ xs) ys = ap (λ b. test x || b) (any_both test xs ys) ∙ s
 
 pub among_both : (x : Name) (xs ys : List Name) → is_among x (xs ++ ys) ≡ (is_among x xs || is_among x ys)
 among_both x xs ys = any_both (same_bytes x) xs ys
-
-pub among_four : (x : Name) (a b c d : List Name)
-    → is_among x (a ++ b ++ c ++ d) ≡ (is_among x a || is_among x b || is_among x c || is_among x d)
-among_four x a b c d =
-    among_both x (a ++ b ++ c) d
-    ∙ ap (λ e. e || is_among x d) (among_both x (a ++ b) c ∙ ap (λ e. e || is_among x c) (among_both x a b))

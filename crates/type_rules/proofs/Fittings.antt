@@ -4,10 +4,10 @@ use Rattle.std.specs.Prelude.{◌&&◌, not, cond, flat_map, Some, None}
 use Rattle.std.specs.List.{list_all}
 use Rattle.fort_syntax.specs.CardRules.{fault_or}
 use Rattle.fort_syntax.specs.Scopes.{Scope}
-use Rattle.fort_syntax.specs.OrderRules.{places_in, places_from, places}
+use Rattle.fort_syntax.specs.OrderRules.{places_in}
 use Rattle.fort_syntax.specs.TreePatterns.{only, carried}
 use Rattle.fort_syntax.specs.TypeRules.{gives_logical, has_fit_operands, has_fit_places, has_plain_subscripts, all_plain_subscripts, is_well_typed}
-use Rattle.fort_syntax.specs.UnitRules.{type_rules, fault_in_stage, fault_before}
+use Rattle.fort_syntax.specs.UnitRules.{type_rules, fault_in_stage}
 use Rattle.fort_syntax.specs.Units.{Segment, scope_of}
 use Rattle.fort_syntax.specs.Uses.{parts, parts_of_row, expressions}
 use Rattle.fort_syntax.specs.declared.dialect.BinOp.{BinOp}
@@ -23,9 +23,8 @@ use Rattle.fort_syntax.specs.declared.stmt.Stmt.{Stmt}
 use Rattle.fort_syntax.specs.declared.stmt.Stmt.TheVariants as of
 use Rattle.fort_syntax.specs.declared.stmt.Stmt.TheViews as stmt
 use Rattle.fort_syntax.specs.declared.unit.Line.{Line}
-use Rattle.unit_decl.specs.declared.fitting.Check.TheVariants.{Operands, Subscripts}
-use Rattle.unit_decl.specs.Parts.{test_by, inner, holds, stmt_holds, type_scan, type_scans}
-use Rattle.unit_decl.proofs.OrderScans.{fault_in_both}
+use Rattle.type_rules.specs.declared.fitting.Check.TheVariants.{Operands, Subscripts}
+use Rattle.type_rules.specs.Parts.{test_by, inner, holds, stmt_holds, type_scan}
 
 and_assoc : (a b c : Bool) → ((a && b) && c) ≡ (a && (b && c))
 and_assoc true b c = refl
@@ -155,13 +154,7 @@ scanned dialect earlier unit before (line ∷ lines) =
     ap (fault_or (cond (not (is_well_typed (scope_of unit) line.stmt)) (Some BadType) None) line.card)
     (scanned dialect earlier unit (before ++ line ∷ []) lines)
 
-scanned_units : (dialect : Dialect) (earlier units : List Segment) → fault_in_stage type_rules (places_from dialect earlier units) ≡ type_scans units
-scanned_units dialect earlier [] = refl
-scanned_units dialect earlier (unit ∷ units) =
-    fault_in_both type_rules (places_in dialect earlier unit [] unit) (places_from dialect (earlier ++ unit ∷ []) units)
-    ∙ ap (λ f. fault_before f (fault_in_stage type_rules (places_from dialect (earlier ++ unit ∷ []) units))) (scanned dialect earlier unit [] unit)
-    ∙ ap (fault_before (type_scan (scope_of unit) unit)) (scanned_units dialect (earlier ++ unit ∷ []) units)
-
--- the first fault of a deck is found unit by unit
-pub types_found : (dialect : Dialect) (units : List Segment) → fault_in_stage type_rules (places dialect units) ≡ type_scans units
-types_found dialect units = scanned_units dialect [] units
+-- one pass over a unit finds its fault
+pub types_found : (unit : Segment) (scope : Scope) → scope ≡ scope_of unit → (dialect : Dialect) (earlier : List Segment)
+    → type_scan scope unit ≡ fault_in_stage type_rules (places_in dialect earlier unit [] unit)
+types_found unit scope s dialect earlier = ap (λ t. type_scan t unit) s ∙ sym (scanned dialect earlier unit [] unit)

@@ -6,8 +6,8 @@ use Rattle.fort_syntax.specs.declared.dialect.BinOp.{BinOp}
 use Rattle.fort_syntax.specs.declared.expr.Expr.{Expr}
 use Rattle.fort_syntax.specs.declared.expr.Expr.TheViews as view
 use Rattle.fort_syntax.specs.declared.name.Name.{Name}
-use Rattle.unit_decl.specs.PlainForms.{multiple, plain, are_plain_arguments}
-use Rattle.unit_decl.proofs.Rows.{listed_is}
+use Rattle.type_rules.specs.PlainForms.{multiple, plain, are_plain_arguments}
+use Rattle.unit_scopes.proofs.Listed.{listed_is}
 
 pub multiple_bin : (scope : Scope) (o : BinOp) (a b : Expr) → is_multiple scope (view.Bin o a b) ≡ multiple scope o a b
 unfolding Rattle.fort_syntax.specs.declared.expr.Expr.TheBlock.hidden-the_row-Expr-0 Rattle.fort_syntax.specs.declared.expr.Expr.TheBlock.hidden-the_row-Expr-1 denote.Hole.Carrier.hidden

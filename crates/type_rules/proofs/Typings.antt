@@ -8,7 +8,7 @@ use Rattle.fort_syntax.specs.declared.dialect.BinOp.{BinOp}
 use Rattle.fort_syntax.specs.declared.dialect.RelOp.{RelOp}
 use Rattle.fort_syntax.specs.declared.expr.Expr.{Expr}
 use Rattle.fort_syntax.specs.declared.expr.Expr.TheViews as view
-use Rattle.unit_decl.proofs.Rows.{listed_is}
+use Rattle.unit_scopes.proofs.Listed.{listed_is}
 
 pub type_paren : (scope : Scope) (a : Expr) → type_of scope (view.Paren a) ≡ type_of scope a
 unfolding Rattle.fort_syntax.specs.declared.expr.Expr.TheBlock.hidden-the_row-Expr-0 Rattle.fort_syntax.specs.declared.expr.Expr.TheBlock.hidden-the_row-Expr-1 denote.Hole.Carrier.hidden

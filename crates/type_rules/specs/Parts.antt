@@ -5,8 +5,6 @@ use Rattle.fort_syntax.specs.CardRules.{fault_or}
 use Rattle.fort_syntax.specs.Scopes.{Scope}
 use Rattle.fort_syntax.specs.TreePatterns.{only, carried}
 use Rattle.fort_syntax.specs.TypeRules.{has_fit_operands, has_plain_subscripts, is_well_typed}
-use Rattle.fort_syntax.specs.UnitRules.{fault_before}
-use Rattle.fort_syntax.specs.Units.{Segment, scope_of}
 use Rattle.fort_syntax.specs.Uses.{parts, parts_of_row}
 use Rattle.fort_syntax.specs.declared.expr.Expr.{Expr}
 use Rattle.fort_syntax.specs.declared.expr.Expr.TheVariants.{Const, Truth, Var, Apply', Paren', Pos', Neg', Power', Bin', Rel', Not', And', Or'}
@@ -15,8 +13,8 @@ use Rattle.fort_syntax.specs.declared.rule.Rule.TheVariants.{BadType}
 use Rattle.fort_syntax.specs.declared.stmt.Stmt.{Stmt}
 use Rattle.fort_syntax.specs.declared.stmt.Stmt.TheVariants.{Assign, ArithIf, LogicalIf', Call, BlockIf, ElseIf}
 use Rattle.fort_syntax.specs.declared.unit.Line.{Line}
-use Rattle.unit_decl.specs.declared.fitting.Check.{Check}
-use Rattle.unit_decl.specs.declared.fitting.Check.TheVariants.{Operands, Subscripts}
+use Rattle.type_rules.specs.declared.fitting.Check.{Check}
+use Rattle.type_rules.specs.declared.fitting.Check.TheVariants.{Operands, Subscripts}
 
 abbrev pub test_by : Check → Scope → Expr → Bool
 test_by Operands scope e = has_fit_operands scope e
@@ -57,7 +55,3 @@ abbrev pub type_scan : Scope → List Line → Option Fault
 type_scan scope [] = None
 type_scan scope (line ∷ lines) =
     fault_or (cond (not (is_well_typed scope line.stmt)) (Some BadType) None) line.card (type_scan scope lines)
-
-abbrev pub type_scans : List Segment → Option Fault
-type_scans [] = None
-type_scans (unit ∷ units) = fault_before (type_scan (scope_of unit) unit) (type_scans units)

@@ -1,19 +1,22 @@
 // What the types of expressions are to be.
-ghost use Rattle.std.specs.Prelude.{◌≡◌, ◌&&◌};
+ghost use Rattle.std.specs.Prelude.{◌≡◌, ◌&&◌, List, []};
 ghost use Rattle.std.specs.List.{list_all};
 ghost use Rattle.fort_syntax.specs.TypeRules.{is_fit_param, is_fit_step, has_fit_places, is_well_typed, all_plain_subscripts};
-ghost use Rattle.unit_decl.specs.Scoping.{scope_by};
-ghost use Rattle.unit_decl.specs.Parts.{test_by, holds, stmt_holds, type_scan};
+ghost use Rattle.fort_syntax.specs.OrderRules.{places_in};
+ghost use Rattle.fort_syntax.specs.UnitRules.{type_rules, fault_in_stage};
+ghost use Rattle.fort_syntax.specs.Units.{Segment, scope_of};
+ghost use Rattle.fort_syntax.specs.declared.dialect.Dialect.{Dialect};
+ghost use Rattle.unit_scopes.specs.Scoping.{scope_by};
+ghost use Rattle.type_rules.specs.Parts.{test_by, holds, stmt_holds, type_scan};
 
-use crate::members::same_sorts;
-use crate::scoped::Scoped;
 use crate::subscripts::has_plain_subscripts;
 use crate::typing::{gives_integer, gives_logical, has_fit_operands, type_of};
 use fort_syntax::{Expr, Fault, Line, Param, Rule, Stmt};
+use unit_scopes::{Scoped, same_sorts};
 
 /// What is asked of an expression.
 #[derive(Clone, Copy, Debug, PartialEq, Eq, Hash)]
-pub enum Check {
+enum Check {
     /// Its operands have the types that its operator demands.
     Operands,
     /// Its subscripts have the plain forms.
@@ -176,7 +179,7 @@ pub fn all_plain_subscripts(scope: &Scoped, stmt: &Stmt) -> bool
     stmt_fits(Check::Subscripts, scope, stmt)
 }
 
-pub(crate) fn scan_types(scope: &Scoped, unit: &[Line]) -> Option<Fault>
+fn scan_types(scope: &Scoped, unit: &[Line]) -> Option<Fault>
     ensures { result ≡ type_scan (scope_by scope.now) unit.now }
 {
     for i in 0..unit.len() {
@@ -188,4 +191,13 @@ pub(crate) fn scan_types(scope: &Scoped, unit: &[Line]) -> Option<Fault>
         }
     }
     None
+}
+
+/// The first fault of a unit by the rule on types, by what its declarations say of names.
+#[tactic(auto, using(crate::proofs::Fittings::types_found))]
+pub fn type_fault(scope: &Scoped, unit: &[Line]) -> Option<Fault>
+    requires { scope_by scope.now ≡ scope_of unit.now }
+    ensures { (dialect : Dialect) (earlier : List Segment) → result ≡ fault_in_stage type_rules (places_in dialect earlier unit.now [] unit.now) }
+{
+    scan_types(scope, unit)
 }

@@ -2,11 +2,11 @@
 ghost use Rattle.std.specs.Prelude.{◌≡◌, ◌&&◌, ◌||◌};
 ghost use Rattle.std.specs.List.{list_all};
 ghost use Rattle.fort_syntax.specs.TypeRules.{is_scalar_name, is_constant, is_sum_or_difference, is_product, is_multiple, is_plain_subscript, has_plain_subscripts};
-ghost use Rattle.unit_decl.specs.Scoping.{scope_by};
-ghost use Rattle.unit_decl.specs.PlainForms.{multiple, plain, are_plain_arguments};
+ghost use Rattle.unit_scopes.specs.Scoping.{scope_by};
+ghost use Rattle.type_rules.specs.PlainForms.{multiple, plain, are_plain_arguments};
 
-use crate::scoped::Scoped;
 use fort_syntax::{BinOp, Expr, Name};
+use unit_scopes::Scoped;
 
 fn is_scalar_name(scope: &Scoped, e: &Expr) -> bool
     ensures { result ≡ is_scalar_name (scope_by scope.now) e.now }

@@ -2,10 +2,10 @@
 ghost use Rattle.std.specs.Prelude.{◌≡◌, ◌&&◌};
 ghost use Rattle.std.specs.List.{list_all};
 ghost use Rattle.fort_syntax.specs.TypeRules.{type_applied, type_of, gives_integer, gives_logical, are_fit_arguments, has_fit_operands};
-ghost use Rattle.unit_decl.specs.Scoping.{scope_by};
+ghost use Rattle.unit_scopes.specs.Scoping.{scope_by};
 
-use crate::scoped::Scoped;
 use fort_syntax::{Expr, Name, Sort};
+use unit_scopes::Scoped;
 
 fn type_applied(scope: &Scoped, f: &Name) -> Option<Sort>
     ensures { result ≡ type_applied (scope_by scope.now) f.now }

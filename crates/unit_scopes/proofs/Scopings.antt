@@ -11,9 +11,10 @@ use Rattle.fort_syntax.specs.declared.stmt.Dim.{Dim}
 use Rattle.fort_syntax.specs.declared.stmt.Item.{Item}
 use Rattle.fort_syntax.specs.declared.stmt.Stmt.TheVariants.{Declare}
 use Rattle.fort_syntax.specs.declared.unit.Line.{Line}
-use Rattle.unit_decl.specs.Tables.{first_of, told, all_told, pairs_of, typed_from, typed_items, shaped, shaped_from}
-use Rattle.unit_decl.specs.Scoping.{dims_or, scope_by}
-use Rattle.unit_decl.proofs.Told.{swapped, told_of, all_told_of, one_before}
+use Rattle.name_tables.specs.Tables.{first_of, told, all_told}
+use Rattle.unit_scopes.specs.Declarations.{pairs_of, typed_from, typed_items, shaped, shaped_from}
+use Rattle.unit_scopes.specs.Scoping.{dims_or, scope_by}
+use Rattle.name_tables.proofs.Told.{swapped, told_of, all_told_of, one_before}
 
 sort_behind : (ts more : List Typing) (x : Name) → sort_in (ts ++ more) x ≡ or_else (first_of (pairs_of ts) x) (sort_in more x)
 sort_behind [] more x = refl

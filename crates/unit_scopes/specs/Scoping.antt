@@ -3,8 +3,8 @@ use Rattle.std.specs.Prelude.{List, [], Option, Some, None}
 use Rattle.formula.specs.Reading.{or_else}
 use Rattle.fort_syntax.specs.Scopes.{Scope, sort_by_letter}
 use Rattle.fort_syntax.specs.declared.stmt.Dim.{Dim}
-use Rattle.unit_decl.specs.declared.scoped.Scoped.{Scoped}
-use Rattle.unit_decl.specs.Tables.{first_of}
+use Rattle.unit_scopes.specs.declared.scoped.Scoped.{Scoped}
+use Rattle.name_tables.specs.Tables.{first_of}
 
 abbrev pub dims_or : Option (List Dim) → List Dim → List Dim
 dims_or (Some dims) last = dims

@@ -1,6 +1,7 @@
 // The items of declarations.
 ghost use Rattle.std.specs.Prelude.{◌≡◌, ◌++◌, flat_map, IfOk, OnOk};
 ghost use Rattle.fort_syntax.specs.Scopes.{kept, is_given_dims};
+ghost use Rattle.fort_syntax.specs.NameRules.{commons_by};
 ghost use Rattle.fort_syntax.specs.Units.{items_by, names_of_items, names_in_dims, names_in_item};
 
 use edge_io::{List, NoMemory};
@@ -8,7 +9,7 @@ use fort_syntax::{Dim, Group, Item, Name, Plain, Stmt};
 use std::alloc::Global;
 
 /// Whether a name with these dimensions is an array.
-pub(crate) fn is_given(dims: &[Dim]) -> bool
+pub(crate) fn is_array_shape(dims: &[Dim]) -> bool
     ensures { result ≡ is_given_dims dims.now }
 {
     !dims.is_empty()
@@ -41,7 +42,7 @@ fn items_in(alloc: Global, groups: &[Group]) -> Result<List<Item>, NoMemory>
 }
 
 /// The items of a declaration.
-pub(crate) fn items_by(alloc: Global, stmt: &Stmt) -> Result<List<Item>, NoMemory>
+pub fn items_by(alloc: Global, stmt: &Stmt) -> Result<List<Item>, NoMemory>
     ensures { IfOk result (λ items. items ≡ items_by stmt.now) }
 {
     match stmt {
@@ -53,7 +54,7 @@ pub(crate) fn items_by(alloc: Global, stmt: &Stmt) -> Result<List<Item>, NoMemor
 }
 
 /// The names of items.
-pub(crate) fn names_of(alloc: Global, items: &[Item]) -> Result<List<Name>, NoMemory>
+pub fn names_of(alloc: Global, items: &[Item]) -> Result<List<Name>, NoMemory>
     ensures { IfOk result (λ names. names ≡ names_of_items items.now) }
 {
     let mut all = Vec::new(alloc);
@@ -66,12 +67,12 @@ pub(crate) fn names_of(alloc: Global, items: &[Item]) -> Result<List<Name>, NoMe
 }
 
 /// The names of the items that have dimensions.
-pub(crate) fn dimensioned(alloc: Global, items: &[Item]) -> Result<List<Name>, NoMemory>
+pub fn dimensioned(alloc: Global, items: &[Item]) -> Result<List<Name>, NoMemory>
     ensures { IfOk result (λ names. names ≡ names_of_items (kept (λ item. is_given_dims item.dims) items.now)) }
 {
     let mut all = Vec::new(alloc);
     for item in items {
-        if is_given(item.dims.as_slice()) && all.push(item.name).is_err() {
+        if is_array_shape(item.dims.as_slice()) && all.push(item.name).is_err() {
             return Err(NoMemory);
         }
     }
@@ -92,7 +93,7 @@ fn push_dims(all: &mut Vec<Name>, dims: &[Dim]) -> Result<(), NoMemory>
 }
 
 /// The names in items, those that are dimensions among them.
-pub(crate) fn names_in(alloc: Global, items: &[Item]) -> Result<List<Name>, NoMemory>
+pub fn names_in(alloc: Global, items: &[Item]) -> Result<List<Name>, NoMemory>
     ensures { IfOk result (λ names. names ≡ flat_map names_in_item items.now) }
 {
     let mut all = Vec::new(alloc);
@@ -103,6 +104,34 @@ pub(crate) fn names_in(alloc: Global, items: &[Item]) -> Result<List<Name>, NoMe
         let Ok(()) = push_dims(&mut all, item.dims.as_slice()) else {
             return Err(NoMemory);
         };
+    }
+    Ok(List::from_vec(all))
+}
+
+/// The names that a statement puts into COMMON.
+pub fn common_names_by(alloc: Global, stmt: &Stmt) -> Result<List<Name>, NoMemory>
+    ensures { IfOk result (λ names. names ≡ commons_by stmt.now) }
+{
+    match stmt {
+        Stmt::Common(groups) => {
+            let Ok(items) = items_in(alloc, groups.as_slice()) else {
+                return Err(NoMemory);
+            };
+            names_of(alloc, items.as_slice())
+        }
+        _ => Ok(List::from_vec(Vec::new(alloc))),
+    }
+}
+
+/// A copy of dimensions.
+pub fn copied_dims(alloc: Global, dims: &[Dim]) -> Result<List<Dim>, NoMemory>
+    ensures { IfOk result (λ copy. copy ≡ dims.now) }
+{
+    let mut all = Vec::new(alloc);
+    for dim in dims {
+        if all.push(*dim).is_err() {
+            return Err(NoMemory);
+        }
     }
     Ok(List::from_vec(all))
 }

@@ -2,21 +2,22 @@
 ghost use Rattle.std.specs.Prelude.{◌≡◌, ◌+◌, [], ◌∷◌, IfOk, OnOk};
 ghost use Rattle.fort_syntax.specs.Scopes.{is_array, is_intrinsic, is_integer_scalar};
 ghost use Rattle.fort_syntax.specs.Units.{typings_by, scope_of};
-ghost use Rattle.unit_decl.specs.Scoping.{scope_by};
-ghost use Rattle.unit_decl.specs.Tables.{all_told, pairs_of, typed_items, typed_from, shaped, shaped_from};
+ghost use Rattle.name_tables.specs.Tables.{all_told};
+ghost use Rattle.unit_scopes.specs.Scoping.{scope_by};
+ghost use Rattle.unit_scopes.specs.Declarations.{pairs_of, typed_items, typed_from, shaped, shaped_from};
 
-use crate::items::{is_given, items_by};
+use crate::items::{is_array_shape, items_by};
 use crate::names::{is_intrinsic_name, sort_by_letter};
-use crate::table::Table;
 use edge_io::{List, NoMemory};
 use fort_syntax::{Dim, Item, Line, Name, Plain, Sort, Stmt};
+use name_tables::{NameTable, Setting};
 use std::alloc::Global;
 
 /// The types and the dimensions that a unit gives names.
 #[derive(Drop)]
 pub struct Scoped {
-    pub types: Table<Sort>,
-    pub shapes: Table<List<Dim>>,
+    types: NameTable<Sort>,
+    shapes: NameTable<List<Dim>>,
 }
 
 impl Scoped {
@@ -44,7 +45,7 @@ impl Scoped {
     pub fn is_array(&self, name: &Name) -> bool
         ensures { result ≡ is_array (scope_by self.now) name.now }
     {
-        is_given(self.dims(name))
+        is_array_shape(self.dims(name))
     }
 
     /// Whether a name is that of an intrinsic function, and of no array.
@@ -65,7 +66,7 @@ impl Scoped {
     }
 }
 
-fn tell_items(table: &mut Table<Sort>, sort: Sort, items: &[Item]) -> Result<(), NoMemory>
+fn tell_items(table: &mut NameTable<Sort>, sort: Sort, items: &[Item]) -> Result<(), NoMemory>
     ensures { OnOk result (table.new ≡ typed_items sort table.old items.now) }
 {
     for item in items {
@@ -78,7 +79,7 @@ fn tell_items(table: &mut Table<Sort>, sort: Sort, items: &[Item]) -> Result<(),
 
 /// Tells a table the types that a statement gives.
 #[tactic(auto, using(crate::proofs::Scopings::items_typed))]
-fn tell_types(table: &mut Table<Sort>, stmt: &Stmt) -> Result<(), NoMemory>
+fn tell_types(table: &mut NameTable<Sort>, stmt: &Stmt) -> Result<(), NoMemory>
     ensures { OnOk result (table.new ≡ all_told table.old (pairs_of (typings_by stmt.now))) }
 {
     match stmt {
@@ -88,10 +89,10 @@ fn tell_types(table: &mut Table<Sort>, stmt: &Stmt) -> Result<(), NoMemory>
     }
 }
 
-fn types_of(alloc: Global, unit: &[Line]) -> Result<Table<Sort>, NoMemory>
+fn types_of(setting: Setting, unit: &[Line]) -> Result<NameTable<Sort>, NoMemory>
     ensures { IfOk result (λ table. table ≡ typed_from [] unit.now) }
 {
-    let mut table = Table::new(alloc);
+    let mut table = NameTable::new(setting.alloc, setting.keys);
     for line in unit {
         let Ok(()) = tell_types(&mut table, &line.stmt) else {
             return Err(NoMemory);
@@ -101,11 +102,11 @@ fn types_of(alloc: Global, unit: &[Line]) -> Result<Table<Sort>, NoMemory>
 }
 
 /// Tells a table the dimensions that items have.
-fn tell_shapes(alloc: Global, table: &mut Table<List<Dim>>, items: &[Item]) -> Result<(), NoMemory>
+fn tell_shapes(alloc: Global, table: &mut NameTable<List<Dim>>, items: &[Item]) -> Result<(), NoMemory>
     ensures { OnOk result (table.new ≡ shaped table.old items.now) }
 {
     for item in items {
-        if is_given(item.dims.as_slice()) {
+        if is_array_shape(item.dims.as_slice()) {
             let Ok(dims) = item.dims.copied(alloc) else {
                 return Err(NoMemory);
             };
@@ -117,15 +118,15 @@ fn tell_shapes(alloc: Global, table: &mut Table<List<Dim>>, items: &[Item]) -> R
     Ok(())
 }
 
-fn shapes_of(alloc: Global, unit: &[Line]) -> Result<Table<List<Dim>>, NoMemory>
+fn shapes_of(setting: Setting, unit: &[Line]) -> Result<NameTable<List<Dim>>, NoMemory>
     ensures { IfOk result (λ table. table ≡ shaped_from [] unit.now) }
 {
-    let mut table = Table::new(alloc);
+    let mut table = NameTable::new(setting.alloc, setting.keys);
     for line in unit {
-        let Ok(items) = items_by(alloc, &line.stmt) else {
+        let Ok(items) = items_by(setting.alloc, &line.stmt) else {
             return Err(NoMemory);
         };
-        let Ok(()) = tell_shapes(alloc, &mut table, items.as_slice()) else {
+        let Ok(()) = tell_shapes(setting.alloc, &mut table, items.as_slice()) else {
             return Err(NoMemory);
         };
     }
@@ -134,13 +135,13 @@ fn shapes_of(alloc: Global, unit: &[Line]) -> Result<Table<List<Dim>>, NoMemory>
 
 /// What the declarations of a unit say of names.
 #[tactic(auto, using(crate::proofs::Scopings::scope_made))]
-pub fn scope_of(alloc: Global, unit: &[Line]) -> Result<Scoped, NoMemory>
+pub fn scope_of(setting: Setting, unit: &[Line]) -> Result<Scoped, NoMemory>
     ensures { IfOk result (λ scope. scope_by scope ≡ scope_of unit.now) }
 {
-    let Ok(types) = types_of(alloc, unit) else {
+    let Ok(types) = types_of(setting, unit) else {
         return Err(NoMemory);
     };
-    let Ok(shapes) = shapes_of(alloc, unit) else {
+    let Ok(shapes) = shapes_of(setting, unit) else {
         return Err(NoMemory);
     };
     Ok(Scoped { types, shapes })

@@ -11,15 +11,15 @@ use Rattle.fort_syntax.specs.UseRules.{is_assigned, assigns}
 use Rattle.fort_syntax.specs.declared.name.Name.{Name}
 use Rattle.fort_syntax.specs.declared.stmt.Item.{Item}
 use Rattle.fort_syntax.specs.declared.unit.Line.{Line}
-use Rattle.unit_decl.specs.declared.scoped.Scoped.{Scoped}
-use Rattle.unit_decl.specs.Commons.{given_from}
-use Rattle.unit_decl.specs.Labels.{is_known, with_label}
-use Rattle.unit_decl.specs.Roles.{use_facts_by}
-use Rattle.unit_decl.specs.Scoping.{scope_by}
-use Rattle.unit_decl.specs.UseScans.{use_facts_of, lines_from, assigned_from}
-use Rattle.unit_decl.proofs.Told.{same_names, swapped}
-use Rattle.unit_decl.proofs.Among.{or_assoc, any_both, among_both}
-use Rattle.unit_decl.proofs.CommonFacts.{given_of_all}
+use Rattle.unit_scopes.specs.declared.scoped.Scoped.{Scoped}
+use Rattle.unit_scopes.specs.Declarations.{given_from}
+use Rattle.name_tables.specs.Labels.{is_known, with_label}
+use Rattle.unit_uses.specs.Roles.{use_facts_by}
+use Rattle.unit_scopes.specs.Scoping.{scope_by}
+use Rattle.unit_uses.specs.UseFacts.{use_facts_of, lines_from, assigned_from}
+use Rattle.name_tables.proofs.Told.{same_names, swapped}
+use Rattle.name_tables.proofs.Among.{or_assoc, any_both, among_both}
+use Rattle.unit_scopes.proofs.Given.{given_of_all}
 
 or_false : (b : Bool) → (b || false) ≡ b
 or_false true = refl
@@ -156,23 +156,25 @@ assigned_is own (line ∷ lines) =
     ∙ sym (any_both (λ o. same_bytes o.name own && is_assigned o.«use») (uses_of line.stmt) (gathered uses_of lines))
 
 -- what the tables of a unit tell is what the unit says
-pub roles_made : (unit : Segment) (scope : Scoped) (dummies commons names references : List Name) (lines : List ℕ) (assigned function : Bool)
+pub roles_made : (unit : Segment) (own : Name) (scope : Scoped) (blocks : List (Name × List Name)) (dummies commons names references : List Name) (lines : List ℕ) (assigned function : Bool)
+    → own ≡ own_name unit
     → scope_by scope ≡ scope_of unit → dummies ≡ given_from dummies_by [] unit → commons ≡ given_from commons_by [] unit
     → names ≡ given_from names_in [] unit → references ≡ given_from (λ s. references_in (scope_by scope) (uses_of s)) [] unit
-    → lines ≡ lines_from [] unit → assigned ≡ assigned_from (own_name unit) unit → function ≡ is_function_segment unit
+    → lines ≡ lines_from [] unit → assigned ≡ assigned_from own unit → function ≡ is_function_segment unit
     → use_facts_by (record {
+      own = own;
       function = function;
       assigned = assigned;
       scope = scope;
+      blocks = blocks;
       dummies = dummies;
       commons = commons;
       names = names;
       references = references;
       lines = lines;
-    }) (own_name unit)
+    })
     ≡ use_facts_of unit
-roles_made unit scope dummies commons names references lines assigned function s d c n r l a f =
-    let own = own_name unit in
+roles_made unit own scope blocks dummies commons names references lines assigned function o s d c n r l a f =
     let is_dummy = λ (x : Name). ap (is_among x) d ∙ given_of_all dummies_by [] unit x in
     let is_common = λ (x : Name). ap (is_among x) c ∙ given_of_all commons_by [] unit x ∙ ap (is_among x) (commons_gathered unit) in
     let is_name = λ (x : Name). ap (is_among x) n ∙ given_of_all names_in [] unit x in
@@ -180,12 +182,12 @@ roles_made unit scope dummies commons names references lines assigned function s
     ap (is_among x) r ∙ given_of_all (λ t. references_in (scope_by scope) (uses_of t)) [] unit x ∙ ap (is_among x) (references_listed (scope_by scope) unit)
     ∙ ap (λ t. is_among x (references_in t (gathered uses_of unit))) s in
     λ i. record {
-      own = own;
-      is_function_segment = f i;
+      own = o i;
+      function = f i;
       scope = s i;
       is_dummy = λ x. is_dummy x i;
       is_common = λ x. is_common x i;
-      is_data = λ x. ((λ j. is_name x j && (is_dummy x j || is_common x j || (f j && same_bytes x own) || not (is_used x j))) ∙ sym (data_is unit x)) i;
+      is_data = λ x. ((λ j. is_name x j && (is_dummy x j || is_common x j || (f j && same_bytes x (o j)) || not (is_used x j))) ∙ sym (data_is unit x)) i;
       has_line = λ label. (ap (λ ls. not (label == 0) && is_known label ls) l ∙ ap (λ b. not (label == 0) && b) (lines_is [] unit label)) i;
-      is_assigned = (a ∙ assigned_is own unit) i;
+      is_assigned = (a ∙ assigned_is own unit ∙ ap (λ x. assigns x (gathered uses_of unit)) o) i;
     }

@@ -1,7 +1,6 @@
 -- What stands in the brackets behind a name, as a list.
 use Rattle.std.proofs.Common.{◌≡◌, List, ◌∷◌, ◌++◌, ℕ, length, refl, ap, sym, ◌∙◌, append_assoc}
 use Rattle.std.specs.Prelude.{flat_map}
-use Rattle.fort_syntax.specs.TreePatterns.{listed}
 use Rattle.fort_syntax.specs.Uses.{Use, applied, assigned_element, argument_of, read, occurrence, uses_in, uses_in_row, uses_on_left, uses_of}
 use Rattle.fort_syntax.specs.declared.name.Name.{Name}
 use Rattle.fort_syntax.specs.declared.expr.Expr.{Expr, Row_of-Expr, end_of-Expr, more_of-Expr, items-the_row-Expr, items_hidden-the_row-Expr-0}
@@ -11,17 +10,11 @@ use Rattle.fort_syntax.specs.declared.stmt.Stmt.TheViews as stmt
 use Rattle.fort_syntax.specs.declared.dialect.BinOp.{BinOp}
 use Rattle.fort_syntax.specs.declared.dialect.RelOp.{RelOp}
 use Rattle.fort_syntax.specs.declared.expr.Expr.TheBlock.{hidden-the_row-Expr-0}
+use Rattle.unit_scopes.proofs.Listed.{listed_is}
 
 uses_in_items : (how : Use) {m : _} (row : Row_of-Expr m) → uses_in_row how row ≡ flat_map (uses_in how) (items-the_row-Expr _ row)
 uses_in_items how end_of-Expr = refl
 uses_in_items how (more_of-Expr e rest) = ap (λ uses. uses_in how e ++ uses) (uses_in_items how rest)
-
-listed_items : {m : _} (row : Row_of-Expr m) → listed row ≡ items-the_row-Expr _ row
-listed_items end_of-Expr = refl
-listed_items (more_of-Expr e rest) = ap (λ es. e ∷ es) (listed_items rest)
-
-pub listed_is : (args : List Expr) → listed (hidden-the_row-Expr-0 args) ≡ args
-listed_is args = listed_items (hidden-the_row-Expr-0 args) ∙ items_hidden-the_row-Expr-0 args
 
 row_uses : (how : Use) (args : List Expr) → uses_in_row how (hidden-the_row-Expr-0 args) ≡ flat_map (uses_in how) args
 row_uses how args = uses_in_items how (hidden-the_row-Expr-0 args) ∙ ap (flat_map (uses_in how)) (items_hidden-the_row-Expr-0 args)

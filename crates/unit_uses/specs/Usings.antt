@@ -1,7 +1,7 @@
 -- How names stand in statements, as the code tells it.
 use Rattle.fort_syntax.specs.Uses.{Use, read, assigned, assigned_element, counted, applied, argument_of, actual, called}
-use Rattle.unit_decl.specs.declared.seen.How.{How}
-use Rattle.unit_decl.specs.declared.seen.How.TheVariants.{Read, Assigned, Element, Counted, Applied, Argument, Actual, Called}
+use Rattle.unit_uses.specs.declared.seen.How.{How}
+use Rattle.unit_uses.specs.declared.seen.How.TheVariants.{Read, Assigned, Element, Counted, Applied, Argument, Actual, Called}
 
 abbrev pub use_by : How → Use
 use_by Read = read

@@ -1,62 +1,74 @@
 // What names and labels of a unit are.
-ghost use Rattle.std.specs.Prelude.{◌≡◌, ◌&&◌, [], IfOk, OnOk};
+ghost use Rattle.std.specs.Prelude.{◌≡◌, ◌&&◌, [], IfOk};
 ghost use Rattle.formula.specs.Atoms.{same_bytes};
 ghost use Rattle.fort_syntax.specs.Scopes.{once};
-ghost use Rattle.fort_syntax.specs.NameRules.{commons_by};
-ghost use Rattle.fort_syntax.specs.Units.{gathered, names_in, own_name, references_in, references_of};
+ghost use Rattle.fort_syntax.specs.Units.{gathered, names_in, own_name, references_in, references_of, scope_of};
 ghost use Rattle.fort_syntax.specs.Uses.{uses_of};
 ghost use Rattle.fort_syntax.specs.UseRules.{is_assigned, assigns};
-ghost use Rattle.unit_decl.specs.Commons.{given_from};
-ghost use Rattle.unit_decl.specs.Roles.{use_facts_by};
-ghost use Rattle.unit_decl.specs.Scoping.{scope_by};
-ghost use Rattle.unit_decl.specs.Usings.{use_by};
-ghost use Rattle.unit_decl.specs.UseScans.{use_facts_of, lines_from, assigned_from};
+ghost use Rattle.unit_scopes.specs.Blocks.{tabled};
+ghost use Rattle.unit_scopes.specs.Declarations.{given_from};
+ghost use Rattle.unit_scopes.specs.Scoping.{scope_by};
+ghost use Rattle.unit_uses.specs.Roles.{is_value_in, is_held_in, is_data_in, use_facts_by};
+ghost use Rattle.unit_uses.specs.UseFacts.{use_facts_of, lines_from, assigned_from};
+ghost use Rattle.unit_uses.specs.Usings.{use_by};
 
-use crate::common_rules::dummies_of;
-use crate::done::commons_by;
-use crate::heads::{is_function, own_name};
-use crate::items::items_by;
-use crate::label_set::LabelSet;
-use crate::name_set::NameSet;
-use crate::scoped::{Scoped, scope_of};
+use crate::references::references_in;
 use crate::seen::{How, Seen};
-use crate::use_rules::{Roles, is_own};
-use crate::used::references_in;
 use crate::uses::{names_of_stmt, uses_of};
 use edge_io::{List, NoMemory};
 use fort_syntax::{Class, Line, Name, Stmt};
+use name_tables::{LabelSet, NameSet, Setting};
 use std::alloc::Global;
+use unit_scopes::{
+    BlockNames, Scoped, block_names_of, common_names_of, dummies_of, is_function, scope_of,
+};
 
-fn stmt_commons(alloc: Global, stmt: &Stmt) -> Result<List<Name>, NoMemory>
-    ensures { IfOk result (λ names. names ≡ commons_by stmt.now) }
-{
-    let Ok(items) = items_by(alloc, stmt) else {
-        return Err(NoMemory);
-    };
-    commons_by(alloc, stmt, items.as_slice())
+/// What is known of a unit: its own name, whether it is a FUNCTION and its own name is assigned, what its
+/// declarations say of names, its COMMON blocks, its dummies, its COMMON entities, all names in it, those that are
+/// used as functions, and the labels of its executable statements.
+#[derive(Drop)]
+pub struct Roles {
+    pub own: Name,
+    pub function: bool,
+    pub assigned: bool,
+    pub scope: Scoped,
+    pub blocks: BlockNames,
+    pub dummies: NameSet,
+    pub commons: NameSet,
+    pub names: NameSet,
+    pub references: NameSet,
+    pub lines: LabelSet,
 }
 
-fn commons_of(alloc: Global, unit: &[Line]) -> Result<NameSet, NoMemory>
-    ensures { IfOk result (λ names. names ≡ given_from commons_by [] unit.now) }
-{
-    let mut names = NameSet::new(alloc);
-    for line in unit {
-        let Ok(given) = stmt_commons(alloc, &line.stmt) else {
-            return Err(NoMemory);
-        };
-        let Ok(_) = names.add_all(given.as_slice()) else {
-            return Err(NoMemory);
-        };
+impl Roles {
+    /// Whether a name is that of the FUNCTION.
+    pub fn is_value(&self, name: &Name) -> bool
+        ensures { result ≡ is_value_in self.now name.now }
+    {
+        self.function && *name == self.own
     }
-    Ok(names)
+
+    /// Whether a name is data whatever it is used as.
+    fn is_held(&self, name: &Name) -> bool
+        ensures { result ≡ is_held_in self.now name.now }
+    {
+        self.dummies.has(name) || self.commons.has(name) || self.is_value(name)
+    }
+
+    /// Whether a name of the unit is data.
+    pub fn is_data(&self, name: &Name) -> bool
+        ensures { result ≡ is_data_in self.now name.now }
+    {
+        self.is_held(name) || !self.references.has(name)
+    }
 }
 
-fn names_of(alloc: Global, unit: &[Line]) -> Result<NameSet, NoMemory>
+fn names_of(setting: Setting, unit: &[Line]) -> Result<NameSet, NoMemory>
     ensures { IfOk result (λ names. names ≡ given_from names_in [] unit.now) }
 {
-    let mut names = NameSet::new(alloc);
+    let mut names = NameSet::new(setting.alloc, setting.keys);
     for line in unit {
-        let Ok(given) = names_of_stmt(alloc, &line.stmt) else {
+        let Ok(given) = names_of_stmt(setting.alloc, &line.stmt) else {
             return Err(NoMemory);
         };
         let Ok(_) = names.add_all(given.as_slice()) else {
@@ -75,12 +87,12 @@ fn stmt_references(alloc: Global, scope: &Scoped, stmt: &Stmt) -> Result<List<Na
     references_in(alloc, scope, uses.as_slice())
 }
 
-fn references_of(alloc: Global, scope: &Scoped, unit: &[Line]) -> Result<NameSet, NoMemory>
+fn references_of(setting: Setting, scope: &Scoped, unit: &[Line]) -> Result<NameSet, NoMemory>
     ensures { IfOk result (λ names. names ≡ given_from (λ s. references_in (scope_by scope.now) (uses_of s)) [] unit.now) }
 {
-    let mut names = NameSet::new(alloc);
+    let mut names = NameSet::new(setting.alloc, setting.keys);
     for line in unit {
-        let Ok(given) = stmt_references(alloc, scope, &line.stmt) else {
+        let Ok(given) = stmt_references(setting.alloc, scope, &line.stmt) else {
             return Err(NoMemory);
         };
         let Ok(_) = names.add_all(given.as_slice()) else {
@@ -90,10 +102,10 @@ fn references_of(alloc: Global, scope: &Scoped, unit: &[Line]) -> Result<NameSet
     Ok(names)
 }
 
-fn lines_of(alloc: Global, unit: &[Line]) -> Result<LabelSet, NoMemory>
+fn lines_of(setting: Setting, unit: &[Line]) -> Result<LabelSet, NoMemory>
     ensures { IfOk result (λ labels. labels ≡ lines_from [] unit.now) }
 {
-    let mut labels = LabelSet::new(alloc);
+    let mut labels = LabelSet::new(setting.alloc, setting.keys);
     for line in unit {
         if line.stmt.class() == Class::Performing {
             let Ok(()) = labels.add(line.label) else {
@@ -110,13 +122,13 @@ fn is_assigned(how: &How) -> bool
     matches!(how, How::Assigned)
 }
 
-fn assigns_here(own: &[u8], seen: &Seen) -> bool
+fn assigns_here(own: &Name, seen: &Seen) -> bool
     ensures { result ≡ (same_bytes seen.now.name own.now && is_assigned seen.now.«use») }
 {
-    is_own(own, &seen.name()) && is_assigned(&seen.how())
+    seen.name() == *own && is_assigned(&seen.how())
 }
 
-fn assigns(own: &[u8], uses: &[Seen]) -> bool
+fn assigns(own: &Name, uses: &[Seen]) -> bool
     ensures { result ≡ assigns own.now uses.now }
 {
     for seen in uses {
@@ -127,7 +139,7 @@ fn assigns(own: &[u8], uses: &[Seen]) -> bool
     false
 }
 
-fn stmt_assigns(alloc: Global, own: &[u8], stmt: &Stmt) -> Result<bool, NoMemory>
+fn stmt_assigns(alloc: Global, own: &Name, stmt: &Stmt) -> Result<bool, NoMemory>
     ensures { IfOk result (λ b. b ≡ assigns own.now (uses_of stmt.now)) }
 {
     let Ok(uses) = uses_of(alloc, stmt) else {
@@ -136,7 +148,7 @@ fn stmt_assigns(alloc: Global, own: &[u8], stmt: &Stmt) -> Result<bool, NoMemory
     Ok(assigns(own, uses.as_slice()))
 }
 
-fn assigned_in(alloc: Global, own: &[u8], unit: &[Line]) -> Result<bool, NoMemory>
+fn assigned_in(alloc: Global, own: &Name, unit: &[Line]) -> Result<bool, NoMemory>
     ensures { IfOk result (λ b. b ≡ assigned_from own.now unit.now) }
 {
     for line in unit {
@@ -150,38 +162,46 @@ fn assigned_in(alloc: Global, own: &[u8], unit: &[Line]) -> Result<bool, NoMemor
     Ok(false)
 }
 
-/// What names and labels of a unit are.
-pub fn roles_of(alloc: Global, unit: &[Line]) -> Result<Roles, NoMemory>
-    ensures facts { IfOk result (λ roles. use_facts_by roles (own_name unit.now) ≡ use_facts_of unit.now) }
+/// What names and labels of a unit with this own name are.
+pub fn roles_of(setting: Setting, own: Name, unit: &[Line]) -> Result<Roles, NoMemory>
+    requires { own ≡ own_name unit.now }
+    ensures facts { IfOk result (λ roles. use_facts_by roles ≡ use_facts_of unit.now) }
+    ensures scope { IfOk result (λ roles. scope_by roles.scope ≡ scope_of unit.now) }
     ensures names { IfOk result (λ roles. roles.names ≡ once (gathered names_in unit.now)) }
     ensures references { IfOk result (λ roles. roles.references ≡ references_of unit.now) }
+    ensures blocks { IfOk result (λ roles. roles.blocks ≡ tabled [] unit.now) }
 {
-    let Ok(scope) = scope_of(alloc, unit) else {
+    let Ok(scope) = scope_of(setting, unit) else {
         return Err(NoMemory);
     };
-    let Ok(dummies) = dummies_of(alloc, unit) else {
+    let Ok(blocks) = block_names_of(setting, unit) else {
         return Err(NoMemory);
     };
-    let Ok(commons) = commons_of(alloc, unit) else {
+    let Ok(dummies) = dummies_of(setting, unit) else {
         return Err(NoMemory);
     };
-    let Ok(names) = names_of(alloc, unit) else {
+    let Ok(commons) = common_names_of(setting, unit) else {
         return Err(NoMemory);
     };
-    let Ok(references) = references_of(alloc, &scope, unit) else {
+    let Ok(names) = names_of(setting, unit) else {
         return Err(NoMemory);
     };
-    let Ok(lines) = lines_of(alloc, unit) else {
+    let Ok(references) = references_of(setting, &scope, unit) else {
         return Err(NoMemory);
     };
-    let Ok(assigned) = assigned_in(alloc, own_name(unit), unit) else {
+    let Ok(lines) = lines_of(setting, unit) else {
+        return Err(NoMemory);
+    };
+    let Ok(assigned) = assigned_in(setting.alloc, &own, unit) else {
         return Err(NoMemory);
     };
     let function = is_function(unit);
     Ok(Roles {
+        own,
         function,
         assigned,
         scope,
+        blocks,
         dummies,
         commons,
         names,

@@ -2,7 +2,7 @@
 ghost use Rattle.std.specs.Prelude.{◌≡◌};
 ghost use Rattle.fort_syntax.specs.Uses.{occurrence};
 ghost use Rattle.fort_syntax.specs.Units.{is_called};
-ghost use Rattle.unit_decl.specs.Usings.{use_by};
+ghost use Rattle.unit_uses.specs.Usings.{use_by};
 
 use fort_syntax::Name;
 use std::marker::Model;
@@ -37,7 +37,7 @@ pub struct Seen {
 
 impl Model for Seen {
     ghost use Rattle.fort_syntax.specs.Uses.{Occurrence};
-    ghost use Rattle.unit_decl.specs.Usings.{use_by};
+    ghost use Rattle.unit_uses.specs.Usings.{use_by};
 
     ghost Value = { Occurrence };
 

@@ -2,13 +2,13 @@
 ghost use Rattle.std.specs.Prelude.{◌≡◌, [], ◌∷◌, ◌++◌, flat_map, IfOk, OnOk};
 ghost use Rattle.fort_syntax.specs.Uses.{occurrence, uses_in, uses_on_left, uses_of_param, uses_of_step, uses_of};
 ghost use Rattle.fort_syntax.specs.Units.{items_by, names_in_item, names_used, names_in};
-ghost use Rattle.unit_decl.specs.Usings.{use_by};
+ghost use Rattle.unit_uses.specs.Usings.{use_by};
 
-use crate::items::{items_by, names_in};
 use crate::seen::{How, Seen};
 use edge_io::{List, NoMemory};
 use fort_syntax::{Expr, Name, Param, Plain, Stmt};
 use std::alloc::Global;
+use unit_scopes::{items_by, names_in};
 
 fn push(all: &mut Vec<Seen>, name: Name, how: &How) -> Result<(), NoMemory>
     ensures { OnOk result (all.new.items ≡ all.old.items ++ occurrence name (use_by how.now) ∷ []) }
@@ -126,7 +126,7 @@ fn push_stmt(all: &mut Vec<Seen>, stmt: &Stmt) -> Result<(), NoMemory>
 }
 
 /// The names in an executable statement.
-pub(crate) fn uses_of(alloc: Global, stmt: &Stmt) -> Result<List<Seen>, NoMemory>
+pub fn uses_of(alloc: Global, stmt: &Stmt) -> Result<List<Seen>, NoMemory>
     ensures { IfOk result (λ uses. uses ≡ uses_of stmt.now) }
 {
     let mut all = Vec::new(alloc);
@@ -180,7 +180,7 @@ fn names_performed(alloc: Global, stmt: &Stmt) -> Result<List<Name>, NoMemory>
 }
 
 /// The names in a statement but those of subroutines and blocks.
-pub(crate) fn names_of_stmt(alloc: Global, stmt: &Stmt) -> Result<List<Name>, NoMemory>
+pub fn names_of_stmt(alloc: Global, stmt: &Stmt) -> Result<List<Name>, NoMemory>
     ensures { IfOk result (λ names. names ≡ names_in stmt.now) }
 {
     match stmt {

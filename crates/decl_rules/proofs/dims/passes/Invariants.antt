@@ -1,6 +1,6 @@
 use Rattle.std.proofs.Common.{◌≡◌, ◌≤◌, drop}
-use Rattle.unit_decl.specs.Scans.{passes}
-use Rattle.unit_decl.proofs.dims.passes.Given as goal
+use Rattle.decl_rules.specs.Sizes.{passes}
+use Rattle.decl_rules.proofs.dims.passes.Given as goal
 
 abbrev pub invariant-loop-dim : goal.invariant-loop-dim
 invariant-loop-dim l = record {

@@ -1,10 +1,10 @@
 use Rattle.std.proofs.Common.{ap, sym, ◌∙◌}
 use Rattle.std.specs.Prelude.{◌&&◌}
 use Rattle.std.specs.List.{list_all}
-use Rattle.unit_decl.specs.Scoping.{scope_by}
-use Rattle.unit_decl.specs.Parts.{test_by, inner, holds}
-use Rattle.unit_decl.proofs.Fittings.{one_inside, two_inside, inner_apply, inner_paren, inner_pos, inner_neg, inner_not, inner_power, inner_bin, inner_rel, inner_and, inner_or}
-use Rattle.unit_decl.proofs.fitting.+fit.Goals as goal
+use Rattle.unit_scopes.specs.Scoping.{scope_by}
+use Rattle.type_rules.specs.Parts.{test_by, inner, holds}
+use Rattle.type_rules.proofs.Fittings.{one_inside, two_inside, inner_apply, inner_paren, inner_pos, inner_neg, inner_not, inner_power, inner_bin, inner_rel, inner_and, inner_or}
+use Rattle.type_rules.proofs.fitting.+fit.Goals as goal
 
 pub parts_fit-returns-in-Apply : goal.parts_fit-returns-in-Apply
 parts_fit-returns-in-Apply t c =

@@ -1,9 +1,9 @@
 use Rattle.std.proofs.Common.{◌≡◌, drop}
 use Rattle.std.specs.Prelude.{◌&&◌}
 use Rattle.std.specs.List.{list_all}
-use Rattle.unit_decl.specs.Scoping.{scope_by}
-use Rattle.unit_decl.specs.Parts.{test_by, holds}
-use Rattle.unit_decl.proofs.fitting.+fit.Given as goal
+use Rattle.unit_scopes.specs.Scoping.{scope_by}
+use Rattle.type_rules.specs.Parts.{test_by, holds}
+use Rattle.type_rules.proofs.fitting.+fit.Given as goal
 
 abbrev pub invariant-args_fit-loop-e : goal.invariant-args_fit-loop-e
 invariant-args_fit-loop-e l =

@@ -1,9 +1,9 @@
 use Rattle.std.proofs.Common.{ap, sym, ◌∙◌}
 use Rattle.std.specs.Prelude.{◌&&◌}
 use Rattle.fort_syntax.specs.TypeRules.{has_fit_places}
-use Rattle.unit_decl.specs.Scoping.{scope_by}
-use Rattle.unit_decl.proofs.Fittings.{places_by_if}
-use Rattle.unit_decl.proofs.fitting.+has_fit_places.Goals as goal
+use Rattle.unit_scopes.specs.Scoping.{scope_by}
+use Rattle.type_rules.proofs.Fittings.{places_by_if}
+use Rattle.type_rules.proofs.fitting.+has_fit_places.Goals as goal
 
 pub returns-in-LogicalIf : goal.returns-in-LogicalIf
 returns-in-LogicalIf t c =

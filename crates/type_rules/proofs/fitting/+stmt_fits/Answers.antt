@@ -1,9 +1,9 @@
 use Rattle.std.proofs.Common.{ap, sym, ◌∙◌}
 use Rattle.std.specs.Prelude.{◌&&◌}
-use Rattle.unit_decl.specs.Scoping.{scope_by}
-use Rattle.unit_decl.specs.Parts.{test_by, stmt_holds}
-use Rattle.unit_decl.proofs.Fittings.{held_by_if}
-use Rattle.unit_decl.proofs.fitting.+stmt_fits.Goals as goal
+use Rattle.unit_scopes.specs.Scoping.{scope_by}
+use Rattle.type_rules.specs.Parts.{test_by, stmt_holds}
+use Rattle.type_rules.proofs.Fittings.{held_by_if}
+use Rattle.type_rules.proofs.fitting.+stmt_fits.Goals as goal
 
 pub returns-in-LogicalIf : goal.returns-in-LogicalIf
 returns-in-LogicalIf t c =

@@ -1,9 +1,9 @@
 use Rattle.std.proofs.Common.{ap, sym, ◌∙◌}
 use Rattle.fort_syntax.specs.TypeRules.{has_plain_subscripts}
-use Rattle.unit_decl.specs.Scoping.{scope_by}
-use Rattle.unit_decl.specs.PlainForms.{are_plain_arguments}
-use Rattle.unit_decl.proofs.PlainSubscripts.{plain_apply}
-use Rattle.unit_decl.proofs.subscripts.has_plain_subscripts.Goals as goal
+use Rattle.unit_scopes.specs.Scoping.{scope_by}
+use Rattle.type_rules.specs.PlainForms.{are_plain_arguments}
+use Rattle.type_rules.proofs.PlainSubscripts.{plain_apply}
+use Rattle.type_rules.proofs.subscripts.has_plain_subscripts.Goals as goal
 
 pub returns-in-Apply : goal.returns-in-Apply
 returns-in-Apply c =

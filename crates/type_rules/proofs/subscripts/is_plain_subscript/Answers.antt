@@ -1,9 +1,9 @@
 use Rattle.std.proofs.Common.{ap, sym, ◌∙◌}
 use Rattle.fort_syntax.specs.TypeRules.{is_plain_subscript}
-use Rattle.unit_decl.specs.Scoping.{scope_by}
-use Rattle.unit_decl.specs.PlainForms.{plain}
-use Rattle.unit_decl.proofs.PlainSubscripts.{plain_bin}
-use Rattle.unit_decl.proofs.subscripts.is_plain_subscript.Goals as goal
+use Rattle.unit_scopes.specs.Scoping.{scope_by}
+use Rattle.type_rules.specs.PlainForms.{plain}
+use Rattle.type_rules.proofs.PlainSubscripts.{plain_bin}
+use Rattle.type_rules.proofs.subscripts.is_plain_subscript.Goals as goal
 
 pub returns-in-Bin : goal.returns-in-Bin
 returns-in-Bin c =

@@ -1,9 +1,9 @@
 use Rattle.std.proofs.Common.{ap, sym, ◌∙◌}
 use Rattle.std.specs.Prelude.{◌&&◌}
 use Rattle.fort_syntax.specs.TypeRules.{gives_integer, gives_logical, are_fit_arguments, has_fit_operands}
-use Rattle.unit_decl.specs.Scoping.{scope_by}
-use Rattle.unit_decl.proofs.Typings.{fit_apply, fit_power, fit_bin, fit_rel, fit_and, fit_or}
-use Rattle.unit_decl.proofs.typing.has_fit_operands.Goals as goal
+use Rattle.unit_scopes.specs.Scoping.{scope_by}
+use Rattle.type_rules.proofs.Typings.{fit_apply, fit_power, fit_bin, fit_rel, fit_and, fit_or}
+use Rattle.type_rules.proofs.typing.has_fit_operands.Goals as goal
 
 pub returns-in-Apply : goal.returns-in-Apply
 returns-in-Apply c =

@@ -1,7 +1,7 @@
 use Rattle.std.proofs.Common.{◌≡◌, ◌++◌, OnOk, subst, ap, sym, ◌∙◌}
 use Rattle.fort_syntax.specs.Uses.{read, uses_in, uses_of}
-use Rattle.unit_decl.proofs.Rows.{uses_of_carried, ended}
-use Rattle.unit_decl.proofs.uses.+push_stmt.Goals as goal
+use Rattle.unit_uses.proofs.Rows.{uses_of_carried, ended}
+use Rattle.unit_uses.proofs.uses.+push_stmt.Goals as goal
 
 pub returns-in_ok-push_expr-in-LogicalIf : goal.returns-in_ok-push_expr-in-LogicalIf
 returns-in_ok-push_expr-in-LogicalIf t c =

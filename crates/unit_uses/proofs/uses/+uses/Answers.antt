@@ -1,9 +1,9 @@
 use Rattle.std.proofs.Common.{◌≡◌, [], ◌∷◌, ◌++◌, length, OnOk, subst, ap, sym, ◌∙◌}
 use Rattle.std.specs.Prelude.{flat_map}
 use Rattle.fort_syntax.specs.Uses.{read, argument_of, applied, occurrence, uses_in}
-use Rattle.unit_decl.specs.Usings.{use_by}
-use Rattle.unit_decl.proofs.Rows.{uses_in_apply, in_power, in_bin, in_rel, in_and, in_or, ended}
-use Rattle.unit_decl.proofs.uses.+uses.Goals as goal
+use Rattle.unit_uses.specs.Usings.{use_by}
+use Rattle.unit_uses.proofs.Rows.{uses_in_apply, in_power, in_bin, in_rel, in_and, in_or, ended}
+use Rattle.unit_uses.proofs.uses.+uses.Goals as goal
 
 pub push_expr-returns-in_ok-push_expr-in-Bin : goal.push_expr-returns-in_ok-push_expr-in-Bin
 push_expr-returns-in_ok-push_expr-in-Bin t c =

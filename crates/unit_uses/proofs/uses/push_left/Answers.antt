@@ -1,8 +1,8 @@
 use Rattle.std.proofs.Common.{◌≡◌, [], ◌∷◌, ◌++◌, length, OnOk, subst, ap, sym, ◌∙◌}
 use Rattle.std.specs.Prelude.{flat_map}
 use Rattle.fort_syntax.specs.Uses.{read, assigned_element, occurrence, uses_in, uses_on_left}
-use Rattle.unit_decl.proofs.Rows.{uses_on_left_apply, ended}
-use Rattle.unit_decl.proofs.uses.push_left.Goals as goal
+use Rattle.unit_uses.proofs.Rows.{uses_on_left_apply, ended}
+use Rattle.unit_uses.proofs.uses.push_left.Goals as goal
 
 pub returns-in_ok-push-in-Apply : goal.returns-in_ok-push-in-Apply
 returns-in_ok-push-in-Apply c =
