@@ -3,3 +3,4 @@ pub mod Passing
 pub mod NotePlaces
 pub mod EntriesRead
 pub mod WellFormedDecks
+pub mod OneDeck

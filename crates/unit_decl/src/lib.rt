@@ -2,6 +2,7 @@
 #![tactic(auto)]
 
 mod deck;
+mod laws;
 mod making;
 mod reading;
 mod spot;
@@ -11,3 +12,5 @@ mod unit_parts;
 mod walk;
 
 pub use deck::units;
+pub use laws::entries_make_deck_or_fault;
+pub use unit_scopes::is_intrinsic_name;
