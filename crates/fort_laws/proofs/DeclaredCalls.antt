@@ -3,9 +3,9 @@ use Rattle.std.proofs.Common.{◌≡◌, ℕ, suc, ◌+◌, Bool, true, false, c
 use Rattle.std.specs.List.{list_all}
 use Rattle.std.specs.Cmp.Lexicographic.{same_text}
 use Rattle.formula.specs.Atoms.{is_among, has_twin, is_name, same_bytes}
-use Rattle.fort_syntax.specs.Names.{first_unit, function, subroutine, is_function}
+use Rattle.fort_syntax.specs.Names.{first_unit, function, subroutine, is_function, dims_of}
 use Rattle.fort_syntax.specs.Scopes.{is_given_dims}
-use Rattle.fort_syntax.specs.WellFormed.{IsWellFormedUnit, dims_among, AreWellFormedUnits, names_of_unit, commons_of_unit, own_value_of_unit, agree_on_blocks}
+use Rattle.fort_syntax.specs.WellFormed.{IsWellFormedUnit, AreWellFormedUnits, names_of_unit, commons_of_unit, own_value_of_unit, agree_on_blocks}
 use Rattle.fort_syntax.specs.TreePatterns as syntax
 use Rattle.fort_syntax.specs.declared.dialect.Dialect.{Dialect}
 use Rattle.fort_syntax.specs.declared.dialect.Sort.{Sort}
@@ -182,7 +182,7 @@ module _ (dialect : Dialect) (u : Routine) (w : IsWellFormedUnit dialect u) wher
       let own = own_alone u.sort d.name (unit.is_own_value dialect u w d m r) in
       let e : IsNamed u.names d.name = unit.has_data dialect u w d.name (has_own_name u.names d m) in
       let same_one : e.its ≡ d = one_data_name u.names e.its d (unit.no_twins dialect u w) e.among m e.name in
-      let scalar : is_given_dims (dims_among u.names d.name) ≡ false = ap (λ x. is_given_dims (dims_among u.names x)) own.0 ∙ (own_is_scalar dialect u w own.1).1 in (
+      let scalar : is_given_dims (dims_of u d.name) ≡ false = ap (λ x. is_given_dims (dims_of u x)) own.0 ∙ (own_is_scalar dialect u w own.1).1 in (
         own.0,
         types.same_type_as d.sort u.sort (unit.own_type dialect u w d m r),
         unit.no_dims d.dims (ap (λ (z : DataName). is_given_dims z.dims) (sym same_one) ∙ (ap is_given_dims (sym e.dims) ∙ scalar)),

@@ -1,9 +1,9 @@
 -- Names in lists, and what a unit's data names say of a name.
 use Rattle.std.proofs.Common.{◌≡◌, ℕ, zero, suc, Bool, true, false, cond, ◌||◌, List, [], ◌∷◌, ◌++◌, map, Some, slice_get, refl, sym, ap, ◌∙◌, subst}
 use Rattle.formula.specs.Atoms.{is_among, has_twin, same_bytes}
-use Rattle.fort_syntax.specs.Names.{data_name_in, dims_of_data}
+use Rattle.fort_syntax.specs.Names.{data_name_in, dims_of_data, sort_or}
 use Rattle.fort_syntax.specs.Scopes.{do_meet, is_given_dims}
-use Rattle.fort_syntax.specs.WellFormed.{sort_of_function, sort_among, dims_among}
+use Rattle.fort_syntax.specs.WellFormed.{sort_of_function}
 use Rattle.fort_syntax.specs.declared.name.Name.{Name}
 use Rattle.fort_syntax.specs.declared.unit.DataName.{DataName}
 use Rattle.fort_syntax.specs.declared.unit.FunctionName.{FunctionName}
@@ -92,8 +92,8 @@ pub record IsNamed (ds : List DataName) (x : Name) : Type 0 where
   pub among : IsAmong its ds
   pub name : its.name ≡ x
   pub is : data_name_in ds x ≡ Some its
-  pub sort : (fs : List FunctionName) → sort_among ds fs x ≡ Some its.sort
-  pub dims : dims_among ds x ≡ its.dims
+  pub sort : (fs : List FunctionName) → sort_or (data_name_in ds x) (sort_of_function fs x) ≡ Some its.sort
+  pub dims : dims_of_data (data_name_in ds x) ≡ its.dims
 
 abbrev pub names_of_data : List DataName → List Name
 names_of_data ds = map (λ d. d.name) ds
@@ -108,8 +108,8 @@ named (d ∷ ds) x h = by_name (same_or_not d.name x) (named ds x)
       among = (0, refl);
       name = e;
       is = ap (λ (b : Bool). cond b (Some d) (data_name_in ds x)) t;
-      sort = λ fs. ap (λ (b : Bool). cond b (Some d.sort) (sort_among ds fs x)) t;
-      dims = ap (λ (b : Bool). cond b d.dims (dims_among ds x)) t;
+      sort = λ fs. ap (λ (b : Bool). sort_or (cond b (Some d) (data_name_in ds x)) (sort_of_function fs x)) t;
+      dims = ap (λ (b : Bool). dims_of_data (cond b (Some d) (data_name_in ds x))) t;
     }
     by_name (other n t) rec = behind (rec (one_holds (same_bytes x d.name) (is_among x (names_of_data ds)) h (reversed (same_or_not x d.name))))
       where
@@ -123,30 +123,21 @@ named (d ∷ ds) x h = by_name (same_or_not d.name x) (named ds x)
           among = (suc r.among.0, r.among.1);
           name = r.name;
           is = ap (λ (b : Bool). cond b (Some d) (data_name_in ds x)) t ∙ r.is;
-          sort = λ fs. ap (λ (b : Bool). cond b (Some d.sort) (sort_among ds fs x)) t ∙ r.sort fs;
-          dims = ap (λ (b : Bool). cond b d.dims (dims_among ds x)) t ∙ r.dims;
+          sort = λ fs. ap (λ (b : Bool). sort_or (cond b (Some d) (data_name_in ds x)) (sort_of_function fs x)) t ∙ r.sort fs;
+          dims = ap (λ (b : Bool). dims_of_data (cond b (Some d) (data_name_in ds x))) t ∙ r.dims;
         }
 
 -- a name that none of them has is a function's
-pub unnamed_sort : (ds : List DataName) (fs : List FunctionName) (x : Name) → is_among x (names_of_data ds) ≡ false → sort_among ds fs x ≡ sort_of_function fs x
+pub unnamed_sort : (ds : List DataName) (fs : List FunctionName) (x : Name) → is_among x (names_of_data ds) ≡ false → sort_or (data_name_in ds x) (sort_of_function fs x) ≡ sort_of_function fs x
 unnamed_sort [] fs x h = refl
 unnamed_sort (d ∷ ds) fs x h = by_name (same_or_not d.name x) (unnamed_sort ds fs x n.1)
   where
     n : (same_bytes x d.name ≡ false) × (is_among x (names_of_data ds) ≡ false)
     n = neither (same_bytes x d.name) (is_among x (names_of_data ds)) h
 
-    by_name : SameOrNot d.name x → sort_among ds fs x ≡ sort_of_function fs x → sort_among (d ∷ ds) fs x ≡ sort_of_function fs x
+    by_name : SameOrNot d.name x → sort_or (data_name_in ds x) (sort_of_function fs x) ≡ sort_of_function fs x → sort_or (data_name_in (d ∷ ds) x) (sort_of_function fs x) ≡ sort_of_function fs x
     by_name (same e t) rec = absurd (clash (same_bytes x d.name) (same_is x d.name (sym e)) n.0)
-    by_name (other q t) rec = ap (λ (b : Bool). cond b (Some d.sort) (sort_among ds fs x)) t ∙ rec
-
--- both ways to tell the dimensions of a name agree
-pub same_dims_told : (ds : List DataName) (x : Name) → dims_of_data (data_name_in ds x) ≡ dims_among ds x
-same_dims_told [] x = refl
-same_dims_told (d ∷ ds) x = by_test (same_bytes d.name x) (same_dims_told ds x)
-  where
-    by_test : (t : Bool) → dims_of_data (data_name_in ds x) ≡ dims_among ds x → dims_of_data (cond t (Some d) (data_name_in ds x)) ≡ cond t d.dims (dims_among ds x)
-    by_test true rec = refl
-    by_test false rec = rec
+    by_name (other q t) rec = ap (λ (b : Bool). sort_or (cond b (Some d) (data_name_in ds x)) (sort_of_function fs x)) t ∙ rec
 
 -- where no two data names have one name, a name tells its data name
 pub one_data_name : (ds : List DataName) (d e : DataName) → has_twin (names_of_data ds) ≡ false → IsAmong d ds → IsAmong e ds → d.name ≡ e.name → d ≡ e
@@ -167,15 +158,15 @@ data_among (e ∷ ds) x d h = by_test (same_bytes e.name x) h (data_among ds x d
     by_test false k rec = let m = rec k in (suc m.0, m.1)
 
 -- an array is a data name
-pub named_data : (ds : List DataName) (x : Name) → is_given_dims (dims_among ds x) ≡ true → is_among x (names_of_data ds) ≡ true
+pub named_data : (ds : List DataName) (x : Name) → is_given_dims (dims_of_data (data_name_in ds x)) ≡ true → is_among x (names_of_data ds) ≡ true
 named_data [] x h = absurd (cc)
 named_data (d ∷ ds) x h = by_name (same_or_not d.name x) (same_or_not x d.name) (named_data ds x)
   where
-    by_name : SameOrNot d.name x → SameOrNot x d.name → (is_given_dims (dims_among ds x) ≡ true → is_among x (names_of_data ds) ≡ true) → is_among x (names_of_data (d ∷ ds)) ≡ true
+    by_name : SameOrNot d.name x → SameOrNot x d.name → (is_given_dims (dims_of_data (data_name_in ds x)) ≡ true → is_among x (names_of_data ds) ≡ true) → is_among x (names_of_data (d ∷ ds)) ≡ true
     by_name a (same e t) rec = ap (λ (b : Bool). b || is_among x (names_of_data ds)) t
     by_name (same e f) (other n t) rec = absurd (n (sym e))
     by_name (other m f) (other n t) rec =
-        ap (λ (b : Bool). b || is_among x (names_of_data ds)) t ∙ rec (ap (λ (b : Bool). is_given_dims (cond b d.dims (dims_among ds x))) (sym f) ∙ h)
+        ap (λ (b : Bool). b || is_among x (names_of_data ds)) t ∙ rec (ap (λ (b : Bool). is_given_dims (dims_of_data (cond b (Some d) (data_name_in ds x)))) (sym f) ∙ h)
 
 -- a data name has the name by which it is found
 pub found_named : (ds : List DataName) (x : Name) (d : DataName) → data_name_in ds x ≡ Some d → d.name ≡ x

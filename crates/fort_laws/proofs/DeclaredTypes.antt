@@ -12,7 +12,7 @@ use Rattle.fort_syntax.specs.TreePatterns as syntax
 use Rattle.fort_syntax.specs.UseRules.{is_misused}
 use Rattle.fort_syntax.specs.Uses.{Use, read, argument_of, uses_in, uses_in_row, parts, parts_of_row}
 use Rattle.fort_syntax.specs.Uses as use_as
-use Rattle.fort_syntax.specs.WellFormed.{IsWellFormedUnit, names_of_unit, functions_of_unit, sort_of_function, dims_among, scope_of_unit, is_known}
+use Rattle.fort_syntax.specs.WellFormed.{IsWellFormedUnit, names_of_unit, functions_of_unit, sort_of_function, scope_of_unit, is_known}
 use Rattle.fort_syntax.specs.declared.dialect.Dialect.{Dialect}
 use Rattle.fort_syntax.specs.declared.dialect.Sort.{Sort}
 use Rattle.fort_syntax.specs.declared.dialect.Sort.TheVariants.{Integer, Logical}
@@ -26,7 +26,7 @@ use Rattle.fort_model.specs.Arguments.{reference_sort}
 use Rattle.fort_model.specs.Calls.{CallSite, own_site, sites_in, sites_in_row}
 use Rattle.fort_model.specs.Lists.{IsAmong}
 use Rattle.fort_laws.specs.Typed.{AreDims, IsCount, row_length, IsScalar, IsArray, IsActual, IsApplied, IsTyped, AreInteger, AreActual}
-use Rattle.fort_laws.proofs.DeclaredNames.{IsNamed, do_not_meet, unnamed_sort, same_dims_told, named_data}
+use Rattle.fort_laws.proofs.DeclaredNames.{IsNamed, do_not_meet, unnamed_sort, named_data}
 use Rattle.fort_laws.proofs.DeclaredUnits as unit
 use Rattle.fort_laws.proofs.DeclaredUses.{AreRight, right_left, right_right, right_behind, right_first}
 use Rattle.fort_laws.proofs.FrameEnter.{SameOrNot, same, other, same_or_not}
@@ -181,7 +181,7 @@ module _ (dialect : Dialect) (u : Routine) (w : IsWellFormedUnit dialect u) wher
       go : (ds : List Dim) (o : Option Intrinsic) → dims_of u f ≡ ds → intrinsic f ≡ o → applied_by ds o ≡ Reference → is_among f (functions_of_unit u) ≡ true
       go (d ∷ ds) o dims is e = absurd (cc)
       go [] (Some g) dims is e = absurd (cc)
-      go [] None dims is e = is_function f n k (ap is_given_dims (sym (same_dims_told u.names f) ∙ dims)) (no_intrinsic_name f is)
+      go [] None dims is e = is_function f n k (ap is_given_dims (dims)) (no_intrinsic_name f is)
 
   some_function : (fs : List FunctionName) (f : Name) → is_among f (map (λ g. g.name) fs) ≡ true → (q : Sort) × (reference_sort fs f ≡ Some q)
   some_function [] f h = absurd (cc)
@@ -229,7 +229,7 @@ module _ (dialect : Dialect) (u : Routine) (w : IsWellFormedUnit dialect u) wher
       record { data_of = d.its; is = d.is; scalar = unit.no_dims d.its.dims (ap is_given_dims (sym d.dims) ∙ a); sort_is = one_type d.its.sort q (sym (d.sort u.functions) ∙ t) }
 
   -- an array has its dimensions, and the type that its name has
-  pub array_of : (q : Sort) (a : Name) (ds : List Dim) → is_array scope a ≡ true → dims_among u.names a ≡ ds → scope.sort a ≡ Some q → IsArray u q a ds
+  pub array_of : (q : Sort) (a : Name) (ds : List Dim) → is_array scope a ≡ true → dims_of u a ≡ ds → scope.sort a ≡ Some q → IsArray u q a ds
   array_of q a ds h e t =
       let d : IsNamed u.names a = unit.has_data dialect u w a (named_data u.names a h) in
       record {
@@ -253,21 +253,21 @@ module _ (dialect : Dialect) (u : Routine) (w : IsWellFormedUnit dialect u) wher
         n : ℕ
         n = length (syntax.listed args)
 
-        no_use : ((is_array scope f && not (n == length (dims_among u.names f))) ≡ false) × ((is_intrinsic scope f && not (takes_so_many f n)) ≡ false)
-        no_use = neither (is_array scope f && not (n == length (dims_among u.names f))) (is_intrinsic scope f && not (takes_so_many f n)) right.1
+        no_use : ((is_array scope f && not (n == length (dims_of u f))) ≡ false) × ((is_intrinsic scope f && not (takes_so_many f n)) ≡ false)
+        no_use = neither (is_array scope f && not (n == length (dims_of u f))) (is_intrinsic scope f && not (takes_so_many f n)) right.1
 
         go : (ds : List Dim) (o : Option Intrinsic) → dims_of u f ≡ ds → intrinsic f ≡ o → AreReferred u IsReference (own_site (applied_by ds o) f (listed args))
             → IsApplied u IsReference q f (applied_by ds o) (row_length args) (listed args) (AreInteger u IsReference args) (AreActual u IsReference args)
         go (d ∷ ds) o e k refer =
-            let dims_are : dims_among u.names f ≡ d ∷ ds = sym (same_dims_told u.names f) ∙ e in
+            let dims_are : dims_of u f ≡ d ∷ ds = e in
             let array : is_array scope f ≡ true = ap is_given_dims dims_are in
-            let many : n ≡ length (d ∷ ds) = same_number n (length (d ∷ ds)) (ap (λ zs. n == length zs) (sym dims_are) ∙ not_not (n == length (dims_among u.names f)) (not_both (is_array scope f) _ no_use.0 array)) in (
+            let many : n ≡ length (d ∷ ds) = same_number n (length (d ∷ ds)) (ap (λ zs. n == length zs) (sym dims_are) ∙ not_not (n == length (dims_of u f)) (not_both (is_array scope f) _ no_use.0 array)) in (
               array_of q f (d ∷ ds) array dims_are (sym (array_sort f array) ∙ t),
               row_count args ∙ many,
               integers (ap (λ b. b || is_intrinsic_name f) array) (integers_demanded f (syntax.listed args) fit (ap (λ b. b || is_intrinsic scope f) array)),
             )
         go [] (Some g) e k refer =
-            let scalar : is_array scope f ≡ false = ap is_given_dims (sym (same_dims_told u.names f) ∙ e) in
+            let scalar : is_array scope f ≡ false = ap is_given_dims (e) in
             let is : is_intrinsic_name f ≡ true = known (is_intrinsic_name f) (λ y. y) (λ y. absurd (unlike g (sym k ∙ not_intrinsic f y))) in
             let whole : is_intrinsic scope f ≡ true = ap (λ b. is_intrinsic_name f && not b) scalar ∙ ap (λ b. b && true) is in
             let of = intrinsic_named f is in
@@ -283,7 +283,7 @@ module _ (dialect : Dialect) (u : Routine) (w : IsWellFormedUnit dialect u) wher
             same_one : (a b : Intrinsic) → Some a ≡ Some b → a ≡ b
             same_one a b h = cc
         go [] None e k refer =
-            let scalar : is_array scope f ≡ false = ap is_given_dims (sym (same_dims_told u.names f) ∙ e) in
+            let scalar : is_array scope f ≡ false = ap is_given_dims (e) in
             let is_not : is_intrinsic_name f ≡ false = no_intrinsic_name f k in
             let type : reference_sort u.functions f ≡ Some q = sym (function_type f scalar is_not (is_function f n right.0 scalar is_not)) ∙ t in
             (refer (record { reference = true; callee = f; actuals = listed args }) q (0, refl) refl type, actuals)

@@ -25,7 +25,7 @@ use Rattle.fort_syntax.specs.declared.unit.Unit.{Unit as Routine}
 use Rattle.fort_model.specs.Calls.{CallSite, own_site, sites_in, sites_in_row, sites_of}
 use Rattle.fort_model.specs.Lists.{IsAmong}
 use Rattle.fort_model.specs.Smashes.{set_name, set_by}
-use Rattle.fort_laws.proofs.DeclaredNames.{same_dims_told, named_data}
+use Rattle.fort_laws.proofs.DeclaredNames.{named_data}
 use Rattle.fort_laws.proofs.Kept.{among_left, among_right, listed_row}
 use Rattle.fort_laws.proofs.References.{among_either}
 use Rattle.fort_laws.proofs.RulesKept.{split}
@@ -197,7 +197,7 @@ module _ (u : Routine) (P : CallSite → Type 0)
   each_on_left (Apply' f shape args) t h =
       let array = (right_first u f (assigned_element (length (syntax.listed args))) (uses_in_row read args) h).0 in
       each_both P (own_site (applied u f) f (listed args)) (sites_in_row u args)
-      (each_own P (applied u f) f (listed args) (λ e. absurd (array_no_reference (dims_of u f) (intrinsic f) (ap is_given_dims (same_dims_told u.names f) ∙ array) e)))
+      (each_own P (applied u f) f (listed args) (λ e. absurd (array_no_reference (dims_of u f) (intrinsic f) (array) e)))
       (each_in_row read args (right_behind u _ (uses_in_row read args) h))
   each_on_left (Const n) t h = absurd (cc)
   each_on_left (Truth b) t h = absurd (cc)

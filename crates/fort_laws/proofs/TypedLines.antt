@@ -12,7 +12,7 @@ use Rattle.fort_syntax.specs.TreePatterns as syntax
 use Rattle.fort_syntax.specs.TypeRules.{type_of, gives_logical, is_fit_param, is_fit_step, has_fit_places, has_fit_operands}
 use Rattle.fort_syntax.specs.Units.{class_of, is_performing}
 use Rattle.fort_syntax.specs.Uses.{occurrence, read, assigned, assigned_element, counted, actual, called, uses_in, uses_in_row, uses_on_left, uses_of_param, uses_of_step, uses_of, parts, parts_of_row, all_parts}
-use Rattle.fort_syntax.specs.WellFormed.{IsWellFormedUnit, names_of_unit, dims_among, scope_of_unit, is_left_side, has_right_form}
+use Rattle.fort_syntax.specs.WellFormed.{IsWellFormedUnit, names_of_unit, scope_of_unit, is_left_side, has_right_form}
 use Rattle.fort_syntax.specs.declared.dialect.Dialect.{Dialect}
 use Rattle.fort_syntax.specs.declared.dialect.Sort.{Sort}
 use Rattle.fort_syntax.specs.declared.dialect.Sort.TheVariants.{Integer, Logical}
@@ -37,7 +37,7 @@ use Rattle.fort_laws.specs.TypedStatements.{AreTypedLoops, IsTypedElement, IsTyp
 use Rattle.fort_laws.specs.Typed.{IsScalar, IsTyped, AreInteger}
 use Rattle.fort_laws.specs.Ways.{IsExecutable}
 use Rattle.fort_laws.proofs.DeclaredCalls.{called_in_text, referred_in_text}
-use Rattle.fort_laws.proofs.DeclaredNames.{IsNamed, same_dims_told, named_data}
+use Rattle.fort_laws.proofs.DeclaredNames.{IsNamed, named_data}
 use Rattle.fort_laws.proofs.DeclaredTypes as types
 use Rattle.fort_laws.proofs.DeclaredTypes.{AreReferred, AreFit, fit_left, fit_right}
 use Rattle.fort_laws.proofs.DeclaredUnits as unit
@@ -252,9 +252,9 @@ module _ (dialect : Dialect) (p : Program) (i : ℕ) (u : Routine) (is : slice_g
     left_side (Not' shape a) t h fit refer = absurd (cc)
     left_side (And' q a r b) t h fit refer = absurd (cc)
     left_side (Or' q a r b) t h fit refer = absurd (cc)
-    left_side (Apply' f shape args) t h fit refer = (d.its.sort, type_is, element (dims_among u.names f) refl)
+    left_side (Apply' f shape args) t h fit refer = (d.its.sort, type_is, element (dims_of u f) refl)
       where
-        r : (is_array scope f ≡ true) × (not (is_array scope f && (length (syntax.listed args) == length (dims_among u.names f))) ≡ false)
+        r : (is_array scope f ≡ true) × (not (is_array scope f && (length (syntax.listed args) == length (dims_of u f))) ≡ false)
         r = right_first u f (assigned_element (length (syntax.listed args))) (uses_in_row read args) h
 
         data_is : is_among f (names_of_unit u) ≡ true
@@ -266,8 +266,8 @@ module _ (dialect : Dialect) (p : Program) (i : ℕ) (u : Routine) (is : slice_g
         type_is : type_of scope (Apply' f shape args) ≡ Some d.its.sort
         type_is = types.array_sort dialect u w f r.0 ∙ d.sort u.functions
 
-        many : length (syntax.listed args) ≡ length (dims_among u.names f)
-        many = types.same_number _ _ (split (is_array scope f) (length (syntax.listed args) == length (dims_among u.names f)) (not_not _ r.1)).1
+        many : length (syntax.listed args) ≡ length (dims_of u f)
+        many = types.same_number _ _ (split (is_array scope f) (length (syntax.listed args) == length (dims_of u f)) (not_not _ r.1)).1
 
         subscripts : AreInteger u IsReference args
         subscripts =
@@ -275,10 +275,10 @@ module _ (dialect : Dialect) (p : Program) (i : ℕ) (u : Routine) (is : slice_g
             (types.referred_right dialect u w IsReference (own_site (applied u f) f (listed args)) (sites_in_row u args) refer)
             (types.integers_demanded dialect u w f (syntax.listed args) (fit (Apply' f shape args) (0, refl)) (ap (λ b. b || is_intrinsic scope f) r.0))
 
-        element : (ds : List Dim) → dims_among u.names f ≡ ds → IsTypedElement u IsReference IsCall d.its.sort f args
+        element : (ds : List Dim) → dims_of u f ≡ ds → IsTypedElement u IsReference IsCall d.its.sort f args
         element [] e = absurd (clash (is_array scope f) r.0 (ap is_given_dims e))
         element (b ∷ bs) e =
-            let dims_are : dims_of u f ≡ b ∷ bs = same_dims_told u.names f ∙ e in
+            let dims_are : dims_of u f ≡ b ∷ bs = e in
             record {
               dim = b;
               dims = bs;

@@ -3,6 +3,7 @@ use Rattle.std.specs.Prelude.{ℕ, suc, Bool, true, false, cond, not, ◌&&◌, 
 use Rattle.std.specs.List.{filter}
 use Rattle.formula.specs.Atoms.{same_bytes}
 use Rattle.fort_syntax.specs.declared.name.Name.{Name}
+use Rattle.fort_syntax.specs.declared.dialect.Sort.{Sort}
 use Rattle.fort_syntax.specs.declared.stmt.Dim.{Dim}
 use Rattle.fort_syntax.specs.declared.stmt.Group.{Group}
 use Rattle.fort_syntax.specs.declared.unit.DataName.{DataName}
@@ -26,6 +27,11 @@ dims_of_data (Some d) = d.dims
 -- the dimensions of a name in a unit: none where it is a scalar, or no data name at all
 abbrev pub dims_of : Routine → Name → List Dim
 dims_of u x = dims_of_data (data_name u x)
+
+-- the type of a data name, or else another one
+abbrev pub sort_or : Option DataName → Option Sort → Option Sort
+sort_or None other = other
+sort_or (Some d) other = Some d.sort
 
 -- locals, and the value of a FUNCTION, get new cells at each entry; the other data names have the cells of the caller
 abbrev pub is_own : Role → Bool

@@ -5,6 +5,7 @@ use Rattle.std.specs.List.{list_any, list_all}
 use Rattle.fort_syntax.specs.Cards.{is_given}
 use Rattle.fort_syntax.specs.Grammar.{is_carried}
 use Rattle.formula.specs.Atoms.{same_bytes, is_among, has_twin, is_name}
+use Rattle.fort_syntax.specs.Names.{data_name, dims_of, sort_or}
 use Rattle.fort_syntax.specs.TreePatterns.{carried}
 use Rattle.fort_syntax.specs.Scopes.{Scope, same_option, same_dims, do_meet, is_array, is_intrinsic, is_intrinsic_name, is_integer_scalar}
 use Rattle.fort_syntax.specs.Uses.{Use, read, assigned, assigned_element, counted, applied, argument_of, actual, called, uses_of, all_parts, used_labels}
@@ -21,7 +22,6 @@ use Rattle.fort_syntax.specs.declared.expr.Expr.{Expr}
 use Rattle.fort_syntax.specs.declared.expr.Expr.TheVariants.{Const, Var, Apply', Power'}
 use Rattle.fort_syntax.specs.declared.stmt.BlockName.{BlockName}
 use Rattle.fort_syntax.specs.declared.stmt.BlockName.TheVariants as block
-use Rattle.fort_syntax.specs.declared.stmt.Dim.{Dim}
 use Rattle.fort_syntax.specs.declared.stmt.Group.{Group}
 use Rattle.fort_syntax.specs.declared.stmt.Item.{Item}
 use Rattle.fort_syntax.specs.declared.stmt.Param.{Param}
@@ -41,17 +41,9 @@ abbrev pub sort_of_function : List FunctionName → Name → Option Sort
 sort_of_function [] x = None
 sort_of_function (f ∷ fs) x = cond (same_bytes f.name x) (Some f.sort) (sort_of_function fs x)
 
--- the type of the data name, or else of the function, with a name
-abbrev pub sort_among : List DataName → List FunctionName → Name → Option Sort
-sort_among [] fs x = sort_of_function fs x
-sort_among (d ∷ ds) fs x = cond (same_bytes d.name x) (Some d.sort) (sort_among ds fs x)
-
-abbrev pub dims_among : List DataName → Name → List Dim
-dims_among [] x = []
-dims_among (d ∷ ds) x = cond (same_bytes d.name x) d.dims (dims_among ds x)
-
+-- a name has the type of its data name, or else of its function, and the dimensions of its data name
 abbrev pub scope_of_unit : Routine → Scope
-scope_of_unit u = record { sort = sort_among u.names u.functions; dims = dims_among u.names }
+scope_of_unit u = record { sort = λ x. sort_or (data_name u x) (sort_of_function u.functions x); dims = dims_of u }
 
 abbrev pub names_of_unit : Routine → List Name
 names_of_unit u = map (λ d. d.name) u.names
@@ -128,7 +120,7 @@ is_bare_block _ = false
 
 -- an item of a block has the dimensions of its name
 abbrev pub is_right_item : Routine → Item → Bool
-is_right_item u item = same_dims item.dims (dims_among u.names item.name)
+is_right_item u item = same_dims item.dims (dims_of u item.name)
 
 -- each block stands once, blank COMMON as `//`, and its items have the dimensions of their names
 abbrev pub are_blocks : Routine → Bool
