@@ -87,7 +87,7 @@ fn leaves_front(alloc: Global, deck: &[u8], text: &[u8], k: u64) -> Result<bool,
     Ok(
         status == Status::WriteFault
             && sink.faults() == 1
-            && sink.bytes().len() as u64 == k - 1
+            && (sink.bytes().len() as u64).saturating_add(1) == k
             && text.starts_with(sink.bytes()),
     )
 }
