@@ -8,7 +8,8 @@ ghost use Rattle.formula.specs.Tree.{Tree, apply};
 ghost use Rattle.std.specs.Prelude.{◌++◌, [], ◌∷◌};
 
 use crate::candidate::Candidate;
-use crate::{BuiltIn, Func, Node, TermId, TermPool, Word, order};
+use crate::reach::reached;
+use crate::{BuiltIn, Func, Node, TermId, TermPool, Word};
 use edge_io::NoMemory;
 use std::alloc::Global;
 
@@ -191,10 +192,11 @@ pub fn term_results(
     requires { IsIn pool.now id }
     ensures { IfOk result (λ r. r ≡ term_results candidate.now.earlier.now candidate.now.name candidate.now.params.now (tree_of pool.now id)) }
 {
-    let ids = order(alloc, pool, id)?;
+    let places = reached(alloc, pool, id)?;
     let mut results = names_are_own(true);
-    for here in &ids {
-        results = both(results, top_results(pool, candidate, *here));
+    for place in places.as_slice() {
+        let here = TermId { place: *place };
+        results = both(results, top_results(pool, candidate, here));
     }
     Ok(results)
 }
