@@ -166,6 +166,7 @@ walk_goes pool top places at place node w lt here found =
         let nodes : other ≡ node = same_node pool place p node other same found is in
         let mine : Contains (arguments_of node) b = subst (λ n. Contains (arguments_of n) b) nodes c in
         seen-these places (arguments_of node) mine.0 b mine.1 mine.2
+
     by_index : (k p : ℕ) (other : Node) (b : TermId) → k < at + 1 → get_or places k p ≡ p → slice_get pool p ≡ Some other → Contains (arguments_of other) b → has (seen_all places (arguments_of node)) b.place ≡ true
     by_index k p other b low e is c = by_order k p other b (nat_lt k at) refl low e is c
 

@@ -133,12 +133,7 @@ fn is_right_count(candidate: &Candidate<'_>, k: usize, count: usize) -> bool
 
 #[tactic(auto, using(crate::proofs::Passes::known_use))]
 /// What the tests say of a use of the definition of number k.
-fn use_results(
-    pool: &TermPool,
-    candidate: &Candidate<'_>,
-    k: usize,
-    args: &[TermId],
-) -> TestResults
+fn use_results(pool: &TermPool, candidate: &Candidate<'_>, k: usize, args: &[TermId]) -> TestResults
     requires { AllBelow (length pool.now) args.now }
     ensures { result ≡ use_results candidate.now.earlier.now candidate.now.name candidate.now.params.now k (row_in (trees pool.now) args.now) }
 {

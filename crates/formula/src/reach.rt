@@ -11,11 +11,7 @@ use std::alloc::Global;
 
 /// The places of the nodes that a term reaches, each once. It takes time and memory in the number of
 /// these and of their arguments.
-pub fn reached(
-    alloc: Global,
-    pool: &TermPool,
-    id: TermId,
-) -> Result<IndexSet<u32, Keys>, NoMemory>
+pub fn reached(alloc: Global, pool: &TermPool, id: TermId) -> Result<IndexSet<u32, Keys>, NoMemory>
     requires { IsIn pool.now id }
     ensures { IfOk result (λ places. AreReached pool.now id.place places.keys) }
 {
