@@ -26,3 +26,4 @@ pub mod Turns
 pub mod UseDepths
 pub mod UsedFunctions
 pub mod UsesAgree
+pub mod Walk

@@ -7,10 +7,10 @@ pub mod Grammar
 pub mod Headings
 pub mod NextToken
 pub mod OpenCalls
-pub mod Order
 pub mod Parameters
 pub mod Passing
 pub mod Pool
+pub mod Reach
 pub mod ReadableTerms
 pub mod Reading
 pub mod Substitution

@@ -1,6 +1,6 @@
 // The terms of a run.
 ghost use Rattle.std.specs.Prelude.{◌≡◌, ◌<◌, ◌^◌, [], ◌∷◌, ◌++◌, length, slice_get, Some, IsOk, IfOk, OnOk, OnErr, IsSome, IfSome, IfNone, IsTrue, Contains};
-ghost use Rattle.formula.specs.Pool.{AllBelow, HasArguments, HasArgumentsBelow, HasOneIdEach, Grows, IsIn, trees, tree_in, tree_of, row_in};
+ghost use Rattle.formula.specs.Pool.{AllBelow, HasArguments, HasArgumentsBelow, HasOneIdEach, Grows, IsIn, IsPool, trees, tree_in, tree_of, row_in};
 ghost use Rattle.formula.specs.Tree.{num, truth, symbol, old, apply, none, more, takes};
 
 use crate::{Args, BuiltIn, Func, Node, TermId, Word};
@@ -45,6 +45,7 @@ impl TermPool {
         ensures count { result ≡ length self.now }
         ensures small { result < 2 ^ 32 }
         ensures one_id_each { HasOneIdEach self.now }
+        ensures pool { IsPool [] self.now }
     {
         self.nodes.len()
     }
