@@ -1,4 +1,5 @@
 pub mod Added
+pub mod Agreeing
 pub mod Applied
 pub mod Assigned
 pub mod Bodies
@@ -7,12 +8,12 @@ pub mod Combined
 pub mod Depth
 pub mod Digits
 pub mod Doing
+pub mod FactsTold
 pub mod Grown
 pub mod Growth
 pub mod Held
 pub mod Images
 pub mod Lookup
-pub mod Marks
 pub mod Names
 pub mod OnSheet
 pub mod OneIdEach
@@ -23,12 +24,14 @@ pub mod Padded
 pub mod Passes
 pub mod Putting
 pub mod ReadSpelled
+pub mod Reached
 pub mod Remainders
 pub mod Replacing
 pub mod Same
 pub mod SpelledRead
 pub mod Steps
 pub mod SymbolValues
+pub mod TableTerms
 pub mod TokenSteps
 pub mod Turns
 pub mod UseDepths

@@ -2,12 +2,15 @@ pub mod Adding
 pub mod Args
 pub mod Atoms
 pub mod Bounded
+pub mod Facts
 pub mod Functions
 pub mod Grammar
+pub mod Kept
 pub mod Machine
 pub mod Named
 pub mod NextToken
 pub mod OpenCalls
+pub mod Order
 pub mod Passing
 pub mod Pool
 pub mod Ranges
