@@ -2,11 +2,14 @@ pub mod Adding
 pub mod Args
 pub mod Atoms
 pub mod Bounded
+pub mod Facts
 pub mod Functions
 pub mod Grammar
 pub mod Headings
+pub mod Kept
 pub mod NextToken
 pub mod OpenCalls
+pub mod Order
 pub mod Parameters
 pub mod Passing
 pub mod Pool
