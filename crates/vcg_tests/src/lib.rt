@@ -1,11 +1,7 @@
-//! Tests of the top call.
+//! Tests of the top call that no row shows: ends that fail, and a deck that is too long.
 #![tactic(auto)]
 
 #[cfg(test)]
-mod decks;
+mod ends;
 #[cfg(test)]
-mod refused;
-#[cfg(test)]
-mod rows;
-#[cfg(test)]
-mod top_call;
+mod long_decks;

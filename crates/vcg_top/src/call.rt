@@ -19,7 +19,7 @@ use crate::judging::read_deck;
 use crate::reading::{ReadError, read_all};
 use crate::words::dialect_of;
 use edge_io::{List, NoMemory, Sink, Source, write_all};
-use event_text::{Marks, write_events, write_fault};
+use event_text::{Marks, WritingStack, write_events, write_fault};
 use formula::Definitions;
 use fort_syntax::{Deck, Dialect, Fault, Refusal};
 use std::alloc::Global;
@@ -77,7 +77,17 @@ fn tell<K: Sink>(alloc: Global, sink: &mut K, found: &Conditions) -> Status
         return Status::NoMemory;
     };
     let definitions = Definitions::new(alloc);
-    let Ok(()) = write_events(sink, &found.pool, &definitions, &found.conditions, &marks) else {
+    let Ok(mut stack) = WritingStack::new(alloc, &found.pool) else {
+        return Status::NoMemory;
+    };
+    let Ok(()) = write_events(
+        sink,
+        &found.pool,
+        &definitions,
+        &found.conditions,
+        &marks,
+        &mut stack,
+    ) else {
         return Status::WriteFault;
     };
     Status::Done
