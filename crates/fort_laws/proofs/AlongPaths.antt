@@ -273,6 +273,7 @@ module _ (dialect : Dialect) (u : Routine) (notes : Notes) where
           let same_to : s.to ≡ t.to = same_some (sym s.leads ∙ ap (leads_at dialect u pc) e ∙ t.leads) in
           let rest = left_alike t.to a b rec (subst (λ (q : ℕ). Left dialect u notes q a) same_to (left_of dialect u notes s.to a s.on)) (left_of dialect u notes t.to b t.on) f in
           ap (λ (l : List ℕ). l ∷ a) e ∙ ap (λ (l : List (List ℕ)). ds ∷ l) rest
+
   from_alike : (start : ℕ) (a b : List (List ℕ)) → is_path_from dialect u notes start a → is_path_from dialect u notes start b → concat a ≡ concat b → a ≡ b
   from_alike zero a b v w h = left_alike 0 a b (ways_alike a) (left_of dialect u notes 0 a v) (left_of dialect u notes 0 b w) h
   from_alike (suc k) a b v w h = go (slice_get notes.asserts k) v w

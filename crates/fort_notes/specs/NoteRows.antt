@@ -77,7 +77,7 @@ NotesAround =
     (record {
       units = small_unit ∷ [];
       notes = before_units 1 (codes "BOUND 100") ∷ before_units 2 (codes "DEFN POS (K) (ZLESSP 0 K)") ∷ in_unit 4 (codes "INPUT (DEFINED N)") ∷ in_unit 5 (codes "OUTPUT T")
-      ∷ behind_units 9 (codes "RUN P -10 10 STRICT REF 7 (N 3)") ∷ [];
+          ∷ behind_units 9 (codes "RUN P -10 10 STRICT REF 7 (N 3)") ∷ [];
     })
     ≡ Ok
     (record {
