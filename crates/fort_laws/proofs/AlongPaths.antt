@@ -1,20 +1,18 @@
 -- The points along a path, and flat lists of choices.
-use Rattle.std.proofs.Common.{◌≡◌, ℕ, zero, suc, ◌==◌, Bool, true, false, cond, List, [], ◌∷◌, ◌++◌, map, length, Option, Some, None, slice_get, refl, sym, ap, ◌∙◌, subst, append_assoc, arith}
+use Rattle.std.proofs.Common.{◌≡◌, ℕ, zero, suc, ◌==◌, Bool, true, false, cond, List, [], ◌∷◌, ◌++◌, map, length, Option, Some, None, slice_get, refl, sym, ap, ◌∙◌, subst}
 use Rattle.std.specs.List.{concat}
 use Rattle.std.proofs.lemmas.List.{append_cancel_left}
 use Rattle.fort_syntax.specs.TreePatterns.{carried}
 use Rattle.fort_syntax.specs.declared.dialect.Dialect.{Dialect}
 use Rattle.fort_syntax.specs.declared.dialect.Dialect.TheVariants.{Common, SeventySeven}
-use Rattle.fort_syntax.specs.declared.stmt.Stmt.{Stmt}
 use Rattle.fort_syntax.specs.declared.stmt.Stmt.TheVariants.{Subroutine, Function, Declare, Dimension, Common as CommonBlock, Assign, GoTo, Computed, ArithIf, LogicalIf', Do, Continue, Call, Return, End, BlockIf, ElseIf, Else, EndIf}
 use Rattle.fort_syntax.specs.declared.unit.Line.{Line}
 use Rattle.fort_syntax.specs.declared.unit.Unit.{Unit as Routine}
-use Rattle.fort_model.specs.Flow.{Loop, target, one_way, one_of, chosen, through, behind, passed_over, leads_do, leads_computed, leads, leads_by, leads_at, loops_at, loops_around, next_point, next_branch}
-use Rattle.fort_model.specs.PathPoints.{on_from, points_from, point_in, start_point, points_of}
-use Rattle.fort_model.specs.Paths.{Cut, NoCut, AtEnd, AtAssert, cut_at, over_or, goes_on, goes_from, IsWay, IsWayIn, Path, IsPath, is_path_from, starts_at}
+use Rattle.fort_model.specs.Flow.{Loop, target, one_way, one_of, through, behind, leads_do, leads_computed, leads, leads_by, leads_at, loops_at, loops_around, next_point, next_branch}
+use Rattle.fort_model.specs.PathPoints.{on_from, points_from, point_in, start_point}
+use Rattle.fort_model.specs.Paths.{Cut, NoCut, AtEnd, AtAssert, cut_at, over_or, goes_on, goes_from, IsWay, is_path_from, starts_at}
 use Rattle.fort_notes.specs.Assertions.{Assertion, Notes}
 use Rattle.fort_laws.specs.Trails.{LeadThrough, IsCut, StopAtCut, GoToCut, PathsLeadThrough, ChoicesEnd, FlatChoicesTellPaths}
-use Rattle.fort_laws.proofs.Near.{known}
 
 -- ---- choices that lead on are no front of others
 

@@ -1,6 +1,6 @@
 -- The facts of the calls of a small program.
-use Rattle.std.proofs.Common.{◌≡◌, ℕ, zero, suc, ◌<◌, ◌≤◌, List, [], ◌∷◌, refl, sym, subst, arith}
-use Rattle.fort_model.specs.CallOrder.{CanStand, Grows, start, next}
+use Rattle.std.proofs.Common.{◌≡◌, ℕ, zero, suc, ◌<◌, ◌≤◌, List, [], ◌∷◌, refl, subst, arith}
+use Rattle.fort_model.specs.CallOrder.{CanStand, start, next}
 use Rattle.fort_model.specs.Calls.{Calls}
 use Rattle.fort_model.specs.Lists.{IsAmong}
 use Rattle.fort_model.specs.VerdictRows.{rotate_program}

@@ -1,5 +1,5 @@
 -- The forms of notes: what stands behind the first word of each.
-use Rattle.std.specs.Prelude.{ℕ, ℤ, pos, unsigned_abs, ◌^◌, ◌-◌, ◌&&◌, ◌||◌, not, Bool, true, false, if◌then◌else◌, Option, Some, None, List, [], ◌∷◌, map, codes}
+use Rattle.std.specs.Prelude.{ℕ, ℤ, pos, unsigned_abs, ◌^◌, ◌-◌, ◌&&◌, ◌||◌, not, Bool, true, false, if◌then◌else◌, Some, None, List, [], ◌∷◌, map, codes}
 use Rattle.formula.specs.Atoms.{same_bytes, is_among, has_twin, is_symbol, is_function_name, is_name}
 use Rattle.formula.specs.Headings.{heading_with}
 use Rattle.formula.specs.Tree.{Tree}

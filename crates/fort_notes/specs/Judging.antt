@@ -1,12 +1,12 @@
 -- How notes are judged: each in six steps, the first of which that fails gives its fault; one after another, up to the first that is at fault.
-use Rattle.std.specs.Prelude.{ℕ, zero, suc, ◌+◌, ◌-◌, ◌==◌, ◌&&◌, ◌||◌, not, nat_le, nat_lt, Bool, true, false, if◌then◌else◌, cond, Option, Some, None, is_some, List, [], ◌∷◌, ◌++◌, length, map, filter, slice_get, codes, Result, Ok, Err}
+use Rattle.std.specs.Prelude.{ℕ, zero, suc, ◌+◌, ◌==◌, ◌&&◌, ◌||◌, not, nat_le, nat_lt, Bool, true, false, if◌then◌else◌, cond, Option, Some, None, List, [], ◌∷◌, ◌++◌, length, map, filter, slice_get, codes, Result, Ok, Err}
 use Rattle.std.specs.List.{list_all, list_any, flat_map}
 use Rattle.formula.specs.Adding.{adding_fault}
-use Rattle.formula.specs.Atoms.{same_bytes, is_among}
+use Rattle.formula.specs.Atoms.{same_bytes}
 use Rattle.formula.specs.Headings.{heading_with}
 use Rattle.formula.specs.Reading.{or_else}
 use Rattle.formula.specs.TermTests.{names_pass}
-use Rattle.formula.specs.Tokens.{Token, opening, closing, atom, Lexeme, tokens}
+use Rattle.formula.specs.Tokens.{Token, tokens}
 use Rattle.formula.specs.Tree.{Tree}
 use Rattle.formula.specs.Worth.{Function, FunctionBody, plain, counting}
 use Rattle.formula.specs.declared.definition.Heading.{Heading}
@@ -17,12 +17,11 @@ use Rattle.fort_syntax.specs.declared.deck.Placed.{Placed}
 use Rattle.fort_syntax.specs.declared.refusal.Fault.{Fault}
 use Rattle.fort_syntax.specs.declared.rule.Rule.{Rule}
 use Rattle.fort_syntax.specs.declared.rule.Rule.TheVariants.{BadNote, NoInputOrOutput, UnknownNoteName, OutputNamesLocal}
-use Rattle.fort_syntax.specs.declared.unit.DataName.{DataName}
 use Rattle.fort_syntax.specs.declared.unit.Role.{Role}
 use Rattle.fort_syntax.specs.declared.unit.Unit.{Unit as Routine}
-use Rattle.fort_syntax.specs.Names.{data_name, has_role, is_local, is_own_value, is_own}
+use Rattle.fort_syntax.specs.Names.{data_name, has_role, is_local, is_own}
 use Rattle.fort_notes.specs.Parts.{Parsed, parsed, refused, ◌>>=◌, word, is_word}
-use Rattle.fort_notes.specs.Forms.{Form, bound, definition, input, output, assertion, run, try, proof, StepTree, cases, unfolded, branch, linear, ProofTree, bound_form, plain_form, counting_form, terms, assertion_form, run_form, try_form, proof_form}
+use Rattle.fort_notes.specs.Forms.{Form, bound, definition, input, output, assertion, run, try, proof, StepTree, cases, unfolded, branch, linear, bound_form, plain_form, counting_form, terms, assertion_form, run_form, try_form, proof_form}
 
 -- ---- what a note is by its first word
 

@@ -1,5 +1,5 @@
 -- What the notes of small decks say.
-use Rattle.std.specs.Prelude.{◌≡◌, ℕ, pos, negsuc, true, false, List, [], ◌∷◌, ◌++◌, codes, None, Result, Ok, Err}
+use Rattle.std.specs.Prelude.{◌≡◌, ℕ, pos, negsuc, true, false, List, [], ◌∷◌, codes, None, Ok, Err}
 use Rattle.formula.specs.Tree.{Tree, num, truth, symbol, apply, more, none}
 use Rattle.formula.specs.Worth.{plain}
 use Rattle.formula.specs.declared.function.BuiltIn.TheVariants.{Defined as IsDefined, AtMost, Less}
@@ -10,7 +10,7 @@ use Rattle.fort_syntax.specs.declared.deck.Deck.{Deck}
 use Rattle.fort_syntax.specs.declared.deck.Placed.{Placed}
 use Rattle.fort_syntax.specs.declared.dialect.Sort.TheVariants.{Integer}
 use Rattle.fort_syntax.specs.declared.rule.Rule.{Rule}
-use Rattle.fort_syntax.specs.declared.rule.Rule.TheVariants.{BadNote, NoInputOrOutput, UnknownNoteName, OutputNamesLocal}
+use Rattle.fort_syntax.specs.declared.rule.Rule.TheVariants.{BadNote, NoInputOrOutput, UnknownNoteName}
 use Rattle.fort_syntax.specs.declared.stmt.Stmt.TheVariants.{Return}
 use Rattle.fort_syntax.specs.declared.unit.Role.TheVariants.{Dummy, Local}
 use Rattle.fort_syntax.specs.declared.unit.Unit.{Unit as Routine}

@@ -1,13 +1,12 @@
 -- The parts of notes. A part is taken from the front of a text and leaves the rest, or breaks a rule.
-use Rattle.std.specs.Prelude.{ℕ, zero, suc, ℤ, pos, int_le, ◌&&◌, ◌||◌, not, nat_le, nat_lt, Bool, true, false, if◌then◌else◌, Option, Some, None, List, [], ◌∷◌, length, drop, codes}
-use Rattle.std.specs.List.{list_any}
-use Rattle.formula.specs.Atoms.{same_bytes, is_among, is_digits, is_long, spelled, is_number, digits_of, number_of, is_symbol, is_name}
+use Rattle.std.specs.Prelude.{ℕ, zero, suc, ℤ, int_le, ◌&&◌, ◌||◌, not, Bool, true, false, if◌then◌else◌, Option, Some, List, [], ◌∷◌, length, drop, codes}
+use Rattle.formula.specs.Atoms.{same_bytes, is_among, is_digits, is_long, spelled, is_number, digits_of, number_of}
 use Rattle.formula.specs.Reading.{Reading, got, fault, head_named, reads}
 use Rattle.formula.specs.Tokens.{Token, opening, closing, atom, Lexeme, tokens}
 use Rattle.formula.specs.Tree.{Tree}
 use Rattle.formula.specs.declared.definition.Heading.{Heading}
 use Rattle.formula.specs.declared.fault.ReadFault.{ReadFault}
-use Rattle.formula.specs.declared.fault.ReadFault.TheVariants.{Unbalanced, BadAtom, UnknownFunction, BadCount, TooDeep, BigNumber, NoMemory as Starved}
+use Rattle.formula.specs.declared.fault.ReadFault.TheVariants.{UnknownFunction}
 use Rattle.formula.specs.declared.value.Cell.{Cell}
 use Rattle.formula.specs.declared.value.Cell.TheVariants.{Int, Logical, Undefined}
 use Rattle.fort_syntax.specs.declared.rule.Rule.{Rule}

@@ -1,5 +1,5 @@
 -- What the notes of a deck say all together.
-use Rattle.std.specs.Prelude.{ℕ, suc, ◌==◌, cond, Bool, true, false, List, [], ◌∷◌, ◌^◌, map, filter, Option, Some, None, Result, Ok, Err}
+use Rattle.std.specs.Prelude.{ℕ, suc, ◌==◌, List, [], ◌∷◌, filter, Result, Ok, Err}
 use Rattle.std.specs.List.{flat_map}
 use Rattle.formula.specs.Tree.{Tree}
 use Rattle.formula.specs.Worth.{Function}
@@ -7,7 +7,7 @@ use Rattle.fort_syntax.specs.declared.deck.Deck.{Deck}
 use Rattle.fort_syntax.specs.declared.refusal.Fault.{Fault}
 use Rattle.fort_syntax.specs.declared.unit.Unit.{Unit as Routine}
 use Rattle.fort_notes.specs.Assertions.{Assertion, Notes}
-use Rattle.fort_notes.specs.Forms.{Form, bound, definition, input, output, assertion, run, try, proof, ProofTree}
+use Rattle.fort_notes.specs.Forms.{Form, bound, input, output, assertion, run, try, proof, ProofTree}
 use Rattle.fort_notes.specs.Judging.{Judged, definitions_of, judged_notes}
 use Rattle.fort_notes.specs.declared.cases.RunCard.{RunCard}
 use Rattle.fort_notes.specs.declared.cases.TryCard.{TryCard}
