@@ -158,7 +158,7 @@ plain_read dummies entries (fault e) = None
 
 -- the plain term that a text begins with; no definitions are there
 abbrev pub plain_term : List Name → Bool → List ℕ → Option (Tree × ℕ)
-plain_term dummies entries text = plain_read dummies entries (reads (head_named [] None) text)
+plain_term dummies entries text = plain_read dummies entries (reads (head_named [] None) (Some 64) text)
 
 -- these terms, and those of the text behind them, up to its end; they are fewer than `fuel`
 abbrev pub terms_from : List Name → Bool → List Tree → ℕ → List ℕ → Option (List Tree)

@@ -18,7 +18,7 @@ use crate::deck_conditions::{Conditions, conditions_of_deck};
 use crate::judging::read_deck;
 use crate::reading::{ReadError, read_all};
 use crate::words::dialect_of;
-use edge_io::{List, NoMemory, Sink, Source, write_all};
+use edge_io::{Keys, List, NoMemory, Sink, Source, write_all};
 use event_text::{Marks, WritingStack, write_events, write_fault};
 use formula::Definitions;
 use fort_syntax::{Deck, Dialect, Fault, Refusal};
@@ -76,7 +76,7 @@ fn tell<K: Sink>(alloc: Global, sink: &mut K, found: &Conditions) -> Status
     let Ok(marks) = unmarked(alloc, found.conditions.as_slice().len()) else {
         return Status::NoMemory;
     };
-    let definitions = Definitions::new(alloc);
+    let definitions = Definitions::new(alloc, found.pool.keys());
     let Ok(mut stack) = WritingStack::new(alloc, &found.pool) else {
         return Status::NoMemory;
     };
@@ -94,7 +94,7 @@ fn tell<K: Sink>(alloc: Global, sink: &mut K, found: &Conditions) -> Status
 }
 
 /// Writes the conditions of a deck, or that it has not the first form.
-fn tell_deck<K: Sink>(alloc: Global, sink: &mut K, deck: &Deck) -> Status
+fn tell_deck<K: Sink>(alloc: Global, keys: Keys, sink: &mut K, deck: &Deck) -> Status
     ensures only { (result ≡ Done) ⊎ ((result ≡ Refused) ⊎ ((result ≡ WriteFault) ⊎ (result ≡ Starved))) }
     ensures done { result ≡ Done → AppendsOf (IsConditionsText deck.now) (K.written sink.old) (K.written sink.new) }
     ensures refused { result ≡ Refused → AppendsOf (IsNotBuiltText deck.now) (K.written sink.old) (K.written sink.new) }
@@ -103,7 +103,7 @@ fn tell_deck<K: Sink>(alloc: Global, sink: &mut K, deck: &Deck) -> Status
     ensures nothing { result ≡ Starved → sink.new ≡ sink.old }
     ensures later { K.faults sink.old ≤ K.faults sink.new }
 {
-    match conditions_of_deck(alloc, deck) {
+    match conditions_of_deck(alloc, keys, deck) {
         Err(NoMemory) => Status::NoMemory,
         Ok(None) => decline(sink),
         Ok(Some(found)) => tell(alloc, sink, &found),
@@ -121,7 +121,7 @@ fn answer<K: Sink>(alloc: Global, dialect: Dialect, sink: &mut K, bytes: &[u8]) 
     ensures later { K.faults sink.old ≤ K.faults sink.new }
 {
     match read_deck(alloc, dialect, bytes) {
-        Ok(deck) => tell_deck(alloc, sink, &deck),
+        Ok(deck) => tell_deck(alloc, Keys::of(bytes), sink, &deck),
         Err(Refusal::Broken(fault)) => refuse(sink, &fault),
         Err(Refusal::NoMemory) => Status::NoMemory,
     }
