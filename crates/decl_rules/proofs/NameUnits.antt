@@ -20,7 +20,7 @@ use Rattle.name_tables.proofs.Told.{same_names, told_of}
 use Rattle.name_tables.proofs.Among.{any_both, among_both}
 use Rattle.name_tables.proofs.SetNames.{with_names_of}
 use Rattle.unit_scopes.specs.Blocks.{names_of_block, tabled}
-use Rattle.unit_scopes.proofs.BlockNames.{tabled_of}
+use Rattle.unit_scopes.proofs.BlockMembers.{tabled_of}
 use Rattle.unit_uses.specs.Roles.{use_facts_by}
 use Rattle.unit_uses.specs.UseFacts.{use_facts_of}
 use Rattle.unit_uses.specs.declared.roles.Roles.{Roles}

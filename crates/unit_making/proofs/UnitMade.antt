@@ -14,7 +14,7 @@ use Rattle.fort_syntax.specs.declared.unit.Role.TheVariants.{Dummy, InCommon, Ow
 use Rattle.unit_scopes.specs.Blocks.{tabled}
 use Rattle.unit_scopes.specs.Declarations.{given_from}
 use Rattle.unit_scopes.specs.Scoping.{scope_by}
-use Rattle.unit_scopes.proofs.BlockNames.{tabled_of}
+use Rattle.unit_scopes.proofs.BlockMembers.{tabled_of}
 use Rattle.unit_scopes.proofs.Given.{given_once}
 use Rattle.unit_uses.specs.Roles.{is_value_in, is_data_in, use_facts_by}
 use Rattle.unit_uses.specs.UseFacts.{use_facts_of}
