@@ -8,11 +8,11 @@ pub mod Headings
 pub mod Machine
 pub mod NextToken
 pub mod OpenCalls
+pub mod Order
 pub mod Parameters
 pub mod Passing
 pub mod Pool
 pub mod Ranges
-pub mod Reach
 pub mod ReadableTerms
 pub mod Reading
 pub mod Sheets

@@ -26,6 +26,17 @@ tree_in done (Symbol s) = symbol s
 tree_in done (Old s) = old s
 tree_in done (Apply f args) = apply f (row_in done args)
 
+abbrev pub arguments_of : Node → List TermId
+arguments_of (Num z) = []
+arguments_of (Truth b) = []
+arguments_of (Symbol s) = []
+arguments_of (Old s) = []
+arguments_of (Apply f args) = args
+
+-- the arguments of an id's node
+abbrev pub arguments_at : List Node → TermId → List TermId
+arguments_at pool id = arguments_of (slice_index_or pool id.place (Truth false))
+
 -- a node's arguments are among these trees, and its function takes them
 abbrev pub HasArguments : List Tree → Node → Type 0
 HasArguments done (Num z) = Unit {0}

@@ -6,7 +6,7 @@ use Rattle.formula.specs.declared.node.TermId.{TermId}
 use Rattle.formula.specs.declared.substitution.Binding.{Binding}
 use Rattle.formula.specs.Atoms.{same_bytes}
 use Rattle.formula.specs.Tree.{Tree, num, truth, symbol, old, apply, Row, none, more}
-use Rattle.formula.specs.Pool.{HasArgumentsBelow, IsIn, tree_at, tree_of, trees}
+use Rattle.formula.specs.Pool.{arguments_of, HasArgumentsBelow, IsIn, tree_at, tree_of, trees}
 
 abbrev mutual
   -- a tree in which a symbol gives way to `symbols` of its name, and its entry value to `entries`
@@ -44,13 +44,6 @@ abbrev pub under : List Node → List Binding → List Binding → Tree → Tree
 under pool symbols entries = substituted (bound pool symbols symbol) (bound pool entries old)
 
 -- ---- how it is computed
-
-abbrev pub arguments_of : Node → List TermId
-arguments_of (Num z) = []
-arguments_of (Truth b) = []
-arguments_of (Symbol s) = []
-arguments_of (Old s) = []
-arguments_of (Apply f args) = args
 
 -- a place is marked
 abbrev pub is_marked : List Bool → ℕ → Bool
