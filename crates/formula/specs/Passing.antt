@@ -1,5 +1,5 @@
 -- What the tests of a definition that is added say of a term, and of the nodes that it reaches.
-use Rattle.std.specs.Prelude.{ℕ, ℤ, suc, ◌≡◌, ◌&&◌, Bool, true, false, List, [], ◌∷◌, ◌++◌, length}
+use Rattle.std.specs.Prelude.{ℕ, ℤ, suc, ◌&&◌, Bool, true, false, List, [], ◌∷◌, ◌++◌, length}
 use Rattle.std.specs.Ordering.{int_eq}
 use Rattle.formula.specs.declared.definition.Heading.{Heading}
 use Rattle.formula.specs.declared.function.Func.{Func}
