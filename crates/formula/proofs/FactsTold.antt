@@ -27,7 +27,7 @@ of_more t rest =
     ap (λ n. record { has_symbol = row_has_symbol (more t rest); uses_definition = row_uses_definition (more t rest); depth = row_depth (more t rest); size = n })
     (capped_sum (tree_size t) (tree_row_size rest))
 
-facts_at-map : (ts : List Tree) (place : ℕ) → place < length ts → facts_at (map facts_of ts) place ≡ facts_of (tree_at ts place)
+pub facts_at-map : (ts : List Tree) (place : ℕ) → place < length ts → facts_at (map facts_of ts) place ≡ facts_of (tree_at ts place)
 facts_at-map [] place h = absurd (omega arith)
 facts_at-map (t ∷ ts) zero h = refl
 facts_at-map (t ∷ ts) (suc place) h = facts_at-map ts place (omega arith)

@@ -29,4 +29,3 @@ pub mod Turns
 pub mod UseDepths
 pub mod UsedFunctions
 pub mod UsesAgree
-pub mod Walk

@@ -1,16 +1,14 @@
 -- Which terms pass the tests of a definition's terms.
-use Rattle.std.proofs.Common.{◌≡◌, ℕ, zero, suc, ◌+◌, ◌-◌, ◌<◌, ◌≤◌, add-one, nat_le, nat_lt, Bool, true, false, List, [], ◌∷◌, ◌++◌, length, length-append, get_or, ℤ, Option, Some, None, slice_get, refl, sym, ap, ◌∙◌, subst, arith, if◌then◌else◌}
+use Rattle.std.proofs.Common.{◌≡◌, ℕ, zero, suc, ◌+◌, ◌-◌, ◌<◌, ◌≤◌, add-one, nat_le, nat_lt, Bool, true, false, List, [], ◌∷◌, ◌++◌, length, length-append, get_or, Option, Some, None, slice_get, refl, sym, ap, ◌∙◌, subst, arith}
 use Rattle.std.specs.Prelude.{◌&&◌, ◌≢◌, ◌==◌, pos}
 use Rattle.std.proofs.lemmas.Option.{slice_get_past}
 use Rattle.formula.specs.declared.definition.Heading.{Heading}
-use Rattle.std.proofs.lemmas.Grind.{common_steps}
 use Rattle.formula.specs.Atoms.{same_bytes}
 use Rattle.formula.specs.declared.function.BuiltIn.{BuiltIn as Builtin}
 use Rattle.formula.specs.declared.function.BuiltIn.TheVariants.{Difference}
 use Rattle.formula.specs.declared.function.Func.TheVariants.{BuiltIn}
-use Rattle.formula.specs.declared.function.Func.{Func}
 use Rattle.formula.specs.declared.node.TermId.{TermId}
-use Rattle.formula.specs.Pool.{AllBelow, row_in, tree_at}
+use Rattle.formula.specs.Pool.{row_in, tree_at}
 use Rattle.formula.proofs.Turns.{row_count-row_in}
 use Rattle.formula.specs.Tree.{Tree, num, truth, symbol, old, apply, Row, none, more, row_count}
 use Rattle.formula.specs.Adding.{is_one_less, is_known_use}

@@ -4,7 +4,7 @@ use Rattle.std.specs.BinaryHeap.{IsUpperBound}
 use Rattle.std.specs.Ordering.{nat_cmp}
 use Rattle.std.proofs.Math.Seq.{drop-cons}
 use Rattle.std.proofs.lemmas.List.{reverse-append}
-use Rattle.std.proofs.lemmas.List.Elements.{All-cons, All-contains, All-map, All-nil, All-tail, Contains-append_cases, Contains-append_left, Contains-append_right}
+use Rattle.std.proofs.lemmas.List.Elements.{All-cons, All-contains, All-nil, All-tail, Contains-append_left, Contains-append_right}
 use Rattle.std.proofs.lemmas.List.Sorted.{All-permutation, Contains-permutation, IsPermutation-append_left, IsPermutation-middle, IsPermutation-trans, le_from_greatest}
 use Rattle.std.proofs.lemmas.Option.{slice_get-get_or}
 use Rattle.formula.specs.declared.node.Node.{Node}
@@ -12,7 +12,7 @@ use Rattle.formula.specs.declared.node.Node.TheVariants.{Num, Truth, Symbol, Old
 use Rattle.formula.specs.declared.node.TermId.{TermId}
 use Rattle.formula.specs.Pool.{AllBelow, HasArgumentsBelow, IsPool, IsIn, arguments_at, arguments_of}
 use Rattle.formula.specs.Order.{IsReached, itself, argument, IsAscending, IsOrder}
-use Rattle.formula.proofs.Growth.{AllBelow-more, below_at}
+use Rattle.formula.proofs.Growth.{below_at}
 
 -- ---- lists of one more
 

@@ -13,7 +13,6 @@ pub mod Order
 pub mod Parameters
 pub mod Passing
 pub mod Pool
-pub mod Reach
 pub mod ReadableTerms
 pub mod Reading
 pub mod Substitution

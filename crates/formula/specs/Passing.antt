@@ -1,10 +1,11 @@
 -- What the tests of a definition that is added say of a term, and of the nodes that it reaches.
-use Rattle.std.specs.Prelude.{ℕ, ℤ, suc, ◌≡◌, ◌&&◌, Bool, true, false, List, [], ◌∷◌, ◌++◌, length}
+use Rattle.std.specs.Prelude.{ℕ, ℤ, suc, ◌&&◌, Bool, true, false, List, [], ◌∷◌, ◌++◌, length}
 use Rattle.std.specs.Ordering.{int_eq}
 use Rattle.formula.specs.declared.definition.Heading.{Heading}
 use Rattle.formula.specs.declared.function.Func.{Func}
 use Rattle.formula.specs.declared.function.Func.TheVariants.{BuiltIn, Defined}
 use Rattle.formula.specs.declared.adding.BodyResults.{BodyResults}
+use Rattle.formula.specs.declared.node.TermId.{TermId}
 use Rattle.formula.specs.declared.passing.TestResults.{TestResults}
 use Rattle.formula.specs.Adding.{body_passes, is_known_use, is_other, counts_down, recurs_well, has_names_of}
 use Rattle.formula.specs.Atoms.{same_bytes, is_among}
@@ -74,10 +75,10 @@ module _ (earlier : List Heading) (name : List ℕ) (params : List (List ℕ)) w
   top_results (old s) = names_are_own false
   top_results (apply f row) = function_results f row
 
-  -- of the nodes at some places, each with what stands below aside
-  abbrev pub results_of : List Tree → List ℕ → TestResults
+  -- of some nodes, each with what stands below aside
+  abbrev pub results_of : List Tree → List TermId → TestResults
   results_of ts [] = all_pass
-  results_of ts (place ∷ rest) = both (top_results (tree_at ts place)) (results_of ts rest)
+  results_of ts (id ∷ rest) = both (top_results (tree_at ts id.place)) (results_of ts rest)
 
 -- ---- a word less 1
 

@@ -24,7 +24,6 @@ mod opening;
 mod order;
 mod passing;
 mod pool;
-mod reach;
 mod reader;
 mod replacement;
 mod substitution;

@@ -8,8 +8,7 @@ ghost use Rattle.formula.specs.Tree.{Tree, apply};
 ghost use Rattle.std.specs.Prelude.{◌++◌, [], ◌∷◌};
 
 use crate::candidate::Candidate;
-use crate::reach::reached;
-use crate::{BuiltIn, Func, Node, TermId, TermPool, Word};
+use crate::{BuiltIn, Func, Node, TermId, TermPool, Word, order_of};
 use edge_io::NoMemory;
 use std::alloc::Global;
 
@@ -187,11 +186,11 @@ pub fn term_results(
     requires { IsIn pool.now id }
     ensures { IfOk result (λ r. r ≡ term_results candidate.now.earlier.now candidate.now.name candidate.now.params.now (tree_of pool.now id)) }
 {
-    let places = reached(alloc, pool, id)?;
+    prove!(id.index() < pool.count());
+    let ids = order_of(alloc, pool, id)?;
     let mut results = names_are_own(true);
-    for place in places.as_slice() {
-        let here = TermId { place: *place };
-        results = both(results, top_results(pool, candidate, here));
+    for here in ids.as_slice() {
+        results = both(results, top_results(pool, candidate, *here));
     }
     Ok(results)
 }

@@ -1,4 +1,4 @@
-use Rattle.std.proofs.Common.{◌≡◌, ◌+◌, ◌<◌, ◌≤◌, ◌++◌, ℕ, reverse, length, arith}
+use Rattle.std.proofs.Common.{◌≡◌, ◌+◌, ◌<◌, ◌≤◌, reverse, length, arith}
 use Rattle.std.specs.BinaryHeap.{heap_items, heap_len}
 use Rattle.formula.specs.Pool.{arguments_at}
 use Rattle.formula.proofs.Reached.{finish-empty, least-within, skip-popped, start-visited, step-visited, weight, weight-step}

@@ -1,4 +1,4 @@
-use Rattle.std.proofs.Common.{◌∙◌, ◌≤◌, ap, sym, arith}
+use Rattle.std.proofs.Common.{◌∙◌, ◌≤◌, arith}
 use Rattle.formula.proofs.Passes.{own_count, earlier_count}
 use Rattle.formula.proofs.passing.is_right_count.Goals as goal
 

@@ -1,7 +1,4 @@
-use Rattle.std.proofs.Common.{◌≡◌, ◌∙◌, ◌+◌, sym, subst, Some, None, true≢false}
-use Rattle.formula.specs.declared.function.Func.TheVariants.{Defined}
-use Rattle.formula.specs.declared.function.Arity.TheVariants.{Exactly}
-use Rattle.formula.specs.declared.head.Head.TheVariants.{Function}
+use Rattle.std.proofs.Common.{◌≡◌, ◌∙◌, sym, subst, None, true≢false}
 use Rattle.formula.specs.Reading.{defined_among}
 use Rattle.formula.proofs.Lookup.{found_none, found_some, no_word}
 use Rattle.formula.proofs.headings.Headings.named.Goals as goal
