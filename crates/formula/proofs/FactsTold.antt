@@ -1,5 +1,5 @@
 -- What a pool keeps of a node is what there is to tell of its tree.
-use Rattle.std.proofs.Common.{◌≡◌, ℕ, zero, suc, ◌+◌, ◌<◌, ◌≤◌, ◌||◌, List, [], ◌∷◌, ◌++◌, length, Some, false, refl, sym, ap, ◌∙◌, subst, arith, slice_get, get_or, map}
+use Rattle.std.proofs.Common.{◌≡◌, ℕ, zero, suc, ◌+◌, ◌<◌, ◌≤◌, ◌||◌, List, [], ◌∷◌, length, Some, false, refl, sym, ap, ◌∙◌, subst, arith, slice_get, get_or, map}
 use Rattle.std.proofs.Math.Nat.{max-le}
 use Rattle.std.proofs.lemmas.Option.{slice_get-get_or}
 use Rattle.formula.specs.declared.facts.Facts.{Facts}
@@ -10,7 +10,7 @@ use Rattle.formula.specs.declared.node.TermId.{TermId}
 use Rattle.formula.specs.Tree.{Tree, Row, more, apply}
 use Rattle.formula.specs.Pool.{AllBelow, HasArguments, HasArgumentsBelow, IsPool, row_in, tree_at, tree_in, trees}
 use Rattle.formula.specs.Facts.{beside, capped, depth, facts_at, facts_in, facts_of, facts_of_row, function_facts, is_defined, row_depth, row_facts_in, row_has_symbol, row_uses_definition, tree_size, tree_row_size}
-use Rattle.formula.proofs.Growth.{below_at, tree_at-trees}
+use Rattle.formula.proofs.Growth.{below_at, length-trees, tree_at-trees}
 
 -- ---- sizes that are capped
 
@@ -27,7 +27,7 @@ of_more t rest =
     ap (λ n. record { has_symbol = row_has_symbol (more t rest); uses_definition = row_uses_definition (more t rest); depth = row_depth (more t rest); size = n })
     (capped_sum (tree_size t) (tree_row_size rest))
 
-pub facts_at-map : (ts : List Tree) (place : ℕ) → place < length ts → facts_at (map facts_of ts) place ≡ facts_of (tree_at ts place)
+facts_at-map : (ts : List Tree) (place : ℕ) → place < length ts → facts_at (map facts_of ts) place ≡ facts_of (tree_at ts place)
 facts_at-map [] place h = absurd (omega arith)
 facts_at-map (t ∷ ts) zero h = refl
 facts_at-map (t ∷ ts) (suc place) h = facts_at-map ts place (omega arith)
@@ -78,3 +78,22 @@ depth_below nodes (suc n) k p low within =
 
 pub depth_at : (nodes : List Node) (k : ℕ) → IsPool [] nodes → k < length nodes → depth (tree_at (trees nodes) k) ≤ k + 1
 depth_at nodes k p within = depth_below nodes (k + 1) k p (omega arith) within
+
+-- ---- what is kept is told
+
+facts_or-map : (d : Facts) (ts : List Tree) (place : ℕ) → place < length ts → get_or (map facts_of ts) place d ≡ facts_of (tree_at ts place)
+facts_or-map d [] place h = absurd (omega arith)
+facts_or-map d (t ∷ ts) zero h = refl
+facts_or-map d (t ∷ ts) (suc place) h = facts_or-map d ts place (omega arith)
+
+length-facts : (ts : List Tree) → length (map facts_of ts) ≡ length ts
+length-facts [] = refl
+length-facts (t ∷ ts) = ap suc (length-facts ts)
+
+pub kept_long : (nodes : List Node) (facts : List Facts) → facts ≡ map facts_of (trees nodes) → length facts ≡ length nodes
+kept_long nodes facts told = ap length told ∙ length-facts (trees nodes) ∙ length-trees nodes
+
+pub kept_at : (nodes : List Node) (facts : List Facts) (d : Facts) (place : ℕ) → facts ≡ map facts_of (trees nodes) → place < length nodes
+    → get_or facts place d ≡ facts_of (tree_at (trees nodes) place)
+kept_at nodes facts d place told h =
+    ap (λ fs. get_or fs place d) told ∙ facts_or-map d (trees nodes) place (subst (λ n. place < n) (sym (length-trees nodes)) h)

@@ -1,6 +1,5 @@
 -- What becomes of the nodes of a term whose symbols and entry values are replaced.
-use Rattle.std.proofs.Common.{◌≡◌, ◌⊎◌, inl, inr, ℕ, zero, suc, ◌+◌, ◌<◌, ◌≤◌, ◌&&◌, Bool, true, false, List, [], ◌∷◌, ◌++◌, length, map, take, Option, Some, None, IsTrue, All, Contains, refl, sym, ap, ◌∙◌, subst, arith, true≢false, slice_get, slice_index_or, get_or, unwrap_or, length-append, if◌then◌else◌}
-use Rattle.std.specs.List.{AllZip}
+use Rattle.std.proofs.Common.{◌≡◌, inl, inr, ℕ, zero, suc, ◌+◌, ◌<◌, ◌≤◌, ◌&&◌, Bool, true, false, List, [], ◌∷◌, ◌++◌, length, map, take, Option, Some, None, IsTrue, All, Contains, refl, sym, ap, ◌∙◌, subst, arith, true≢false, slice_get, slice_index_or, get_or, unwrap_or, if◌then◌else◌}
 use Rattle.std.proofs.lemmas.Grind.{common_steps}
 use Rattle.std.proofs.lemmas.Option.{get_or_from_slice_get}
 use Rattle.std.proofs.lemmas.List.Elements.{All-cons, All-contains, All-nil, All-tail}
@@ -18,8 +17,8 @@ use Rattle.formula.specs.Atoms.{same_bytes}
 use Rattle.formula.specs.Functions.{arity_of, fits_count}
 use Rattle.formula.specs.Order.{IsAscending, IsOrder, argument, itself}
 use Rattle.formula.specs.Tree.{Tree, num, truth, symbol, old, apply, Row, none, more, row_count, takes}
-use Rattle.formula.specs.Pool.{AllBelow, HasArguments, Grows, IsIn, IsPool, arguments_at, arguments_of, row_in, tree_at, tree_of, trees}
-use Rattle.formula.specs.Substitution.{substituted, row_substituted, tree_or, put_for, replaced, term_named, is_bound, found_in, changed, IsImage, HasImage, AreImages}
+use Rattle.formula.specs.Pool.{AllBelow, HasArguments, Grows, IsIn, IsPool, arguments_at, arguments_of, row_in, tree_of, trees}
+use Rattle.formula.specs.Substitution.{substituted, row_substituted, tree_or, put_for, term_named, is_bound, found_in, changed, IsImage, HasImage, AreImages}
 use Rattle.formula.proofs.Grown.{IsIn-Grows, tree_of-Grows}
 use Rattle.formula.proofs.Reached.{all-append, argument-below, contains_cases, contains_head, contains_nil, contains_tail, reached-below}
 

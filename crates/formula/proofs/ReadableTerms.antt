@@ -1,6 +1,6 @@
 -- What is spelled is readable.
-use Rattle.std.proofs.Common.{◌≡◌, ℕ, zero, suc, ◌+◌, ◌^◌, ◌<◌, Bool, true, false, if◌then◌else◌, ℤ, pos, negsuc, Option, Some, None, List, [], ◌∷◌, ◌++◌, length, slice_get, refl, sym, ap, ◌∙◌, subst, arith, nat_eq, codes}
-use Rattle.std.specs.Prelude.{◌==◌, ◌&&◌, nat_lt}
+use Rattle.std.proofs.Common.{◌≡◌, ℕ, zero, suc, ◌+◌, ◌^◌, ◌<◌, Bool, true, false, if◌then◌else◌, ℤ, pos, Option, Some, None, List, [], ◌∷◌, ◌++◌, length, slice_get, refl, sym, ap, ◌∙◌, arith, codes}
+use Rattle.std.specs.Prelude.{◌==◌, ◌&&◌}
 use Rattle.std.proofs.lemmas.Bool.Decides.{nat_tests}
 use Rattle.formula.specs.declared.definition.Heading.{Heading}
 use Rattle.formula.specs.declared.function.Arity.{Arity}
@@ -10,7 +10,7 @@ use Rattle.formula.specs.declared.function.Func.{Func}
 use Rattle.formula.specs.declared.function.Func.TheVariants.{BuiltIn, Defined}
 use Rattle.formula.specs.declared.head.Head.{Head}
 use Rattle.formula.specs.declared.head.Head.TheVariants.{EntryValue, Function}
-use Rattle.formula.specs.Atoms.{same_bytes, is_digits, is_long, is_number, is_symbol, digits_of, number_of, minus, spelled}
+use Rattle.formula.specs.Atoms.{same_bytes, is_digits, is_long, is_symbol, minus, spelled}
 use Rattle.formula.specs.Functions.{fits_count}
 use Rattle.formula.specs.Grammar.{Spells, SpellsRow, SpellsNumber}
 use Rattle.formula.specs.Headings.{heading_at, has_count, is_headed, with_next}

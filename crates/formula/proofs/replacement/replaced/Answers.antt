@@ -1,4 +1,4 @@
-use Rattle.std.proofs.Common.{◌≡◌, ◌+◌, ◌<◌, ◌≤◌, All, map, get_or, length, arith, subst, sym}
+use Rattle.std.proofs.Common.{◌<◌, ◌≤◌, All, map, get_or, length, arith, subst, sym}
 use Rattle.formula.specs.Order.{IsAscending, IsOrder}
 use Rattle.formula.specs.Pool.{arguments_at}
 use Rattle.formula.specs.Substitution.{HasImage, IsImage, changed}

@@ -1,4 +1,4 @@
-use Rattle.std.proofs.Common.{◌≡◌, ◌+◌, ◌<◌, ◌≤◌, ℕ, drop, length, arith, subst}
+use Rattle.std.proofs.Common.{◌+◌, ◌<◌, ◌≤◌, drop, length, arith, subst}
 use Rattle.formula.proofs.TableTerms.{Step, found-all, next_is, step}
 use Rattle.formula.proofs.substitution.table_of.Goals as goal
 

@@ -2,7 +2,7 @@ use Rattle.std.proofs.Common.{◌≡◌, ◌∙◌, ◌+◌, ◌<◌, ◌^◌, [
 use Rattle.indexmap.specs.IndexSet.{insert_key}
 use Rattle.formula.specs.contracts.node.NodePartialEq.TheImpl.{ghosts as node_ghosts}
 use Rattle.formula.specs.Facts.{facts_in}
-use Rattle.formula.specs.Pool.{HasArguments, trees, tree_in, tree_of}
+use Rattle.formula.specs.Pool.{HasArguments, trees, tree_in}
 use Rattle.formula.proofs.Putting.{IsKept-back, IsKept-behind, behind, below-before, last-behind, shallow-before, tree_of-behind}
 use Rattle.formula.proofs.pool.TermPool.add.Goals as goal
 
