@@ -51,16 +51,19 @@ once_more : (test : Name → Bool) (seen : List Name) (b : Name) (bs : List Name
     ≡ ((not (is_among b seen) && test b) || list_any (λ c. not (is_among c seen) && test c) bs)
 once_more test seen b [] = refl
 once_more test seen b (c ∷ cs) =
-    or_more (new b) (not (is_among c (with_name seen b)) && test c) (new c) (list_any (λ d. not (is_among d (with_name seen b)) && test d) cs) (list_any new cs)
-    (ap (λ m. new b || (not m && test c)) (with_name_of seen b c) ∙ by (same_bytes c b) refl)
+    or_more (not (is_among b seen) && test b)
+    (not (is_among c (with_name seen b)) && test c) (not (is_among c seen) && test c)
+    (list_any (λ d. not (is_among d (with_name seen b)) && test d) cs) (list_any (λ d. not (is_among d seen) && test d) cs)
+    (ap (λ m. (not (is_among b seen) && test b) || (not m && test c)) (with_name_of seen b c) ∙ by (same_bytes c b) refl)
     (once_more test seen b cs)
   where
-    new : Name → Bool
-    new d = not (is_among d seen) && test d
-
-    by : (s : Bool) → same_bytes c b ≡ s → (new b || (not (is_among c seen || s) && test c)) ≡ (new b || new c)
-    by true e = or_gone (new b) (is_among c seen) (test c) ∙ sym (ap (λ d. new b || new d) (same_names c b e) ∙ or_twice (new b))
-    by false e = ap (λ m. new b || (not m && test c)) (or_false (is_among c seen))
+    by : (s : Bool) → same_bytes c b ≡ s
+        → ((not (is_among b seen) && test b) || (not (is_among c seen || s) && test c))
+        ≡ ((not (is_among b seen) && test b) || (not (is_among c seen) && test c))
+    by true e =
+        or_gone (not (is_among b seen) && test b) (is_among c seen) (test c)
+        ∙ sym (ap (λ d. (not (is_among b seen) && test b) || (not (is_among d seen) && test d)) (same_names c b e) ∙ or_twice (not (is_among b seen) && test b))
+    by false e = ap (λ m. (not (is_among b seen) && test b) || (not m && test c)) (or_false (is_among c seen))
 
 pub new_bad_any : (test : Name → Bool) (seen bs : List Name) → has_new_bad test seen bs ≡ list_any (λ b. not (is_among b seen) && test b) bs
 new_bad_any test seen [] = refl

@@ -137,3 +137,17 @@ pub all_made : (dialect : Dialect) (lines rest : List Line) (earlier : List (Nam
     → rest ≡ [] → HasPassed dialect lines rest earlier found units → units ≡ map unit_of (segments lines)
 all_made dialect lines rest earlier found units none h =
     h.made ∙ ap (map unit_of) (sym (h.whole ∙ ap (λ r. h.passed ++ segments r) none ∙ append-nil h.passed))
+
+-- ---- one unit
+
+pub where_none : (o x y : Option Fault) → (o ≡ None → x ≡ y) → fault_before o x ≡ fault_before o y
+where_none (Some fault) x y h = refl
+where_none None x y h = h refl
+
+pub first_none : (o x : Option Fault) → fault_before o x ≡ None → o ≡ None
+first_none (Some fault) x h = search rules
+first_none None x h = refl
+
+pub later_none : (o x : Option Fault) → fault_before o x ≡ None → x ≡ None
+later_none (Some fault) x h = search rules
+later_none None x h = h
