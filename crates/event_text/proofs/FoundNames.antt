@@ -1,7 +1,6 @@
 -- Definitions are found by their names.
-use Rattle.std.proofs.Common.{◌≡◌, ℕ, zero, suc, ◌+◌, ◌<◌, ◌≤◌, Bool, true, false, if◌then◌else◌, Option, Some, None, List, [], ◌∷◌, ◌++◌, length, map, refl, sym, ap, ◌∙◌, subst, arith, append_assoc, append-nil, codes, slice_get}
-use Rattle.std.specs.Prelude.{is_some, not, slice_index_or}
-use Rattle.std.specs.Cmp.Lexicographic.{same_text}
+use Rattle.std.proofs.Common.{◌≡◌, ℕ, zero, suc, ◌+◌, Bool, true, false, if◌then◌else◌, Option, Some, None, List, [], ◌∷◌, ◌++◌, length, map, refl, sym, ap, ◌∙◌, subst, arith, append_assoc, append-nil, codes, slice_get}
+use Rattle.std.specs.Prelude.{slice_index_or}
 use Rattle.std.proofs.lemmas.Cmp.{nat_list_eq_equiv}
 use Rattle.formula.specs.declared.definition.Heading.{Heading}
 use Rattle.formula.specs.declared.function.Arity.TheVariants.{Exactly}
@@ -9,7 +8,6 @@ use Rattle.formula.specs.declared.function.Func.TheVariants.{Defined}
 use Rattle.formula.specs.declared.head.Head.{Head}
 use Rattle.formula.specs.declared.head.Head.TheVariants.{EntryValue, Function}
 use Rattle.formula.specs.Atoms.{is_function_name, same_bytes}
-use Rattle.formula.specs.Headings.{heading_at}
 use Rattle.formula.specs.Reading.{all_built_ins, built_in_among, built_in_head, defined_among, head_named, heading_named, or_else}
 use Rattle.event_text.specs.TermText.{name_at}
 use Rattle.event_text.proofs.Told.{AreFound}

@@ -1,24 +1,24 @@
 -- A line of a definition tells the definition.
-use Rattle.std.proofs.Common.{◌≡◌, ℕ, ℤ, pos, zero, suc, ◌+◌, ◌<◌, ◌≤◌, ◌^◌, Bool, true, false, if◌then◌else◌, Option, Some, None, List, [], ◌∷◌, ◌++◌, length, map, refl, sym, ap, ◌∙◌, subst, arith, append_assoc, append-nil, codes}
+use Rattle.std.proofs.Common.{◌≡◌, ℕ, pos, suc, Bool, true, false, if◌then◌else◌, Option, Some, None, List, [], ◌∷◌, ◌++◌, length, refl, sym, ap, ◌∙◌, subst, arith, append_assoc, append-nil, codes}
 use Rattle.std.proofs.lemmas.Bool.Decides.{nat_tests}
 use Rattle.std.proofs.lemmas.Fmt.{decimal_digit}
 use Rattle.std.specs.Fmt.{decimal}
-use Rattle.std.specs.List.{list_all, list_any, flat_map}
+use Rattle.std.specs.List.{list_all, flat_map}
 use Rattle.std.specs.Prelude.{◌==◌, ◌&&◌, ◌||◌, not, nat_le}
 use Rattle.formula.specs.declared.definition.Heading.{Heading}
 use Rattle.formula.specs.declared.definition_fault.DefFault.{DefFault}
 use Rattle.formula.specs.declared.function.BuiltIn.TheVariants.{AtMost, If}
 use Rattle.formula.specs.declared.function.Func.TheVariants.{BuiltIn}
 use Rattle.formula.specs.declared.head.Head.{Head}
-use Rattle.formula.specs.Adding.{adding_fault, body_passes, has_names_of, has_one, is_known_name, is_known_use, recurs_well}
-use Rattle.formula.specs.Atoms.{has_twin, is_among, is_function_name, is_letter, is_name, is_name_byte, is_symbol, is_symbol_byte, same_bytes, starts}
+use Rattle.formula.specs.Adding.{adding_fault, body_passes, has_names_of, is_known_name, is_known_use, recurs_well}
+use Rattle.formula.specs.Atoms.{has_twin, is_function_name, is_letter, is_name, is_name_byte, is_symbol, is_symbol_byte, same_bytes, starts}
 use Rattle.formula.specs.Headings.{heading_with, is_headed}
 use Rattle.formula.specs.TermTests.{uses_pass}
 use Rattle.formula.specs.Reading.{head_named}
-use Rattle.formula.specs.Tree.{Tree, num, symbol, apply, none, more}
+use Rattle.formula.specs.Tree.{num, symbol, apply, none, more}
 use Rattle.formula.specs.Worth.{Function, FunctionBody, plain, counting}
 use Rattle.event_text.specs.EventText.{body_text, definition_line, spaced}
-use Rattle.event_text.specs.Readable.{body_term, in_full, is_parameter, reserved, IsReadableBody, IsReadableDefinition}
+use Rattle.event_text.specs.Readable.{body_term, in_full, is_parameter, IsReadableBody, IsReadableDefinition}
 use Rattle.event_text.specs.TermText.{term_text}
 use Rattle.event_text.proofs.FoundNames.{AreNew, are_found, heading_names}
 use Rattle.event_text.proofs.OneTerm.{one_term}

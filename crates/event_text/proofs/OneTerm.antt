@@ -1,9 +1,9 @@
 -- A text begins with one term.
-use Rattle.std.proofs.Common.{◌≡◌, ℕ, ◌+◌, ◌<◌, ◌≤◌, Bool, true, false, Option, Some, None, List, [], ◌∷◌, ◌++◌, length, refl, sym, ap, ◌∙◌, subst, arith}
+use Rattle.std.proofs.Common.{◌≡◌, ℕ, ◌+◌, false, Option, None, List, [], ◌++◌, length, sym, ap, ◌∙◌, subst, arith}
 use Rattle.formula.specs.declared.head.Head.{Head}
 use Rattle.formula.specs.Grammar.{BeginsWith}
 use Rattle.formula.specs.Reading.{Reading, got, fault, reads}
-use Rattle.formula.specs.Tokens.{tokens, tokens_from}
+use Rattle.formula.specs.Tokens.{tokens_from}
 use Rattle.formula.specs.Tree.{Tree, truth}
 use Rattle.formula.proofs.SpelledRead.{spelled_read}
 use Rattle.event_text.specs.TermText.{term_text}

@@ -1,17 +1,15 @@
 -- Lists with one text are alike.
-use Rattle.std.proofs.Common.{◌≡◌, ℕ, zero, suc, ◌+◌, ◌<◌, ◌≤◌, ◌^◌, Bool, true, false, if◌then◌else◌, Option, Some, None, List, [], ◌∷◌, ◌++◌, length, map, refl, sym, ap, ◌∙◌, subst, arith, append_assoc, append-nil, codes}
+use Rattle.std.proofs.Common.{◌≡◌, ℕ, ◌<◌, ◌^◌, Bool, true, false, if◌then◌else◌, Option, Some, None, List, [], ◌∷◌, ◌++◌, length, map, refl, sym, ap, ◌∙◌, subst, arith, append_assoc, append-nil, codes}
 use Rattle.std.proofs.lemmas.Fmt.{decimal_nonempty, digits_decimal}
 use Rattle.std.specs.Fmt.{decimal}
 use Rattle.std.specs.List.{All, flat_map, list_all, zip}
-use Rattle.std.specs.Prelude.{◌==◌, ◌&&◌, is_some, not}
+use Rattle.std.specs.Prelude.{◌==◌, is_some}
 use Rattle.formula.specs.declared.definition.Heading.{Heading}
 use Rattle.formula.specs.declared.definition_fault.DefFault.{DefFault}
 use Rattle.formula.specs.declared.head.Head.{Head}
-use Rattle.formula.specs.Adding.{adding_fault, body_passes, has_names_of, is_known_name, is_known_use, recurs_well}
-use Rattle.formula.specs.Atoms.{has_twin, is_digit, is_function_name}
-use Rattle.formula.specs.Headings.{heading_with, is_headed}
+use Rattle.formula.specs.Adding.{adding_fault, is_known_name}
+use Rattle.formula.specs.Atoms.{is_digit, is_function_name}
 use Rattle.formula.specs.Reading.{head_named}
-use Rattle.formula.specs.TermTests.{uses_pass}
 use Rattle.formula.specs.Worth.{Function, FunctionBody}
 use Rattle.fort_syntax.specs.Conditions.{ConditionTree}
 use Rattle.event_text.specs.declared.marks.Marks.{Marks}

@@ -1,9 +1,7 @@
 -- What can be read back is told by its text.
-use Rattle.std.proofs.Common.{◌≡◌, ℕ, ℤ, pos, negsuc, zero, suc, ◌+◌, ◌<◌, ◌≤◌, ◌^◌, Bool, true, false, if◌then◌else◌, Option, Some, None, List, [], ◌∷◌, ◌++◌, length, map, refl, sym, ap, ◌∙◌, subst, arith, codes, slice_get}
+use Rattle.std.proofs.Common.{◌≡◌, ℕ, ℤ, pos, negsuc, true, Option, Some, None, List, refl, arith, codes}
 use Rattle.std.proofs.lemmas.Bool.Decides.{nat_tests}
-use Rattle.std.specs.Prelude.{◌==◌, ◌&&◌, nat_lt, slice_index_or}
-use Rattle.std.specs.Cmp.Lexicographic.{same_text}
-use Rattle.std.proofs.lemmas.Cmp.{nat_list_eq_equiv}
+use Rattle.std.specs.Prelude.{◌==◌}
 use Rattle.formula.specs.declared.definition.Heading.{Heading}
 use Rattle.formula.specs.declared.function.Arity.TheVariants.{Exactly}
 use Rattle.formula.specs.declared.function.BuiltIn.{BuiltIn as Builtin}
@@ -12,14 +10,14 @@ use Rattle.formula.specs.declared.function.Func.{Func}
 use Rattle.formula.specs.declared.function.Func.TheVariants.{BuiltIn, Defined}
 use Rattle.formula.specs.declared.head.Head.{Head}
 use Rattle.formula.specs.declared.head.Head.TheVariants.{EntryValue, Function}
-use Rattle.formula.specs.Atoms.{is_function_name, is_symbol, same_bytes}
+use Rattle.formula.specs.Atoms.{is_function_name, is_symbol}
 use Rattle.formula.specs.Functions.{arity_of, fits_count, name_of}
 use Rattle.formula.specs.Headings.{has_count, heading_at, is_headed}
-use Rattle.formula.specs.Reading.{all_built_ins, built_in_among, defined_among, head_named, heading_named}
+use Rattle.formula.specs.Reading.{head_named}
 use Rattle.formula.specs.TermTests.{names_pass, numbers_pass, uses_pass, row_names_pass, row_numbers_pass, row_uses_pass, use_passes, functions_pass, row_functions_pass}
 use Rattle.formula.specs.Tree.{Tree, num, truth, symbol, old, apply, Row, none, more, row_count, takes}
 use Rattle.formula.specs.ReadableTerms.{is_short, IsReadableTerm}
-use Rattle.event_text.specs.TermText.{function_text, name_at}
+use Rattle.event_text.specs.TermText.{name_at}
 use Rattle.event_text.proofs.SpelledNumbers.{IsShort, number_spelled}
 use Rattle.event_text.proofs.SpelledTerms.{IsTold, IsToldRow, Knows}
 use Rattle.event_text.proofs.Tests.{first_of_both, second_of_both}
