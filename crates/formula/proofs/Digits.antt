@@ -100,3 +100,24 @@ figures_short ds figures e h =
     let same = ap length e in
     let few : length (without_zeros ds) ≤ 18 = grind (arith, nat_tests) in
     omega arith
+
+-- ---- digits without a loop
+
+spells_all : (figures : List ℕ) (i : ℕ) → list_all is_digit figures ≡ true → length figures ≤ 18 → i ≤ length figures → Spells figures i (spelled (take i figures))
+spells_all figures zero all short le = record { so_far = refl; small = omega arith }
+spells_all figures (suc i) all short le =
+    let h = one_more figures i (spelled (take i figures)) all (omega arith) short (spells_all figures i all short (omega arith)) in
+    let next : suc i ≡ i + 1 = omega arith in
+    let s = h.3 in
+    record { so_far = refl; small = let small = s.small in let same = s.so_far in let e = ap (λ k. spelled (take k figures)) next in let p = ap (λ k. 10 ^ k) next in omega arith }
+
+-- at most 18 digits after the leading zeros spell a number below 10^18
+pub short_number : (ds : List ℕ) → is_digits ds ≡ true → is_long ds ≡ false → spelled ds < 10 ^ 18
+short_number ds digits short =
+    let figures = without_zeros ds in
+    let few = figures_short ds figures refl short in
+    let all = figures_all ds figures refl digits in
+    let h = figures_spell ds figures (spelled (take (length figures) figures)) refl few (spells_all figures (length figures) all few (omega arith)) in
+    let same = h.0 in
+    let small = h.1 in
+    omega arith

@@ -6,7 +6,8 @@ use Rattle.std.proofs.lemmas.Bool.Decides.{nat_tests}
 use Rattle.formula.specs.declared.function.Func.{Func}
 use Rattle.formula.specs.declared.function.Func.TheVariants.{BuiltIn, Defined}
 use Rattle.formula.specs.declared.value.Value.{Value}
-use Rattle.formula.specs.Adding.{use_passes, uses_pass, row_uses_pass, body_passes, is_known_use, is_other, first_is_one_less, counts_down, has_one, recurs_well}
+use Rattle.formula.specs.Adding.{body_passes, is_known_use, is_other, first_is_one_less, counts_down, has_one, recurs_well}
+use Rattle.formula.specs.TermTests.{use_passes, uses_pass, row_uses_pass}
 use Rattle.formula.specs.Bounded.{chosen, function_at}
 use Rattle.formula.specs.Tree.{Tree, num as number, truth, symbol, old, apply, Row, none, more}
 use Rattle.formula.specs.Values.{num, count}

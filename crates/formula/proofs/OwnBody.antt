@@ -8,7 +8,8 @@ use Rattle.std.proofs.lemmas.Int.{ints}
 use Rattle.formula.specs.declared.function.BuiltIn.TheVariants.{Difference}
 use Rattle.formula.specs.declared.function.Func.TheVariants.{BuiltIn}
 use Rattle.formula.specs.declared.value.Value.{Value}
-use Rattle.formula.specs.Adding.{uses_pass, is_other, is_one_less, first_is_one_less, counts_down, has_one, recurs_well}
+use Rattle.formula.specs.Adding.{is_other, is_one_less, first_is_one_less, counts_down, has_one, recurs_well}
+use Rattle.formula.specs.TermTests.{uses_pass}
 use Rattle.formula.specs.Atoms.{same_bytes}
 use Rattle.formula.specs.Bounded.{chosen}
 use Rattle.formula.specs.Tree.{Tree, num as number, symbol, apply, Row, none, more}

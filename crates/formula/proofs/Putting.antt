@@ -1,6 +1,8 @@
 -- A pool after a node is put in.
-use Rattle.std.proofs.Common.{◌≡◌, Bool, true, false, List, [], ◌∷◌, ◌++◌, refl, sym, ap, ◌∙◌, inl, inr, ◌⊎◌, true≢false, if◌then◌else◌, Contains, subst, slice_get, Some}
-use Rattle.std.specs.List.{list_any}
+use Rattle.std.proofs.Common.{◌≡◌, ℕ, ◌+◌, ◌<◌, ◌^◌, Bool, true, false, List, [], ◌∷◌, ◌++◌, length, refl, sym, ap, ◌∙◌, true≢false, if◌then◌else◌, Contains, subst, slice_get, Some, get_or, arith, length-append}
+use Rattle.std.specs.List.{list_any, position}
+use Rattle.std.proofs.lemmas.List.Quantifiers.{position-Some}
+use Rattle.std.proofs.lemmas.Option.{slice_get-get_or}
 use Rattle.std.proofs.lemmas.Map.Views.{list_any-from_Contains}
 use Rattle.indexmap.specs.IndexSet.{insert_key}
 use Rattle.indexmap.proofs.CallerLemmas.{Contains-list_any}
@@ -8,46 +10,56 @@ use Rattle.formula.specs.declared.node.Node.{Node}
 use Rattle.formula.specs.declared.node.TermId.{TermId}
 use Rattle.formula.specs.contracts.node.NodePartialEq.TheImpl.{ghosts as node_ghosts}
 use Rattle.formula.specs.contracts.node.NodeEq.TheImpl.Laws.{laws-law}
-use Rattle.formula.specs.Pool.{HasArguments, IsPool, Grows, trees, tree_in, tree_of}
+use Rattle.formula.specs.Pool.{HasArguments, IsPool, IsSound, Grows, trees, tree_in, tree_of}
 use Rattle.formula.proofs.Same.{same_node}
 use Rattle.formula.proofs.Growth.{IsPool-append, tree_at-trees, tree_in-append}
-use Rattle.formula.proofs.Grown.{Grows-same, trees-Grows}
+use Rattle.formula.proofs.Grown.{trees-Grows}
 
--- it was there, or it was added
-abbrev pub Put : List Node → List Node → Node → Type 0
-Put nodes after node = (Contains nodes node × (after ≡ nodes)) ⊎ (¬ Contains nodes node × (after ≡ nodes ++ node ∷ []))
-
-by_test : (nodes after : List Node) (node : Node) (b : Bool) → list_any (node_ghosts.eq node) nodes ≡ b → after ≡ (if b then nodes else nodes ++ node ∷ []) → Put nodes after node
-by_test nodes after node true was e = inl (Contains-list_any node_ghosts.eq same_node nodes node was, e)
-by_test nodes after node false was e = inr (λ there. true≢false (sym (list_any-from_Contains laws-law node nodes there) ∙ was), e)
-
-pub put : (nodes after : List Node) (node : Node) → after ≡ insert_key node_ghosts.eq nodes node → Put nodes after node
-put nodes after node e = by_test nodes after node (list_any (node_ghosts.eq node) nodes) refl e
-
-pub IsPool-put : (nodes after : List Node) (node : Node) → Put nodes after node → IsPool [] nodes → HasArguments (trees nodes) node → IsPool [] after
-IsPool-put nodes after node (inl p) ok h = subst (IsPool []) (sym p.1) ok
-IsPool-put nodes after node (inr p) ok h = subst (IsPool []) (sym p.1) (IsPool-append [] nodes node ok h)
-
-pub Grows-put : (nodes after : List Node) (node : Node) → Put nodes after node → Grows nodes after
-Grows-put nodes after node (inl p) = Grows-same nodes after p.1
-Grows-put nodes after node (inr p) = record { added = node ∷ []; is = p.1 }
-
-pub held : (nodes after : List Node) (node : Node) → Put nodes after node → Contains nodes node → after ≡ nodes
-held nodes after node (inl p) there = p.1
-held nodes after node (inr p) there = absurd (p.0 there)
-
-pub added : (nodes after : List Node) (node : Node) → Put nodes after node → ¬ Contains nodes node → after ≡ nodes ++ node ∷ []
-added nodes after node (inl p) not_there = absurd (not_there p.0)
-added nodes after node (inr p) not_there = p.1
+-- ---- a node that is looked up
 
 -- where a test finds no equal node, there is none
 pub absent : (nodes : List Node) (node : Node) → list_any (node_ghosts.eq node) nodes ≡ false → ¬ Contains nodes node
 absent nodes node was there = true≢false (sym (list_any-from_Contains laws-law node nodes there) ∙ was)
 
--- the tree of the node at its place is that over the earlier trees
-pub tree_of-put : (nodes after : List Node) (node : Node) (id : TermId) → Put nodes after node → IsPool [] nodes → HasArguments (trees nodes) node
+-- where it finds one, there is one
+pub present : (nodes : List Node) (node : Node) → list_any (node_ghosts.eq node) nodes ≡ true → Contains nodes node
+present nodes node was = Contains-list_any node_ghosts.eq same_node nodes node was
+
+-- and the node at the place that it finds is that node
+pub known_at : (nodes : List Node) (node : Node) (place : ℕ) → Some place ≡ position (node_ghosts.eq node) nodes → slice_get nodes place ≡ Some node
+known_at nodes node place e =
+    let r = position-Some (node_ghosts.eq node) nodes place node (sym e) in
+    slice_get-get_or nodes place node r.0 ∙ ap Some (sym (same_node node (get_or nodes place node) r.1))
+
+-- ---- a node that is put behind the others
+
+by_test : (nodes after : List Node) (node : Node) (b : Bool) → list_any (node_ghosts.eq node) nodes ≡ b → ¬ Contains nodes node → after ≡ (if b then nodes else nodes ++ node ∷ []) → after ≡ nodes ++ node ∷ []
+by_test nodes after node true was unknown e = absurd (unknown (present nodes node was))
+by_test nodes after node false was unknown e = e
+
+pub behind : (nodes after : List Node) (node : Node) → ¬ Contains nodes node → after ≡ insert_key node_ghosts.eq nodes node → after ≡ nodes ++ node ∷ []
+behind nodes after node unknown e = by_test nodes after node (list_any (node_ghosts.eq node) nodes) refl unknown e
+
+pub Grows-behind : (nodes after : List Node) (node : Node) → after ≡ nodes ++ node ∷ [] → Grows nodes after
+Grows-behind nodes after node e = record { added = node ∷ []; is = e }
+
+pub IsSound-behind : (nodes after : List Node) (node : Node) → after ≡ nodes ++ node ∷ [] → length nodes + 1 < 2 ^ 32 → IsSound nodes → HasArguments (trees nodes) node → IsSound after
+IsSound-behind nodes after node e short ok h = record {
+  pool = subst (IsPool []) (sym e) (IsPool-append [] nodes node ok.pool h);
+  small = let long : length after ≡ length (nodes ++ node ∷ []) = ap length e in omega (arith, simp length-append at long);
+}
+
+last-there : (nodes : List Node) (node : Node) → slice_get (nodes ++ node ∷ []) (length nodes) ≡ Some node
+last-there [] node = refl
+last-there (x ∷ nodes) node = last-there nodes node
+
+pub last-behind : (nodes after : List Node) (node : Node) → after ≡ nodes ++ node ∷ [] → slice_get after (length nodes) ≡ Some node
+last-behind nodes after node e = ap (λ ns. slice_get ns (length nodes)) e ∙ last-there nodes node
+
+-- its tree is that over the earlier trees
+pub tree_of-behind : (nodes after : List Node) (node : Node) (id : TermId) → after ≡ nodes ++ node ∷ [] → IsPool [] nodes → HasArguments (trees nodes) node
     → slice_get after id.place ≡ Some node → tree_of after id ≡ tree_in (trees nodes) node
-tree_of-put nodes after node id p ok h got =
-    let r = trees-Grows nodes after (Grows-put nodes after node p) in
-    tree_at-trees after id.place node (IsPool-put nodes after node p ok h) got
+tree_of-behind nodes after node id e ok h got =
+    let r = trees-Grows nodes after (Grows-behind nodes after node e) in
+    tree_at-trees after id.place node (subst (IsPool []) (sym e) (IsPool-append [] nodes node ok h)) got
     ∙ ap (λ ts. tree_in ts node) r.1 ∙ tree_in-append (trees nodes) r.0 node h

@@ -3,7 +3,7 @@ use Rattle.std.proofs.Common.{◌≡◌, ℕ, suc, ◌+◌, ◌-◌, ◌<◌, �
 use Rattle.std.proofs.lemmas.Bool.Decides.{nat_tests}
 use Rattle.std.specs.Prelude.{◌≢◌, ◌==◌, ◌&&◌, not, slice_range}
 use Rattle.std.proofs.Math.Seq.{take-suc, drop-length}
-use Rattle.formula.specs.Tokens.{Placed, opening, closing, atom, placed, ended, tokens_from, is_atom_byte}
+use Rattle.formula.specs.Tokens.{Lexeme, opening, closing, atom, lexeme, ended, tokens_from, is_atom_byte}
 
 front : (s : List ℕ) (i b : ℕ) → i < length s → get_or s i 0 ≡ b → drop i s ≡ b ∷ drop (i + 1) s
 front s i b lt h =
@@ -14,10 +14,10 @@ front s i b lt h =
 pub blank_passed : (s : List ℕ) (i : ℕ) → i < length s → get_or s i 0 ≡ 32 → tokens_from i [] (drop i s) ≡ tokens_from (i + 1) [] (drop (i + 1) s)
 blank_passed s i lt h = ap (tokens_from i []) (front s i 32 lt h)
 
-pub opening_next : (s : List ℕ) (i : ℕ) → i < length s → get_or s i 0 ≡ 40 → tokens_from i [] (drop i s) ≡ placed opening (i + 1) ∷ tokens_from (i + 1) [] (drop (i + 1) s)
+pub opening_next : (s : List ℕ) (i : ℕ) → i < length s → get_or s i 0 ≡ 40 → tokens_from i [] (drop i s) ≡ lexeme opening (i + 1) ∷ tokens_from (i + 1) [] (drop (i + 1) s)
 opening_next s i lt h = ap (tokens_from i []) (front s i 40 lt h)
 
-pub closing_next : (s : List ℕ) (i : ℕ) → i < length s → get_or s i 0 ≡ 41 → tokens_from i [] (drop i s) ≡ placed closing (i + 1) ∷ tokens_from (i + 1) [] (drop (i + 1) s)
+pub closing_next : (s : List ℕ) (i : ℕ) → i < length s → get_or s i 0 ≡ 41 → tokens_from i [] (drop i s) ≡ lexeme closing (i + 1) ∷ tokens_from (i + 1) [] (drop (i + 1) s)
 closing_next s i lt h = ap (tokens_from i []) (front s i 41 lt h)
 
 fourth : {X : Type 0} (x y z : Bool) (a b c d : X) → (not x && not y && not z) ≡ true → (if x then a else if y then b else if z then c else d) ≡ d
@@ -39,20 +39,20 @@ first_three f false true z a b c d e h = refl
 first_three f false false true a b c d e h = refl
 first_three f false false false a b c d e h = cc
 
-whole : (p : List ℕ) (at : ℕ) (rest : List Placed) → 0 < length p → ended p at rest ≡ placed (atom p) at ∷ rest
+whole : (p : List ℕ) (at : ℕ) (rest : List Lexeme) → 0 < length p → ended p at rest ≡ lexeme (atom p) at ∷ rest
 whole [] at rest h = absurd (omega arith)
 whole (b ∷ p) at rest h = refl
 
-over : (s p : List ℕ) (i : ℕ) → i < length s → is_atom_byte (get_or s i 0) ≡ false → 0 < length p → tokens_from i p (drop i s) ≡ placed (atom p) i ∷ tokens_from i [] (drop i s)
+over : (s p : List ℕ) (i : ℕ) → i < length s → is_atom_byte (get_or s i 0) ≡ false → 0 < length p → tokens_from i p (drop i s) ≡ lexeme (atom p) i ∷ tokens_from i [] (drop i s)
 over s p i lt h some =
     let b = get_or s i 0 in
     let e = front s i b lt refl in
-    ap (tokens_from i p) e ∙ first_three (λ r. ended p i r) (b == 32) (b == 40) (b == 41) _ _ _ _ _ h ∙ whole p i _ some ∙ ap (λ r. placed (atom p) i ∷ tokens_from i [] r) (sym e)
+    ap (tokens_from i p) e ∙ first_three (λ r. ended p i r) (b == 32) (b == 40) (b == 41) _ _ _ _ _ h ∙ whole p i _ some ∙ ap (λ r. lexeme (atom p) i ∷ tokens_from i [] r) (sym e)
 
-last : (s p : List ℕ) (i : ℕ) → i ≡ length s → 0 < length p → tokens_from i p (drop i s) ≡ placed (atom p) i ∷ tokens_from i [] (drop i s)
+last : (s p : List ℕ) (i : ℕ) → i ≡ length s → 0 < length p → tokens_from i p (drop i s) ≡ lexeme (atom p) i ∷ tokens_from i [] (drop i s)
 last s p i e some =
     let none : drop i s ≡ [] = ap (λ n. drop n s) e ∙ drop-length s in
-    ap (tokens_from i p) none ∙ whole p i [] some ∙ ap (λ r. placed (atom p) i ∷ tokens_from i [] r) (sym none)
+    ap (tokens_from i p) none ∙ whole p i [] some ∙ ap (λ r. lexeme (atom p) i ∷ tokens_from i [] r) (sym none)
 
 -- no token stands behind a text
 pub none_left : (s : List ℕ) (i : ℕ) → i ≤ length s → length s ≤ i → tokens_from i [] (drop i s) ≡ []
@@ -85,12 +85,12 @@ some_taken s start i lt le = simp (length-take, length-drop) (omega arith)
 
 -- an atom ends before another byte
 pub atom_over : (s : List ℕ) (start i : ℕ) → start < i → i < length s → is_atom_byte (get_or s i 0) ≡ false
-    → tokens_from i (slice_range s start i) (drop i s) ≡ placed (atom (slice_range s start i)) i ∷ tokens_from i [] (drop i s)
+    → tokens_from i (slice_range s start i) (drop i s) ≡ lexeme (atom (slice_range s start i)) i ∷ tokens_from i [] (drop i s)
 atom_over s start i lt within h = over s (slice_range s start i) i within h (some_taken s start i lt (omega arith))
 
 -- an atom ends with the text
 pub atom_last : (s : List ℕ) (start i : ℕ) → start < i → i ≤ length s → length s ≤ i
-    → tokens_from i (slice_range s start i) (drop i s) ≡ placed (atom (slice_range s start i)) i ∷ tokens_from i [] (drop i s)
+    → tokens_from i (slice_range s start i) (drop i s) ≡ lexeme (atom (slice_range s start i)) i ∷ tokens_from i [] (drop i s)
 atom_last s start i lt le ge = last s (slice_range s start i) i (omega arith) (some_taken s start i lt le)
 
 -- a byte that is neither a blank nor a bracket is an atom's

@@ -1,6 +1,6 @@
 -- What a token leads to.
 use Rattle.std.proofs.Common.{◌≡◌, ℕ, ◌<◌, ◌≤◌, Bool, true, false, List, [], ◌∷◌, ◌++◌, length, refl, sym, ap, ◌∙◌, subst, arith, length-append}
-use Rattle.std.specs.Prelude.{◌≢◌, ◌&&◌, nat_le}
+use Rattle.std.specs.Prelude.{◌≢◌, ◌&&◌, Option}
 use Rattle.formula.specs.declared.fault.ReadFault.TheVariants.{BadAtom, BadCount, TooDeep}
 use Rattle.formula.specs.declared.function.BuiltIn.{BuiltIn as Builtin}
 use Rattle.formula.specs.declared.function.BuiltIn.TheVariants.{Blank}
@@ -10,11 +10,10 @@ use Rattle.formula.specs.declared.node.TermId.{TermId}
 use Rattle.formula.specs.declared.open_calls.OpenCall.{OpenCall}
 use Rattle.formula.specs.declared.open_calls.Due.TheVariants.{Term}
 use Rattle.formula.specs.Functions.{arity_of, fits_count}
-use Rattle.formula.specs.Tree.{Tree, Row, is_blank_row, takes, row_of, row_count}
+use Rattle.formula.specs.Tree.{Tree, Row, is_blank_row, takes, tree_row, row_count}
 use Rattle.formula.specs.Pool.{AllBelow, Grows, IsIn, tree_at, tree_of, trees, row_in}
-use Rattle.formula.specs.Reading.{Frame, going, stopped, given, entry_closed, closed_read, opened_read, is_entry, is_empty_list, wants_symbol}
+use Rattle.formula.specs.Reading.{Frame, going, stopped, given, entry_closed, closed_read, opened_read, is_deepest, is_entry, is_empty_list, wants_symbol}
 use Rattle.formula.specs.OpenCalls.{trees_in, frames_of, state_of, CallsBelow, Stands}
-use Rattle.std.proofs.lemmas.Bool.Decides.{nat_tests}
 use Rattle.formula.proofs.Grown.{tree_of-Grows}
 
 -- ---- trees of ids
@@ -27,9 +26,9 @@ pub length-trees_in : (ts : List Tree) (ids : List TermId) → length (trees_in 
 length-trees_in ts [] = refl
 length-trees_in ts (id ∷ ids) = let h = length-trees_in ts ids in omega arith
 
-pub row_of-trees_in : (ts : List Tree) (ids : List TermId) → row_of (trees_in ts ids) ≡ row_in ts ids
-row_of-trees_in ts [] = refl
-row_of-trees_in ts (id ∷ ids) = ap (λ r. Row.more (tree_at ts id.place) r) (row_of-trees_in ts ids)
+pub tree_row-trees_in : (ts : List Tree) (ids : List TermId) → tree_row (trees_in ts ids) ≡ row_in ts ids
+tree_row-trees_in ts [] = refl
+tree_row-trees_in ts (id ∷ ids) = ap (λ r. Row.more (tree_at ts id.place) r) (tree_row-trees_in ts ids)
 
 pub row_count-row_in : (ts : List Tree) (ids : List TermId) → row_count (row_in ts ids) ≡ length ids
 row_count-row_in ts [] = refl
@@ -108,7 +107,7 @@ kept pool calls calls' rest call call' id e e' head items within below =
     )
 
 -- ids and their trees, counted
-pub ruleset counts = (length-trees_in, row_of-trees_in, row_count-row_in)
+pub ruleset counts = (length-trees_in, tree_row-trees_in, row_count-row_in)
 
 -- BLANK and OLD take one argument
 pub blank_takes_one : (ts : List Tree) (ids : List TermId) → length ids ≢ 1 → is_blank_row (row_in ts ids) ≡ false
@@ -133,18 +132,17 @@ length-frames_of : (ts : List Tree) (calls : List OpenCall) → length (frames_o
 length-frames_of ts [] = refl
 length-frames_of ts (c ∷ calls) = let h = length-frames_of ts calls in omega arith
 
--- at most 64 brackets are open
-pub opened_deep : (ts : List Tree) (calls : List OpenCall) → wants_symbol (frames_of ts calls) ≡ false → 64 ≤ length calls → opened_read (frames_of ts calls) ≡ stopped TooDeep
-opened_deep ts calls h deep =
-    let same = length-frames_of ts calls in
-    let test : nat_le 64 (length (frames_of ts calls)) ≡ true = grind (arith, nat_tests) in
+-- one more bracket where as many are open as may be, and where there is room
+pub opened_deep : (limit : Option ℕ) (ts : List Tree) (calls : List OpenCall) → wants_symbol (frames_of ts calls) ≡ false → is_deepest limit (length calls) ≡ true
+    → opened_read limit (frames_of ts calls) ≡ stopped TooDeep
+opened_deep limit ts calls h deep =
+    let test : is_deepest limit (length (frames_of ts calls)) ≡ true = ap (is_deepest limit) (length-frames_of ts calls) ∙ deep in
     rw (h, test) refl
 
-pub opened_room : (ts : List Tree) (calls : List OpenCall) → wants_symbol (frames_of ts calls) ≡ false → length calls < 64
-    → opened_read (frames_of ts calls) ≡ going (record { naming = true; frames = frames_of ts calls })
-opened_room ts calls h room =
-    let same = length-frames_of ts calls in
-    let test : nat_le 64 (length (frames_of ts calls)) ≡ false = grind (arith, nat_tests) in
+pub opened_room : (limit : Option ℕ) (ts : List Tree) (calls : List OpenCall) → wants_symbol (frames_of ts calls) ≡ false → is_deepest limit (length calls) ≡ false
+    → opened_read limit (frames_of ts calls) ≡ going (record { naming = true; frames = frames_of ts calls })
+opened_room limit ts calls h room =
+    let test : is_deepest limit (length (frames_of ts calls)) ≡ false = ap (is_deepest limit) (length-frames_of ts calls) ∙ room in
     rw (h, test) refl
 
 -- a bracket where the symbol of an OLD is due

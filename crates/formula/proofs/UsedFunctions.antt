@@ -6,11 +6,15 @@ use Rattle.formula.specs.declared.definition.Definition.{Definition}
 use Rattle.formula.specs.declared.node.Node.{Node}
 use Rattle.formula.specs.declared.value.Value.{Value}
 use Rattle.formula.specs.declared.value.Value.TheVariants.{Undefined}
-use Rattle.formula.specs.Adding.{uses_pass, body_passes, is_known_use, is_known_name, is_right_count, recurs_well, adding_fault, AreAddedTo, AreAdded}
+use Rattle.formula.specs.Adding.{body_passes, is_known_use, is_known_name, recurs_well, adding_fault, AreAddedTo, AreAdded}
+use Rattle.formula.specs.TermTests.{uses_pass}
+use Rattle.formula.specs.Headings.{heading_with, heading_of, is_headed}
+use Rattle.formula.specs.declared.definition.Heading.{Heading}
 use Rattle.formula.specs.Bounded.{chosen, function_at}
 use Rattle.formula.specs.Tree.{Tree}
-use Rattle.formula.specs.Worth.{Uses, FunctionBody, plain, counting, Function, body_of, functions_of, worth_by, worths_by, bound_to, nothing_known, with_use, body_worth, used_from, used}
+use Rattle.formula.specs.Worth.{Uses, FunctionBody, plain, counting, Function, body_of, function_of, functions_of, worth_by, worths_by, bound_to, nothing_known, with_use, body_worth, used_from, used}
 use Rattle.formula.specs.WorthLaws.{term_worth, IsMeaning}
+use Rattle.formula.proofs.Added.{failed, passed}
 use Rattle.formula.proofs.UsesAgree.{uses_agree}
 use Rattle.formula.proofs.OwnBody.{at_own, at_other, own_worth}
 
@@ -26,28 +30,20 @@ AreSound k (f ∷ rest) = IsSound k f × AreSound (suc k) rest
 
 -- ---- what was added is sound
 
-passed : {F : Type 0} (test : Bool) (fault : F) (rest : Option F) → (if not test then Some fault else rest) ≡ None → (test ≡ true) × (rest ≡ None)
-passed true fault rest e = (refl, e)
-passed false fault rest e = absurd (cc)
-
-failed : {F : Type 0} (test : Bool) (fault : F) (rest : Option F) → (if test then Some fault else rest) ≡ None → rest ≡ None
-failed true fault rest e = absurd (cc)
-failed false fault rest e = e
-
-sound : (earlier : List Definition) (name : List ℕ) (params : List (List ℕ)) (body : FunctionBody) → adding_fault earlier name params body ≡ None
-    → IsSound (suc (length earlier)) (record { params = params; body = body })
+sound : (earlier : List Heading) (name : List ℕ) (params : List (List ℕ)) (body : FunctionBody) → adding_fault earlier name params body ≡ None
+    → IsSound (suc (length earlier)) (record { name = name; params = params; body = body })
 sound earlier name params body e =
     let a = failed (is_known_name earlier name) _ _ e in
     let b = passed (body_passes (uses_pass (is_known_use (suc (length earlier)))) body) _ _ a in
-    let c = passed (body_passes (uses_pass (is_right_count earlier (length params))) body) _ _ b.1 in
+    let c = passed (body_passes (uses_pass (is_headed (earlier ++ heading_with name params ∷ []))) body) _ _ b.1 in
     let d = passed (recurs_well (suc (length earlier)) params body) _ _ c.1 in
     record { known = b.0; recurs = d.0 }
 
-all_sound : (pool : List Node) (earlier ds : List Definition) (k : ℕ) → k ≡ suc (length earlier) → AreAddedTo pool earlier ds → AreSound k (functions_of pool ds)
+all_sound : (pool : List Node) (earlier : List Heading) (ds : List Definition) (k : ℕ) → k ≡ suc (length earlier) → AreAddedTo pool earlier ds → AreSound k (functions_of pool ds)
 all_sound pool earlier [] k e h = tt
 all_sound pool earlier (d ∷ ds) k e h =
-    let this : IsSound k (record { params = d.params; body = body_of pool d.body }) = subst (λ j. IsSound j (record { params = d.params; body = body_of pool d.body })) (sym e) (sound earlier d.name d.params (body_of pool d.body) h.0.1) in
-    (this, all_sound pool (earlier ++ d ∷ []) ds (suc k) (simp length-append (omega arith)) h.1)
+    let this : IsSound k (function_of pool d) = subst (λ j. IsSound j (function_of pool d)) (sym e) (sound earlier d.name d.params (body_of pool d.body) h.0.1) in
+    (this, all_sound pool (earlier ++ heading_of d ∷ []) ds (suc k) (simp length-append (omega arith)) h.1)
 
 -- ---- the uses of a number
 

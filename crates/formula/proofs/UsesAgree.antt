@@ -3,7 +3,7 @@ use Rattle.std.proofs.Common.{◌≡◌, ℕ, Bool, true, ◌∷◌, refl, ap, �
 use Rattle.std.specs.Cmp.{first_so, second_so}
 use Rattle.formula.specs.declared.function.Func.{Func}
 use Rattle.formula.specs.declared.function.Func.TheVariants.{BuiltIn, Defined}
-use Rattle.formula.specs.Adding.{use_passes, uses_pass, row_uses_pass}
+use Rattle.formula.specs.TermTests.{use_passes, uses_pass, row_uses_pass}
 use Rattle.formula.specs.Tree.{Tree, num, truth, symbol, old, apply, Row, none, more}
 use Rattle.formula.specs.Values.{applied}
 use Rattle.formula.specs.Worth.{Uses, Valuation, function_worth, worth_by, worths_by}

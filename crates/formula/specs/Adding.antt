@@ -1,53 +1,22 @@
 -- Which definitions may be added to others, and the first fault of one that may not.
-use Rattle.std.specs.Prelude.{ℕ, zero, suc, ◌≡◌, ◌==◌, ◌&&◌, ◌||◌, nat_le, nat_lt, Bool, true, false, not, is_some, if◌then◌else◌, pos, List, [], ◌∷◌, ◌++◌, length, Option, Some, None, slice_get}
-use Rattle.std.specs.List.{list_any}
+use Rattle.std.specs.Prelude.{ℕ, zero, suc, ◌≡◌, ◌==◌, ◌&&◌, nat_le, nat_lt, Bool, true, false, not, is_some, if◌then◌else◌, pos, List, [], ◌∷◌, ◌++◌, length, Option, Some, None, slice_get}
 use Rattle.std.specs.Ordering.{int_eq}
 use Rattle.formula.specs.declared.function.BuiltIn.TheVariants.{Difference}
-use Rattle.formula.specs.declared.function.Func.{Func}
-use Rattle.formula.specs.declared.function.Func.TheVariants.{BuiltIn, Defined}
+use Rattle.formula.specs.declared.function.Func.TheVariants.{BuiltIn}
 use Rattle.formula.specs.declared.definition.Body.{Body}
 use Rattle.formula.specs.declared.definition.Body.TheVariants.{Plain, Counting}
 use Rattle.formula.specs.declared.definition.Definition.{Definition}
+use Rattle.formula.specs.declared.definition.Heading.{Heading}
 use Rattle.formula.specs.declared.definition_fault.DefFault.{DefFault}
 use Rattle.formula.specs.declared.definition_fault.DefFault.TheVariants.{KnownName, UnknownFunction, BadCount, BadRecursion, FreeName, SameParameter}
 use Rattle.formula.specs.declared.node.Node.{Node}
-use Rattle.formula.specs.Atoms.{same_bytes}
+use Rattle.formula.specs.Atoms.{same_bytes, is_among, has_twin}
+use Rattle.formula.specs.Headings.{heading_with, heading_of, is_headed}
 use Rattle.formula.specs.Pool.{Grows, IsIn}
 use Rattle.formula.specs.Reading.{head_named}
-use Rattle.formula.specs.Tree.{Tree, num, truth, symbol, old, apply, Row, none, more, row_count}
+use Rattle.formula.specs.TermTests.{names_pass, uses_pass}
+use Rattle.formula.specs.Tree.{Tree, num, symbol, apply, Row, none, more}
 use Rattle.formula.specs.Worth.{FunctionBody, plain, counting, body_of}
-
--- ---- tests of all uses and of all symbols of a term
-
-abbrev pub use_passes : (ℕ → Row → Bool) → Func → Row → Bool
-use_passes test (BuiltIn f) row = true
-use_passes test (Defined k) row = test k row
-
-abbrev mutual
-  -- each use of a definition passes a test of its number and its arguments
-  pub uses_pass : (ℕ → Row → Bool) → Tree → Bool
-  uses_pass test (num z) = true
-  uses_pass test (truth b) = true
-  uses_pass test (symbol s) = true
-  uses_pass test (old s) = true
-  uses_pass test (apply f row) = use_passes test f row && row_uses_pass test row
-
-  pub row_uses_pass : (ℕ → Row → Bool) → Row → Bool
-  row_uses_pass test none = true
-  row_uses_pass test (more t rest) = uses_pass test t && row_uses_pass test rest
-
-abbrev mutual
-  -- each symbol passes a test, and no entry value stands in the term
-  pub symbols_pass : (List ℕ → Bool) → Tree → Bool
-  symbols_pass test (num z) = true
-  symbols_pass test (truth b) = true
-  symbols_pass test (symbol s) = test s
-  symbols_pass test (old s) = false
-  symbols_pass test (apply f row) = row_symbols_pass test row
-
-  pub row_symbols_pass : (List ℕ → Bool) → Row → Bool
-  row_symbols_pass test none = true
-  row_symbols_pass test (more t rest) = symbols_pass test t && row_symbols_pass test rest
 
 -- each term of a body passes a test
 abbrev pub body_passes : (Tree → Bool) → FunctionBody → Bool
@@ -59,21 +28,6 @@ body_passes test (counting base step) = test base && test step
 -- an earlier definition, or the one that is added, which has the number k
 abbrev pub is_known_use : ℕ → ℕ → Row → Bool
 is_known_use k j row = nat_lt 0 j && nat_le j k
-
--- the number of arguments that a definition takes is n, where there is one
-abbrev pub has_params : ℕ → Option Definition → Bool
-has_params n None = false
-has_params n (Some d) = length d.params == n
-
--- the definition of a number
-abbrev pub definition_at : List Definition → ℕ → Option Definition
-definition_at ds zero = None
-definition_at ds (suc k) = slice_get ds k
-
--- the number of arguments is that of the parameters; the definition that is added has `own` parameters
-abbrev pub is_right_count : List Definition → ℕ → ℕ → Row → Bool
-is_right_count earlier own j row =
-    if j == suc (length earlier) then row_count row == own else has_params (row_count row) (definition_at earlier j)
 
 -- another definition than that of number k
 abbrev pub is_other : ℕ → ℕ → Row → Bool
@@ -101,30 +55,31 @@ abbrev pub recurs_well : ℕ → List (List ℕ) → FunctionBody → Bool
 recurs_well k params (plain t) = uses_pass (is_other k) t
 recurs_well k params (counting base step) = has_one params && (uses_pass (is_other k) base && uses_pass (counts_down k params) step)
 
-abbrev pub is_among : List (List ℕ) → List ℕ → Bool
-is_among words s = list_any (same_bytes s) words
-
--- some word stands twice
-abbrev pub has_same : List (List ℕ) → Bool
-has_same [] = false
-has_same (w ∷ ws) = is_among ws w || has_same ws
+-- each symbol is one of these, and no entry value stands in the term
+abbrev pub has_names_of : List (List ℕ) → Tree → Bool
+has_names_of params t = names_pass (λ s. is_among s params) (λ s. false) t
 
 -- a name is that of a built-in function or of an earlier definition, or OLD
-abbrev pub is_known_name : List Definition → List ℕ → Bool
+abbrev pub is_known_name : List Heading → List ℕ → Bool
 is_known_name earlier name = is_some (head_named earlier None name)
 
 -- the first fault, by the order of the list, of a definition after earlier ones
-abbrev pub adding_fault : List Definition → List ℕ → List (List ℕ) → FunctionBody → Option DefFault
+abbrev pub adding_fault : List Heading → List ℕ → List (List ℕ) → FunctionBody → Option DefFault
 adding_fault earlier name params body =
     if is_known_name earlier name then Some KnownName
     else if not (body_passes (uses_pass (is_known_use (suc (length earlier)))) body) then Some UnknownFunction
-    else if not (body_passes (uses_pass (is_right_count earlier (length params))) body) then Some BadCount
+    else if not (body_passes (uses_pass (is_headed (earlier ++ heading_with name params ∷ []))) body) then Some BadCount
     else if not (recurs_well (suc (length earlier)) params body) then Some BadRecursion
-    else if not (body_passes (symbols_pass (is_among params)) body) then Some FreeName
-    else if has_same params then Some SameParameter
+    else if not (body_passes (has_names_of params) body) then Some FreeName
+    else if has_twin params then Some SameParameter
     else None
 
 -- ---- definitions that were added
+
+-- the definition of a number
+abbrev pub definition_at : List Definition → ℕ → Option Definition
+definition_at ds zero = None
+definition_at ds (suc k) = slice_get ds k
 
 -- the terms of a body are of the pool
 abbrev pub IsBodyIn : List Node → Body → Type 0
@@ -136,15 +91,28 @@ abbrev pub AreBodiesIn : List Node → List Definition → Type 0
 AreBodiesIn pool [] = Unit {0}
 AreBodiesIn pool (d ∷ rest) = IsBodyIn pool d.body × AreBodiesIn pool rest
 
--- definitions were added, one after another, to earlier ones
-abbrev pub AreAddedTo : List Node → List Definition → List Definition → Type 0
+-- definitions were added, one after another, to those of earlier headings
+abbrev pub AreAddedTo : List Node → List Heading → List Definition → Type 0
 AreAddedTo pool earlier [] = Unit {0}
 AreAddedTo pool earlier (d ∷ rest) =
-    (IsBodyIn pool d.body × (adding_fault earlier d.name d.params (body_of pool d.body) ≡ None)) × AreAddedTo pool (earlier ++ d ∷ []) rest
+    (IsBodyIn pool d.body × (adding_fault earlier d.name d.params (body_of pool d.body) ≡ None)) × AreAddedTo pool (earlier ++ heading_of d ∷ []) rest
 
 -- definitions were added, one after another, with this pool
 abbrev pub AreAdded : List Node → List Definition → Type 0
 AreAdded pool ds = AreAddedTo pool [] ds
+
+-- each use in the bodies is of an earlier definition or of the one that the body is of, with its number of arguments
+abbrev pub AreUsesKnownTo : List Node → List Heading → List Definition → Type 0
+AreUsesKnownTo pool earlier [] = Unit {0}
+AreUsesKnownTo pool earlier (d ∷ rest) =
+    (body_passes (uses_pass (is_headed (earlier ++ heading_of d ∷ []))) (body_of pool d.body) ≡ true) × AreUsesKnownTo pool (earlier ++ heading_of d ∷ []) rest
+
+abbrev pub AreUsesKnown : List Node → List Definition → Type 0
+AreUsesKnown pool ds = AreUsesKnownTo pool [] ds
+
+-- the bodies of definitions that were added are in the pool, and use only what is known there
+abbrev pub AddedAreSound : Type 0
+AddedAreSound = (pool : List Node) (ds : List Definition) → AreAdded pool ds → AreBodiesIn pool ds × AreUsesKnown pool ds
 
 -- definitions that were added with a pool stay so when nodes are added to it
 abbrev pub AddedStay : Type 0

@@ -1,12 +1,12 @@
 -- The grammar of terms: which tokens spell a term.
-use Rattle.std.specs.Prelude.{ℕ, ℤ, ◌+◌, ◌≡◌, ◌≤◌, ◌↔◌, max, map, true, false, Option, Some, List, [], ◌∷◌, ◌++◌, codes}
+use Rattle.std.specs.Prelude.{ℕ, ℤ, ◌+◌, ◌≡◌, ◌≤◌, ◌↔◌, max, map, true, false, Option, Some, None, List, [], ◌∷◌, ◌++◌, codes}
 use Rattle.formula.specs.declared.function.Arity.{Arity}
 use Rattle.formula.specs.declared.head.Head.{Head}
 use Rattle.formula.specs.declared.head.Head.TheVariants.{EntryValue, Function}
 use Rattle.formula.specs.Functions.{fits_count}
 use Rattle.formula.specs.Tree.{Tree, num, truth, symbol, old, apply, Row, none, more, row_count, takes}
 use Rattle.formula.specs.Atoms.{is_number, is_long, digits_of, number_of, is_symbol, is_function_name}
-use Rattle.formula.specs.Tokens.{Token, opening, closing, atom, Placed, tokens}
+use Rattle.formula.specs.Tokens.{Token, opening, closing, atom, Lexeme, tokens}
 use Rattle.formula.specs.Reading.{got, reads}
 
 -- a number: digits, with or without a `-`, at most 18 of them after leading zeros
@@ -50,23 +50,28 @@ abbrev mutual
   depth_row (more t rest) = max (depth t) (depth_row rest)
 
 -- where the last of these tokens ends, or n
-abbrev pub end_from : ℕ → List Placed → ℕ
+abbrev pub end_from : ℕ → List Lexeme → ℕ
 end_from n [] = n
 end_from n (p ∷ rest) = end_from p.after rest
 
 -- the tokens of these places
-abbrev pub tokens_of : List Placed → List Token
+abbrev pub tokens_of : List Lexeme → List Token
 tokens_of = map (λ p. p.token)
 
+-- so many open brackets are at most as many as may be
+abbrev pub IsWithin : Option ℕ → ℕ → Type 0
+IsWithin None n = Unit {0}
+IsWithin (Some most) n = n ≤ most
+
 -- the first of these tokens, up to the place n, spell the term
-pub record BeginsWith (named : List ℕ → Option Head) (all : List Placed) (t : Tree) (n : ℕ) : Type 0 where
-  pub front : List Placed
-  pub back : List Placed
+pub record BeginsWith (named : List ℕ → Option Head) (limit : Option ℕ) (all : List Lexeme) (t : Tree) (n : ℕ) : Type 0 where
+  pub front : List Lexeme
+  pub back : List Lexeme
   pub is : all ≡ front ++ back
   pub spells : Spells named t (tokens_of front)
   pub ends : end_from 0 front ≡ n
-  pub small : depth t ≤ 64
+  pub small : IsWithin limit (depth t)
 
--- a term is read just where its spelling begins the text, in at most 64 brackets
+-- a term is read just where its spelling begins the text, in at most as many brackets as may be open
 abbrev pub ReadingIsTheGrammar : Type 0
-ReadingIsTheGrammar = (named : List ℕ → Option Head) (text : List ℕ) (t : Tree) (n : ℕ) → (reads named text ≡ got t n) ↔ BeginsWith named (tokens text) t n
+ReadingIsTheGrammar = (named : List ℕ → Option Head) (limit : Option ℕ) (text : List ℕ) (t : Tree) (n : ℕ) → (reads named limit text ≡ got t n) ↔ BeginsWith named limit (tokens text) t n

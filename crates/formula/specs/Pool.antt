@@ -1,5 +1,5 @@
 -- What the nodes of a pool stand for.
-use Rattle.std.specs.Prelude.{ℕ, ◌<◌, ◌≡◌, false, List, [], ◌∷◌, ◌++◌, length, slice_index_or, IsTrue}
+use Rattle.std.specs.Prelude.{ℕ, ◌<◌, ◌^◌, ◌≡◌, false, List, [], ◌∷◌, ◌++◌, length, slice_index_or, IsTrue}
 use Rattle.formula.specs.declared.node.Node.{Node}
 use Rattle.formula.specs.declared.node.Node.TheVariants.{Num, Truth, Symbol, Old, Apply}
 use Rattle.formula.specs.declared.node.TermId.{TermId}
@@ -54,6 +54,11 @@ trees = grown []
 abbrev pub IsPool : List Tree → List Node → Type 0
 IsPool done [] = Unit {0}
 IsPool done (node ∷ rest) = HasArguments done node × IsPool (done ++ tree_in done node ∷ []) rest
+
+-- and there are fewer than 2^32 of them, so that a place has 32 bits
+pub record IsSound (nodes : List Node) : Type 0 where
+  pub pool : IsPool [] nodes
+  pub small : length nodes < 2 ^ 32
 
 -- the tree that an id stands for
 abbrev pub tree_of : List Node → TermId → Tree

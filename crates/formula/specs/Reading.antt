@@ -3,7 +3,6 @@ use Rattle.std.specs.Prelude.{ℕ, ◌+◌, ◌&&◌, nat_le, if◌then◌else�
 use Rattle.formula.specs.declared.function.BuiltIn.{BuiltIn as Builtin}
 use Rattle.formula.specs.declared.function.BuiltIn.TheVariants.{And, Or, Not, Implies, If, Equal, Plus, Difference, Times, Negative, Quotient, Remainder, Absolute, Maximum, Minimum, Less, AtMost, Element, Put, Size, Defined as IsDefined, IntegerCell, LogicalCell, IntegerCells, LogicalCells, Undefined, Blank}
 use Rattle.formula.specs.declared.function.Func.TheVariants.{BuiltIn, Defined}
-use Rattle.formula.specs.declared.definition.Definition.{Definition}
 use Rattle.formula.specs.declared.definition.Heading.{Heading}
 use Rattle.formula.specs.declared.fault.ReadFault.{ReadFault}
 use Rattle.formula.specs.declared.fault.ReadFault.TheVariants.{Unbalanced, BadAtom, UnknownFunction, BadCount, TooDeep, BigNumber}
@@ -11,8 +10,8 @@ use Rattle.formula.specs.declared.function.Arity.TheVariants.{Exactly}
 use Rattle.formula.specs.declared.head.Head.{Head}
 use Rattle.formula.specs.declared.head.Head.TheVariants.{EntryValue, Function}
 use Rattle.formula.specs.Functions.{name_of, arity_of, fits_count}
-use Rattle.formula.specs.Tree.{Tree, num, truth, symbol, old, apply, row_of, takes}
-use Rattle.formula.specs.Tokens.{Token, opening, closing, atom, Placed, tokens}
+use Rattle.formula.specs.Tree.{Tree, num, truth, symbol, old, apply, tree_row, takes}
+use Rattle.formula.specs.Tokens.{Token, opening, closing, atom, Lexeme, tokens}
 use Rattle.formula.specs.Atoms.{same_bytes, is_number, is_long, digits_of, number_of, is_symbol, is_function_name}
 
 -- ---- names of functions
@@ -26,16 +25,17 @@ built_in_among [] name = None
 built_in_among (f ∷ rest) name = if same_bytes (name_of f) name then Some f else built_in_among rest name
 
 -- the first definition with that name, where they are numbered from k
-abbrev pub defined_among : ℕ → List Definition → List ℕ → Option Head
+abbrev pub defined_among : ℕ → List Heading → List ℕ → Option Head
 defined_among k [] name = None
-defined_among k (d ∷ rest) name =
-    if same_bytes d.name name then Some (Function (Defined k) (Exactly (length d.params))) else defined_among (k + 1) rest name
+defined_among k (h ∷ rest) name =
+    if same_bytes h.name name then Some (Function (Defined k) (Exactly h.count)) else defined_among (k + 1) rest name
 
 -- the definition that is being read has the next number
 abbrev pub heading_named : ℕ → Option Heading → List ℕ → Option Head
 heading_named k None name = None
-heading_named k (Some h) name = if same_bytes h.name name then Some (Function (Defined k) (Exactly (length h.params))) else None
+heading_named k (Some h) name = if same_bytes h.name name then Some (Function (Defined k) (Exactly h.count)) else None
 
+-- the first of two that is there
 abbrev pub or_else : {T : Type 0} → Option T → Option T → Option T
 or_else None o = o
 or_else (Some x) o = Some x
@@ -44,12 +44,12 @@ abbrev pub built_in_head : Option Builtin → Option Head
 built_in_head None = None
 built_in_head (Some f) = Some (Function (BuiltIn f) (arity_of f))
 
--- the head of a name: OLD, the built-in functions, the definitions and last the heading
-abbrev pub head_named : List Definition → Option Heading → List ℕ → Option Head
-head_named definitions next name =
+-- the head of a name: OLD, the built-in functions, the definitions and last the one that is being read
+abbrev pub head_named : List Heading → Option Heading → List ℕ → Option Head
+head_named headings next name =
     if same_bytes (codes "OLD") name then Some EntryValue
     else or_else (built_in_head (built_in_among all_built_ins name))
-    (or_else (defined_among 1 definitions name) (heading_named (length definitions + 1) next name))
+    (or_else (defined_among 1 headings name) (heading_named (length headings + 1) next name))
 
 -- ---- reading
 
@@ -108,16 +108,21 @@ entry_closed _ frames = stopped BadCount
 abbrev pub closed : Head → List Tree → List Frame → Progress
 closed EntryValue args frames = entry_closed args frames
 closed (Function f arity) args frames =
-    if fits_count arity (length args) && takes f (row_of args) then given (apply f (row_of args)) frames else stopped BadCount
+    if fits_count arity (length args) && takes f (tree_row args) then given (apply f (tree_row args)) frames else stopped BadCount
 
 abbrev pub closed_read : List Frame → Progress
 closed_read [] = stopped Unbalanced
 closed_read (f ∷ rest) = if wants_symbol (f ∷ rest) then stopped BadAtom else closed f.head f.args rest
 
-abbrev pub opened_read : List Frame → Progress
-opened_read frames =
+-- so many open brackets are as many as may be; without a limit there may always be more
+abbrev pub is_deepest : Option ℕ → ℕ → Bool
+is_deepest None n = false
+is_deepest (Some most) n = nat_le most n
+
+abbrev pub opened_read : Option ℕ → List Frame → Progress
+opened_read limit frames =
     if wants_symbol frames then stopped BadAtom
-    else if nat_le 64 (length frames) then stopped TooDeep
+    else if is_deepest limit (length frames) then stopped TooDeep
     else going (record { naming = true; frames = frames })
 
 -- the name behind an opening bracket
@@ -130,14 +135,14 @@ name_read named opening frames = stopped BadAtom
 name_read named closing frames = stopped BadAtom
 name_read named (atom a) frames = if is_function_name a then head_read (named a) frames else stopped BadAtom
 
-abbrev pub term_read : Token → List Frame → Progress
-term_read opening frames = opened_read frames
-term_read closing frames = closed_read frames
-term_read (atom a) frames = if wants_symbol frames then symbol_read a frames else atom_read a frames
+abbrev pub term_read : Option ℕ → Token → List Frame → Progress
+term_read limit opening frames = opened_read limit frames
+term_read limit closing frames = closed_read frames
+term_read limit (atom a) frames = if wants_symbol frames then symbol_read a frames else atom_read a frames
 
 -- one token
-abbrev pub step : (List ℕ → Option Head) → State → Token → Progress
-step named s t = if s.naming then name_read named t s.frames else term_read t s.frames
+abbrev pub step : (List ℕ → Option Head) → Option ℕ → State → Token → Progress
+step named limit s t = if s.naming then name_read named t s.frames else term_read limit t s.frames
 
 -- the term with the number of bytes taken, or the first fault
 pub data Reading : Type 0 where
@@ -150,14 +155,14 @@ after_step (going s) at later = later s
 after_step (done t) at later = got t at
 after_step (stopped f) at later = fault f
 
-abbrev pub reading : (List ℕ → Option Head) → State → List Placed → Reading
-reading named s [] = fault Unbalanced
-reading named s (p ∷ rest) = after_step (step named s p.token) p.after (λ t. reading named t rest)
+abbrev pub reading : (List ℕ → Option Head) → Option ℕ → State → List Lexeme → Reading
+reading named limit s [] = fault Unbalanced
+reading named limit s (p ∷ rest) = after_step (step named limit s p.token) p.after (λ t. reading named limit t rest)
 
 -- nothing was read
 abbrev pub fresh : State
 fresh = record { naming = false; frames = [] }
 
--- what the text begins with
-abbrev pub reads : (List ℕ → Option Head) → List ℕ → Reading
-reads named text = reading named fresh (tokens text)
+-- what the text begins with, where at most so many brackets may be open
+abbrev pub reads : (List ℕ → Option Head) → Option ℕ → List ℕ → Reading
+reads named limit text = reading named limit fresh (tokens text)

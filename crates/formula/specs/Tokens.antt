@@ -7,29 +7,29 @@ pub data Token : Type 0 where
   atom : List ℕ → Token
 
 -- a token, and the number of bytes of the text up to its end
-pub record Placed : Type 0 where
+pub record Lexeme : Type 0 where
   pub token : Token
   pub after : ℕ
 
-abbrev pub placed : Token → ℕ → Placed
-placed t n = record { token = t; after = n }
+abbrev pub lexeme : Token → ℕ → Lexeme
+lexeme t n = record { token = t; after = n }
 
 -- an atom of these bytes that ends here, if there are any, and what follows
-abbrev pub ended : List ℕ → ℕ → List Placed → List Placed
+abbrev pub ended : List ℕ → ℕ → List Lexeme → List Lexeme
 ended [] at rest = rest
-ended (b ∷ more) at rest = placed (atom (b ∷ more)) at ∷ rest
+ended (b ∷ more) at rest = lexeme (atom (b ∷ more)) at ∷ rest
 
 -- the tokens of the bytes left, where so many bytes were passed, the last of them an atom's
-abbrev pub tokens_from : ℕ → List ℕ → List ℕ → List Placed
+abbrev pub tokens_from : ℕ → List ℕ → List ℕ → List Lexeme
 tokens_from at passed [] = ended passed at []
 tokens_from at passed (b ∷ rest) =
     if b == 32 then ended passed at (tokens_from (at + 1) [] rest)
-    else if b == 40 then ended passed at (placed opening (at + 1) ∷ tokens_from (at + 1) [] rest)
-    else if b == 41 then ended passed at (placed closing (at + 1) ∷ tokens_from (at + 1) [] rest)
+    else if b == 40 then ended passed at (lexeme opening (at + 1) ∷ tokens_from (at + 1) [] rest)
+    else if b == 41 then ended passed at (lexeme closing (at + 1) ∷ tokens_from (at + 1) [] rest)
     else tokens_from (at + 1) (passed ++ b ∷ []) rest
 
 -- the tokens of a text
-abbrev pub tokens : List ℕ → List Placed
+abbrev pub tokens : List ℕ → List Lexeme
 tokens = tokens_from 0 []
 
 -- a byte of an atom

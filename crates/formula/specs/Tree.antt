@@ -20,9 +20,9 @@ mutual
     more : Tree → Row → Row
 
 -- a row of some trees
-abbrev pub row_of : List Tree → Row
-row_of [] = none
-row_of (t ∷ rest) = more t (row_of rest)
+abbrev pub tree_row : List Tree → Row
+tree_row [] = none
+tree_row (t ∷ rest) = more t (tree_row rest)
 
 -- the number of arguments
 abbrev pub row_count : Row → ℕ

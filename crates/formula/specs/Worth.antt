@@ -46,8 +46,9 @@ pub data FunctionBody : Type 0 where
   plain : Tree → FunctionBody
   counting : Tree → Tree → FunctionBody
 
--- a definition without its name, its body as trees
+-- a definition, its body as trees
 pub record Function : Type 0 where
+  pub name : List ℕ
   pub params : List (List ℕ)
   pub body : FunctionBody
 
@@ -55,9 +56,12 @@ abbrev pub body_of : List Node → Body → FunctionBody
 body_of pool (Plain t) = plain (tree_of pool t)
 body_of pool (Counting base step) = counting (tree_of pool base) (tree_of pool step)
 
--- the functions of definitions whose bodies are in a pool
+-- the function of a definition whose body is in a pool
+abbrev pub function_of : List Node → Definition → Function
+function_of pool d = record { name = d.name; params = d.params; body = body_of pool d.body }
+
 abbrev pub functions_of : List Node → List Definition → List Function
-functions_of pool ds = map (λ d. record { params = d.params; body = body_of pool d.body }) ds
+functions_of pool ds = map (function_of pool) ds
 
 -- no symbol has a value
 abbrev pub nothing_known : Valuation

@@ -6,11 +6,11 @@ ghost use Rattle.formula.specs.Reading.{stopped, is_empty_list, wants_symbol, en
 ghost use Rattle.formula.specs.OpenCalls.{trees_in, frames_of, CallsBelow, Leads};
 
 use crate::open_calls::{OpenCall, Turn, given};
-use crate::{Arity, BuiltIn, Func, Head, Node, ReadFault, TermId, TermPool};
-use edge_io::{List, Stack};
+use crate::{Args, Arity, BuiltIn, Func, Head, Node, ReadFault, TermId, TermPool};
+use edge_io::Stack;
 
 // The one argument, where there is just one.
-fn only(args: &[TermId]) -> Option<TermId>
+fn single_argument(args: &[TermId]) -> Option<TermId>
     ensures none { IfNone result (length args.now ≢ 1) }
     ensures some { IfSome result (λ id. args.now ≡ id ∷ []) }
 {
@@ -26,7 +26,7 @@ fn takes_blank(pool: &TermPool, args: &[TermId]) -> bool
     requires { AllBelow (length pool.now) args.now }
     ensures { result ≡ is_blank_row (row_in (trees pool.now) args.now) }
 {
-    let Some(id) = only(args) else {
+    let Some(id) = single_argument(args) else {
         return false;
     };
     match pool.node(id) {
@@ -70,7 +70,7 @@ fn entry_closed(
     ensures leads { Leads pool.new result «open».new (entry_closed (trees_in (trees pool.old) args.now) (frames_of (trees pool.old) «open».old)) }
     ensures grows { Grows pool.old pool.new }
 {
-    let Some(id) = only(args) else {
+    let Some(id) = single_argument(args) else {
         return Err(ReadFault::BadCount);
     };
     let Node::Symbol(name) = pool.node(id) else {
@@ -101,7 +101,7 @@ fn function_closed(
     if !takes(pool, f, &args) {
         return Err(ReadFault::BadCount);
     }
-    let id = pool.apply(f, List::from_vec(args))?;
+    let id = pool.apply(f, Args::from_vec(args))?;
     given(open, id)
 }
 

@@ -17,9 +17,9 @@ pub struct Definition {
     pub body: Body,
 }
 
-/// The name and the parameters of a definition whose body is being read.
-#[derive(Debug, Drop, PartialEq, Eq)]
+/// What a use of a definition must agree with: its name, and the number of its parameters.
+#[derive(Clone, Copy, Debug, PartialEq, Eq)]
 pub struct Heading {
     pub name: Word,
-    pub params: List<Word>,
+    pub count: usize,
 }

@@ -2,7 +2,7 @@
 ghost use Rattle.std.specs.Prelude.{◌≡◌, option_copied};
 ghost use Rattle.formula.specs.Reading.{head_named};
 
-use crate::{Arity, BuiltIn, Definitions, Func, Heading};
+use crate::{Arity, BuiltIn, Func, Heading, Headings};
 
 /// What may stand behind an opening bracket: OLD, or a function with its number of arguments.
 #[derive(Clone, Copy, Debug, PartialEq, Eq)]
@@ -13,8 +13,8 @@ pub enum Head {
 
 /// The head of that name: OLD, a built-in function, a definition, or the definition that is being
 /// read, which will have the next number.
-pub fn head_of(definitions: &Definitions, next: Option<&Heading>, name: &[u8]) -> Option<Head>
-    ensures { result ≡ head_named definitions.now (option_copied next.entry) name.now }
+pub fn head_of(headings: &Headings, next: Option<&Heading>, name: &[u8]) -> Option<Head>
+    ensures { result ≡ head_named headings.now (option_copied next.entry) name.now }
 {
     if b"OLD".as_slice() == name {
         return Some(Head::EntryValue);
@@ -22,15 +22,14 @@ pub fn head_of(definitions: &Definitions, next: Option<&Heading>, name: &[u8]) -
     if let Some(f) = BuiltIn::named(name) {
         return Some(Head::Function(Func::BuiltIn(f), f.arity()));
     }
-    if let Some(head) = definitions.named(name) {
+    if let Some(head) = headings.named(name) {
         return Some(head);
     }
     let heading = next?;
     if heading.name.as_bytes() == name {
-        let params = heading.params.as_slice().len();
         return Some(Head::Function(
-            Func::Defined(definitions.count() + 1),
-            Arity::Exactly(params),
+            Func::Defined(headings.count() + 1),
+            Arity::Exactly(heading.count),
         ));
     }
     None

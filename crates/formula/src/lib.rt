@@ -2,44 +2,35 @@
 #![tactic(auto)]
 
 mod adding;
-mod applying;
+mod args;
 mod atom_terms;
 mod atoms;
-mod cells;
+mod candidate;
 mod closing;
-mod combining;
 mod definition;
 mod definition_fault;
 mod definitions;
-mod evaluation;
 mod fault;
 mod function;
 mod grammar;
 mod head;
-mod held_values;
+mod headings;
 mod laws;
-mod machine;
-mod no_worth;
 mod node;
-mod numbers;
 mod open_calls;
 mod opening;
+mod ordering;
 mod passing;
-mod pile;
 mod pool;
 mod reader;
-mod scopes;
-mod sheet;
-mod sheet_fault;
 mod substitution;
 mod substitution_law;
-mod taking;
 mod tokens;
-mod uses;
 mod value;
 mod word;
 mod worth_laws;
 
+pub use args::Args;
 pub use atoms::{
     is_digit, is_digits, is_function_name, is_letter, is_long, is_number, is_same, is_symbol,
     number, spelled,
@@ -47,21 +38,19 @@ pub use atoms::{
 pub use definition::{Body, Definition, Heading};
 pub use definition_fault::DefFault;
 pub use definitions::Definitions;
-pub use evaluation::worth;
 pub use fault::ReadFault;
 pub use function::{Arity, BuiltIn, Func};
 pub use grammar::reading_is_the_grammar;
 pub use head::{Head, head_of};
-pub use laws::added_definitions_stay;
-pub use no_worth::Worth;
+pub use headings::Headings;
+pub use laws::{added_definitions_are_sound, added_definitions_stay, read_terms_are_readable};
 pub use node::{Node, TermId};
+pub use ordering::order;
 pub use pool::TermPool;
 pub use reader::read_term;
-pub use sheet::Sheet;
-pub use sheet_fault::SheetFault;
 pub use substitution::{Binding, substitute};
 pub use substitution_law::substitution_is_assignment;
-pub use tokens::{Placed, Token, next_token};
+pub use tokens::{Lexeme, Token, next_token};
 pub use value::{Cell, Value};
 pub use word::Word;
 pub use worth_laws::{

@@ -1,11 +1,21 @@
 // The nodes of terms.
-use crate::{Func, Word};
-use edge_io::List;
+ghost use Rattle.std.specs.Prelude.{◌≡◌};
+
+use crate::{Args, Func, Word};
 
 /// The place of a node in its pool, counted from 0. It stands for the term below that node.
 #[derive(Clone, Copy, Debug, PartialEq, Eq, Hash)]
 pub struct TermId {
-    pub place: usize,
+    pub place: u32,
+}
+
+impl TermId {
+    /// The place, as an index.
+    pub fn index(self) -> usize
+        ensures { result ≡ self.place }
+    {
+        self.place as usize
+    }
 }
 
 /// A node: a number, a truth value, a symbol, the entry value of a symbol, or a function with its
@@ -16,5 +26,5 @@ pub enum Node {
     Truth(bool),
     Symbol(Word),
     Old(Word),
-    Apply(Func, List<TermId>),
+    Apply(Func, Args),
 }

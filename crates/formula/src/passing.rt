@@ -1,56 +1,56 @@
-// Tests of all uses of definitions in a term, or of all its symbols.
-ghost use Rattle.std.specs.Prelude.{◌≡◌, ◌∷◌, [], ◌++◌, ◌≤◌, ◌+◌, length, IfOk, OnOk, List};
-ghost use Rattle.formula.specs.Adding.{first_is_one_less, has_same, is_among, is_one_less, is_right_count, use_passes};
-ghost use Rattle.formula.specs.Passing.{SayWhich, all_set, entry_test, is_that_number, is_that_symbol, symbol_test, tree_passes, use_test};
-ghost use Rattle.formula.specs.Pool.{AllBelow, HasArgumentsBelow, IsIn, row_in, tree_in, tree_of, trees};
+// What the tests of a definition that is added say of a term.
+ghost use Rattle.std.specs.Prelude.{◌≡◌, ◌+◌, length, IfOk, List};
+ghost use Rattle.formula.specs.Adding.{first_is_one_less, is_one_less, counts_down};
+ghost use Rattle.formula.specs.Headings.{heading_with, is_headed};
+ghost use Rattle.formula.specs.Passing.{all_pass, both, function_results, is_that_number, is_that_symbol, names_are_own, term_results, top_results, use_results};
+ghost use Rattle.formula.specs.Pool.{AllBelow, IsIn, row_in, tree_of, trees};
 ghost use Rattle.formula.specs.Tree.{Tree, apply};
+ghost use Rattle.std.specs.Prelude.{◌++◌, [], ◌∷◌};
 
-use crate::{BuiltIn, Definitions, Func, Node, TermId, TermPool, Word};
+use crate::candidate::Candidate;
+use crate::{BuiltIn, Func, Node, TermId, TermPool, Word, order};
 use edge_io::NoMemory;
 use std::alloc::Global;
 
-/// A test of a definition that is added, which has the number behind the earlier ones.
+/// Which tests a term of a definition passes.
 #[derive(Clone, Copy, Debug)]
-pub enum Test {
+pub struct TestResults {
     /// Each use is of an earlier definition or of the one that is added.
-    KnownUse,
+    pub known_uses: bool,
     /// Each use has as many arguments as its definition has parameters.
-    RightCount,
+    pub right_counts: bool,
     /// No use is of the definition that is added.
-    OtherUse,
+    pub other_uses: bool,
     /// Each use of the definition that is added has the first parameter less 1 as its first argument.
-    CountsDown,
+    pub counts_down: bool,
     /// Each symbol is a parameter, and there is no entry value.
-    Parameter,
+    pub own_names: bool,
 }
 
-/// The number of the definition that is added.
-fn own_number(definitions: &Definitions) -> usize
-    ensures { result ≡ length definitions.now + 1 }
+/// All tests are passed where a term has no names but parameters.
+fn names_are_own(own_names: bool) -> TestResults
+    ensures { result ≡ names_are_own own_names }
 {
-    definitions.count() + 1
-}
-
-#[tactic(auto, using(crate::proofs::Passes::among_either_way))]
-/// Whether a word is among others.
-fn is_among(words: &[Word], word: Word) -> bool
-    ensures { result ≡ is_among words.now word }
-{
-    words.contains(&word)
-}
-
-/// Whether some word stands twice.
-pub fn has_same(words: &[Word]) -> bool
-    ensures { result ≡ has_same words.now }
-{
-    let mut rest = words;
-    while let [first, others @ ..] = rest {
-        if is_among(others, *first) {
-            return true;
-        }
-        rest = others;
+    TestResults {
+        known_uses: true,
+        right_counts: true,
+        other_uses: true,
+        counts_down: true,
+        own_names,
     }
-    false
+}
+
+/// The tests that two terms pass.
+fn both(a: TestResults, b: TestResults) -> TestResults
+    ensures { result ≡ both a b }
+{
+    TestResults {
+        known_uses: a.known_uses && b.known_uses,
+        right_counts: a.right_counts && b.right_counts,
+        other_uses: a.other_uses && b.other_uses,
+        counts_down: a.counts_down && b.counts_down,
+        own_names: a.own_names && b.own_names,
+    }
 }
 
 /// Whether a term is that symbol.
@@ -117,139 +117,84 @@ fn first_is_one_less(pool: &TermPool, params: &[Word], args: &[TermId]) -> bool
 
 #[tactic(auto, using(crate::proofs::Passes::own_count, crate::proofs::Passes::no_count, crate::proofs::Passes::far_count, crate::proofs::Passes::earlier_count))]
 /// Whether a use has as many arguments as its definition has parameters.
-fn is_right_count(definitions: &Definitions, own: usize, k: usize, args: &[TermId]) -> bool
-    ensures { (ts : List Tree) → result ≡ is_right_count definitions.now own k (row_in ts args.now) }
+fn is_right_count(candidate: &Candidate<'_>, k: usize, count: usize) -> bool
+    ensures { (ts : List Tree) (args : List TermId) → length args ≡ count → result ≡ is_headed (candidate.now.earlier.now ++ heading_with candidate.now.name candidate.now.params.now ∷ []) k (row_in ts args) }
 {
-    let last = own_number(definitions);
+    let last = candidate.number();
     if k == last {
-        return args.len() == own;
+        return candidate.params.len() == count;
     }
     if k == 0 || k > last {
         return false;
     }
-    definitions.get(k).params.as_slice().len() == args.len()
+    candidate.earlier.get(k).count == count
 }
 
 #[tactic(auto, using(crate::proofs::Passes::known_use))]
-/// What a test says of a use of the definition of number k.
-fn use_test(
+/// What the tests say of a use of the definition of number k.
+fn use_results(
     pool: &TermPool,
-    definitions: &Definitions,
-    params: &[Word],
-    test: Test,
+    candidate: &Candidate<'_>,
     k: usize,
     args: &[TermId],
-) -> bool
+) -> TestResults
     requires { AllBelow (length pool.now) args.now }
-    ensures { result ≡ use_test definitions.now params.now test k (row_in (trees pool.now) args.now) }
+    ensures { result ≡ use_results candidate.now.earlier.now candidate.now.name candidate.now.params.now k (row_in (trees pool.now) args.now) }
 {
-    let own = own_number(definitions);
-    match test {
-        Test::KnownUse => 0 < k && k <= own,
-        Test::RightCount => is_right_count(definitions, params.len(), k, args),
-        Test::OtherUse => k != own,
-        Test::CountsDown => k != own || first_is_one_less(pool, params, args),
-        Test::Parameter => true,
+    let own = candidate.number();
+    TestResults {
+        known_uses: 0 < k && k <= own,
+        right_counts: is_right_count(candidate, k, args.len()),
+        other_uses: k != own,
+        counts_down: k != own || first_is_one_less(pool, candidate.params, args),
+        own_names: true,
     }
 }
 
-/// What a test says of a function, its arguments aside.
-fn function_test(
+/// What the tests say of a function, its arguments aside.
+fn function_results(
     pool: &TermPool,
-    definitions: &Definitions,
-    params: &[Word],
-    test: Test,
+    candidate: &Candidate<'_>,
     f: Func,
     args: &[TermId],
-) -> bool
+) -> TestResults
     requires { AllBelow (length pool.now) args.now }
-    ensures { result ≡ use_passes (use_test definitions.now params.now test) f (row_in (trees pool.now) args.now) }
+    ensures { result ≡ function_results candidate.now.earlier.now candidate.now.name candidate.now.params.now f (row_in (trees pool.now) args.now) }
 {
     match f {
-        Func::BuiltIn(_) => true,
-        Func::Defined(k) => use_test(pool, definitions, params, test, k, args),
+        Func::BuiltIn(_) => names_are_own(true),
+        Func::Defined(k) => use_results(pool, candidate, k, args),
     }
 }
 
-/// What a test says of a symbol.
-fn symbol_test(params: &[Word], test: Test, name: Word) -> bool
-    ensures { result ≡ symbol_test params.now test name }
-{
-    match test {
-        Test::Parameter => is_among(params, name),
-        _ => true,
-    }
-}
-
-/// What a test says of an entry value.
-fn entry_test(test: Test) -> bool
-    ensures { result ≡ entry_test test }
-{
-    match test {
-        Test::Parameter => false,
-        _ => true,
-    }
-}
-
-/// Whether the places of some ids are set.
-fn all_set(passed: &[bool], ids: &[TermId]) -> bool
-    requires { AllBelow (length passed.now) ids.now }
-    ensures { result ≡ all_set passed.now ids.now }
-{
-    for id in ids {
-        if !passed[id.place] {
-            return false;
-        }
-    }
-    true
-}
-
-#[tactic(auto, using(crate::proofs::Passes::number_passes, crate::proofs::Passes::truth_passes, crate::proofs::Passes::symbol_passes, crate::proofs::Passes::entry_passes))]
-/// Whether the term of an id passes a test, where it is known of the terms below.
-fn node_passes(
-    pool: &TermPool,
-    definitions: &Definitions,
-    params: &[Word],
-    test: Test,
-    passed: &[bool],
-    id: TermId,
-) -> bool
-    requires id { IsIn pool.now id }
-    requires count { length passed.now ≡ id.place }
-    requires passed { SayWhich (tree_passes definitions.now params.now test) (trees pool.now) passed.now }
-    ensures { result ≡ tree_passes definitions.now params.now test (tree_of pool.now id) }
+/// What the tests say of a term, what stands below its function aside.
+fn top_results(pool: &TermPool, candidate: &Candidate<'_>, id: TermId) -> TestResults
+    requires { IsIn pool.now id }
+    ensures { result ≡ top_results candidate.now.earlier.now candidate.now.name candidate.now.params.now (tree_of pool.now id) }
 {
     match pool.node(id) {
-        Node::Num(_) | Node::Truth(_) => true,
-        Node::Symbol(name) => symbol_test(params, test, *name),
-        Node::Old(_) => entry_test(test),
-        Node::Apply(f, args) => {
-            let args = args.as_slice();
-            function_test(pool, definitions, params, test, *f, args) && all_set(passed, args)
-        }
+        Node::Num(_) | Node::Truth(_) => names_are_own(true),
+        Node::Symbol(name) => names_are_own(candidate.has_parameter(*name)),
+        Node::Old(_) => names_are_own(false),
+        Node::Apply(f, args) => function_results(pool, candidate, *f, args.as_slice()),
     }
 }
 
-/// Whether a term passes a test. It takes time and memory in the number of ids up to the term's,
-/// however often a term below stands in it.
-pub fn passes(
+/// What the tests say of a term. It takes time and memory in the number of nodes that the term
+/// reaches, however often a term below stands in it.
+pub fn term_results(
     alloc: Global,
     pool: &TermPool,
-    definitions: &Definitions,
-    params: &[Word],
-    test: Test,
+    candidate: &Candidate<'_>,
     id: TermId,
-) -> Result<bool, NoMemory>
+) -> Result<TestResults, NoMemory>
     requires { IsIn pool.now id }
-    ensures { IfOk result (λ b. b ≡ tree_passes definitions.now params.now test (tree_of pool.now id)) }
+    ensures { IfOk result (λ r. r ≡ term_results candidate.now.earlier.now candidate.now.name candidate.now.params.now (tree_of pool.now id)) }
 {
-    let mut passed = Vec::new(alloc);
-    for place in 0..id.place {
-        let here = TermId { place };
-        let answer = node_passes(pool, definitions, params, test, passed.as_slice(), here);
-        if passed.push(answer).is_err() {
-            return Err(NoMemory);
-        }
+    let ids = order(alloc, pool, id)?;
+    let mut results = names_are_own(true);
+    for here in &ids {
+        results = both(results, top_results(pool, candidate, *here));
     }
-    Ok(node_passes(pool, definitions, params, test, passed.as_slice(), id))
+    Ok(results)
 }

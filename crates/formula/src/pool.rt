@@ -1,41 +1,41 @@
 // The terms of a run.
-ghost use Rattle.std.specs.Prelude.{◌≡◌, [], ◌∷◌, ◌++◌, length, slice_get, Some, IsOk, IfOk, OnOk, OnErr, IsTrue, Contains};
+ghost use Rattle.std.specs.Prelude.{◌≡◌, ◌<◌, ◌^◌, [], ◌∷◌, ◌++◌, length, slice_get, Some, IsOk, IfOk, OnOk, OnErr, IsSome, IfSome, IfNone, IsTrue, Contains};
 ghost use Rattle.formula.specs.Pool.{AllBelow, HasArguments, HasArgumentsBelow, HasOneIdEach, Grows, IsIn, trees, tree_in, tree_of, row_in};
 ghost use Rattle.formula.specs.Tree.{num, truth, symbol, old, apply, none, more, takes};
 
-use crate::{BuiltIn, Func, Node, TermId, Word};
-use edge_io::{List, NoMemory};
+use crate::{Args, BuiltIn, Func, Node, TermId, Word};
+use edge_io::{Keys, NoMemory};
 use indexmap::IndexSet;
 use std::alloc::Global;
 use std::marker::Model;
 
 /// The nodes of terms. Each names earlier ones as its arguments, and no two are equal, so that
-/// equal terms have one id.
+/// equal terms have one id. A pool has at most 2^32 - 1 nodes.
 #[derive(Drop)]
 pub struct TermPool {
-    nodes: IndexSet<Node>,
+    nodes: IndexSet<Node, Keys>,
     alloc: Global,
 }
 
 impl Model for TermPool {
-    ghost use Rattle.std.specs.Prelude.{List, []};
+    ghost use Rattle.std.specs.Prelude.{List};
     ghost use Rattle.formula.specs.declared.node.Node.{Node};
-    ghost use Rattle.formula.specs.Pool.{IsPool};
+    ghost use Rattle.formula.specs.Pool.{IsSound};
 
     ghost Value = { List Node };
 
     ghost view = { λ p. p.nodes.keys };
 
-    ghost invariant = { λ p. IsPool [] p.nodes.keys };
+    ghost invariant = { λ p. IsSound p.nodes.keys };
 }
 
 impl TermPool {
-    /// A pool with no term. It takes no memory.
-    pub fn new(alloc: Global) -> TermPool
+    /// A pool with no term, whose hashes have these keys. It takes no memory.
+    pub fn new(alloc: Global, keys: Keys) -> TermPool
         ensures { result ≡ [] }
     {
         TermPool {
-            nodes: IndexSet::new(alloc),
+            nodes: IndexSet::with_hasher(alloc, keys),
             alloc,
         }
     }
@@ -43,12 +43,19 @@ impl TermPool {
     /// The number of terms. Two terms that are equal as trees are one.
     pub fn count(&self) -> usize
         ensures count { result ≡ length self.now }
+        ensures small { result < 2 ^ 32 }
         ensures one_id_each { HasOneIdEach self.now }
     {
         self.nodes.len()
     }
 
-    /// The id of a node's term: the one that it has, with no memory taken, or else a new one.
+    /// The keys of its hashes.
+    pub fn keys(&self) -> Keys {
+        *self.nodes.hasher()
+    }
+
+    /// The id of a node's term: the one that it has, with no memory taken, or else a new one. A pool
+    /// of 2^32 - 1 nodes refuses to grow: there alone `NoMemory` is answered with no growth refused.
     pub fn make(&mut self, node: Node) -> Result<TermId, NoMemory>
         requires { HasArguments (trees self.old) node }
         ensures is_in { IfOk result (λ id. IsIn self.new id) }
@@ -59,10 +66,48 @@ impl TermPool {
         ensures unchanged { OnErr result (self.new ≡ self.old) }
         ensures grows { Grows self.old self.new }
     {
-        let Ok((place, _)) = self.nodes.insert_full(node) else {
+        if let Some(id) = self.known(&node) {
+            return Ok(id);
+        }
+        self.add(node)
+    }
+
+    /// The id of a node's term, where the pool has that node.
+    fn known(&self, node: &Node) -> Option<TermId>
+        ensures known { IfSome result (λ id. slice_get self.now id.place ≡ Some node.now) }
+        ensures tree { IfSome result (λ id. tree_of self.now id ≡ tree_in (trees self.now) node.now) }
+        ensures contains { IsSome result → Contains self.now node.now }
+        ensures unknown { IfNone result (¬ Contains self.now node.now) }
+    {
+        match self.nodes.get_index_of(node) {
+            Some(place) => Some(TermId {
+                place: place as u32,
+            }),
+            None => None,
+        }
+    }
+
+    /// Puts a node that the pool lacks behind the others.
+    fn add(&mut self, node: Node) -> Result<TermId, NoMemory>
+        requires arguments { HasArguments (trees self.old) node }
+        requires unknown { ¬ Contains self.old node }
+        ensures is_in { IfOk result (λ id. IsIn self.new id) }
+        ensures tree { IfOk result (λ id. tree_of self.new id ≡ tree_in (trees self.old) node) }
+        ensures node { IfOk result (λ id. slice_get self.new id.place ≡ Some node) }
+        ensures added { OnOk result (self.new ≡ self.old ++ node ∷ []) }
+        ensures unchanged { OnErr result (self.new ≡ self.old) }
+        ensures grows { Grows self.old self.new }
+    {
+        let count = self.nodes.len();
+        if count >= u32::MAX as usize {
+            return Err(NoMemory);
+        }
+        let Ok(_) = self.nodes.insert_full(node) else {
             return Err(NoMemory);
         };
-        Ok(TermId { place })
+        Ok(TermId {
+            place: count as u32,
+        })
     }
 
     /// The node of an id.
@@ -73,7 +118,7 @@ impl TermPool {
         ensures arguments { HasArguments (trees self.now) result.now }
         ensures below { HasArgumentsBelow id.place result.now }
     {
-        match self.nodes.get_index(id.place) {
+        match self.nodes.get_index(id.index()) {
             Some(node) => node,
             None => unreachable!(),
         }
@@ -120,7 +165,7 @@ impl TermPool {
     }
 
     /// A function of some terms.
-    pub fn apply(&mut self, f: Func, args: List<TermId>) -> Result<TermId, NoMemory>
+    pub fn apply(&mut self, f: Func, args: Args) -> Result<TermId, NoMemory>
         requires below { AllBelow (length self.old) args }
         requires takes { IsTrue (takes f (row_in (trees self.old) args)) }
         ensures is_in { IfOk result (λ id. IsIn self.new id) }
@@ -140,7 +185,7 @@ impl TermPool {
         ensures unchanged { OnErr result (self.new ≡ self.old) }
         ensures grows { Grows self.old self.new }
     {
-        let args = listed(self.alloc, &[a])?;
+        let args = Args::new(self.alloc, &[a])?;
         self.apply(Func::BuiltIn(f), args)
     }
 
@@ -154,7 +199,7 @@ impl TermPool {
         ensures unchanged { OnErr result (self.new ≡ self.old) }
         ensures grows { Grows self.old self.new }
     {
-        let args = listed(self.alloc, &[a, b])?;
+        let args = Args::new(self.alloc, &[a, b])?;
         self.apply(Func::BuiltIn(f), args)
     }
 
@@ -175,17 +220,7 @@ impl TermPool {
         ensures unchanged { OnErr result (self.new ≡ self.old) }
         ensures grows { Grows self.old self.new }
     {
-        let args = listed(self.alloc, &[a, b, c])?;
+        let args = Args::new(self.alloc, &[a, b, c])?;
         self.apply(Func::BuiltIn(f), args)
     }
-}
-
-/// A list of these ids.
-fn listed(alloc: Global, ids: &[TermId]) -> Result<List<TermId>, NoMemory>
-    ensures { IfOk result (λ l. l ≡ ids.now) }
-{
-    let Ok(items) = Vec::from_slice(alloc, ids) else {
-        return Err(NoMemory);
-    };
-    Ok(List::from_vec(items))
 }

@@ -3,8 +3,8 @@ ghost use Rattle.std.specs.Prelude.{◌≡◌, ◌∷◌, [], ◌++◌, ◌+◌,
 ghost use Rattle.formula.specs.Pool.{AllBelow, Grows, IsIn, tree_of};
 ghost use Rattle.formula.specs.Substitution.{AreIn, HasImages, IsClosedFrom, arguments_of, binding_of, ids_at, is_marked, marked, under};
 
-use crate::{Node, TermId, TermPool, Word};
-use edge_io::{List, NoMemory};
+use crate::{Args, Node, TermId, TermPool, Word};
+use edge_io::NoMemory;
 use std::alloc::Global;
 
 /// A symbol, or its entry value, and the term that is put for it.
@@ -33,7 +33,10 @@ pub fn substitute(
     let marks = reached(alloc, pool, id)?;
     let mut images = Vec::new(alloc);
     for place in 0..marks.len() {
-        let here = TermId { place };
+        prove!(place < pool.count());
+        let here = TermId {
+            place: place as u32,
+        };
         if marks[place] {
             let answer = image(alloc, pool, symbols, entries, images.as_slice(), here)?;
             pushed(&mut images, answer)?;
@@ -41,7 +44,7 @@ pub fn substitute(
             pushed(&mut images, here)?;
         }
     }
-    Ok(images[id.place])
+    Ok(images[id.index()])
 }
 
 /// Puts an id at the end.
@@ -61,16 +64,16 @@ fn reached(alloc: Global, pool: &TermPool, id: TermId) -> Result<Vec<bool>, NoMe
     ensures top { IfOk result (λ m. is_marked m.items id.place ≡ true) }
     ensures closed { IfOk result (λ m. IsClosedFrom 0 pool.now m.items) }
 {
-    prove!(id.place < pool.count());
-    let Ok(mut marks) = vec![in alloc; false; id.place + 1] else {
+    prove!(id.index() < pool.count());
+    let Ok(mut marks) = vec![in alloc; false; id.index() + 1] else {
         return Err(NoMemory);
     };
-    marks[id.place] = true;
-    let mut left = id.place + 1;
+    marks[id.index()] = true;
+    let mut left = id.index() + 1;
     while left > 0 {
         left -= 1;
         if marks[left] {
-            let node = pool.node(TermId { place: left });
+            let node = pool.node(TermId { place: left as u32 });
             mark(&mut marks, arguments(node));
         }
     }
@@ -93,7 +96,7 @@ fn mark(marks: &mut Vec<bool>, ids: &[TermId])
     ensures { marks.new.items ≡ marked marks.old.items ids.now }
 {
     for id in ids {
-        marks[id.place] = true;
+        marks[id.index()] = true;
     }
 }
 
@@ -140,15 +143,13 @@ fn bound_term(bindings: &[Binding], name: Word) -> Option<TermId>
 }
 
 /// The images at some places.
-fn picked(alloc: Global, images: &[TermId], ids: &[TermId]) -> Result<List<TermId>, NoMemory>
+fn picked(alloc: Global, images: &[TermId], ids: &[TermId]) -> Result<Args, NoMemory>
     requires { AllBelow (length images.now) ids.now }
     ensures { IfOk result (λ l. l ≡ ids_at images.now ids.now) }
 {
-    let mut items = Vec::new(alloc);
+    let mut items = Args::empty();
     for id in ids {
-        if items.push(images[id.place]).is_err() {
-            return Err(NoMemory);
-        }
+        items.push(alloc, images[id.index()])?;
     }
-    Ok(List::from_vec(items))
+    Ok(items)
 }

@@ -1,6 +1,6 @@
 // A text as tokens.
 ghost use Rattle.std.specs.Prelude.{◌≡◌, ◌≢◌, ◌<◌, ◌≤◌, true, [], ◌∷◌, length, drop, slice_range, slice_index_or, IfNone, IfSome};
-ghost use Rattle.formula.specs.Tokens.{is_atom_byte, atom, placed, tokens_from};
+ghost use Rattle.formula.specs.Tokens.{is_atom_byte, atom, lexeme, tokens_from};
 ghost use Rattle.formula.specs.NextToken.{IsNext};
 
 /// A token: a bracket, or an atom, which ends at a blank or a bracket.
@@ -13,7 +13,7 @@ pub enum Token<'a> {
 
 /// A token, and the number of bytes of the text up to its end.
 #[derive(Clone, Copy, Debug, PartialEq, Eq)]
-pub struct Placed<'a> {
+pub struct Lexeme<'a> {
     pub token: Token<'a>,
     pub after: usize,
 }
@@ -47,7 +47,7 @@ fn atom_end(text: &[u8], start: usize) -> usize
     requires first { is_atom_byte (slice_index_or text.now start 0) ≡ true }
     ensures low { start < result }
     ensures high { result ≤ length text.now }
-    ensures same { tokens_from start [] (drop start text.now) ≡ placed (atom (slice_range text.now start result)) result ∷ tokens_from result [] (drop result text.now) }
+    ensures same { tokens_from start [] (drop start text.now) ≡ lexeme (atom (slice_range text.now start result)) result ∷ tokens_from result [] (drop result text.now) }
 {
     let mut end = start + 1;
     while end < text.len() && is_atom_byte(text[end]) {
@@ -58,7 +58,7 @@ fn atom_end(text: &[u8], start: usize) -> usize
 
 #[tactic(auto, using(crate::proofs::TokenSteps::none_left, crate::proofs::TokenSteps::opening_next, crate::proofs::TokenSteps::closing_next, crate::proofs::TokenSteps::atom_byte))]
 /// The first token behind the first `at` bytes of a text: `None` where only blanks are left.
-pub fn next_token(text: &[u8], at: usize) -> Option<Placed<'_>>
+pub fn next_token(text: &[u8], at: usize) -> Option<Lexeme<'_>>
     requires { at ≤ length text.now }
     ensures none { IfNone result (tokens_from at [] (drop at text.now) ≡ []) }
     ensures some { IfSome result (λ p. IsNext text.now at p) }
@@ -68,17 +68,17 @@ pub fn next_token(text: &[u8], at: usize) -> Option<Placed<'_>>
         return None;
     }
     match text[start] {
-        b'(' => Some(Placed {
+        b'(' => Some(Lexeme {
             token: Token::Opening,
             after: start + 1,
         }),
-        b')' => Some(Placed {
+        b')' => Some(Lexeme {
             token: Token::Closing,
             after: start + 1,
         }),
         _ => {
             let after = atom_end(text, start);
-            Some(Placed {
+            Some(Lexeme {
                 token: Token::Atom(&text[start..after]),
                 after,
             })

@@ -65,7 +65,7 @@ pub(crate) fn term_text(
             return Ok(String::from_utf8(text)?);
         };
         match next {
-            Some(id) if id.place < pool.count() => {
+            Some(id) if id.index() < pool.count() => {
                 put_node(alloc, &mut text, definitions, pool.node(id), &mut stack)?;
             }
             Some(_) => bail!("no such term"),

@@ -3,4 +3,4 @@ use Rattle.formula.proofs.SpelledRead.{spelled_read}
 use Rattle.formula.proofs.grammar.reading_is_the_grammar.Goals as goal
 
 pub returns : goal.returns
-returns c = λ named text t n. (read_spelled named text t n, spelled_read named text t n)
+returns c = λ named limit text t n. (read_spelled named limit text t n, spelled_read named limit text t n)

@@ -4,4 +4,4 @@ use Rattle.formula.proofs.OneIdEach.{one_id_each}
 use Rattle.formula.proofs.pool.TermPool.count.Goals as goal
 
 pub returns-clause-one_id_each : goal.returns-clause-one_id_each
-returns-clause-one_id_each c = subst HasOneIdEach c.self.view_is (one_id_each c.self.inside.nodes.keys c.self.invariant c.len.ensures.unique)
+returns-clause-one_id_each c = subst HasOneIdEach c.self.view_is (one_id_each c.self.inside.nodes.keys c.self.invariant.pool c.len.ensures.unique)

@@ -7,12 +7,12 @@ use Rattle.formula.proofs.pool.TermPool.node.Goals as goal
 pub returns-clause-tree : goal.returns-clause-tree
 returns-clause-tree c =
     subst (λ ns. tree_at (trees ns) c.args.id.place ≡ tree_in (trees ns) c.in-Some.node.now) c.self.view_is
-    (tree_at-trees c.self.inside.nodes.keys c.args.id.place c.in-Some.node.now c.self.invariant (grind (arith, common_steps, c.get_index.ensures.key, c.in-Some.is)))
+    (tree_at-trees c.self.inside.nodes.keys c.args.id.place c.in-Some.node.now c.self.invariant.pool (grind (arith, common_steps, c.get_index.ensures.key, c.in-Some.is)))
 
 pub returns-clause-arguments : goal.returns-clause-arguments
 returns-clause-arguments c =
     subst (λ ns. HasArguments (trees ns) c.in-Some.node.now) c.self.view_is
-    (pool_at c.self.inside.nodes.keys c.args.id.place c.in-Some.node.now c.self.invariant (grind (arith, common_steps, c.get_index.ensures.key, c.in-Some.is)))
+    (pool_at c.self.inside.nodes.keys c.args.id.place c.in-Some.node.now c.self.invariant.pool (grind (arith, common_steps, c.get_index.ensures.key, c.in-Some.is)))
 
 pub returns-clause-below : goal.returns-clause-below
-returns-clause-below c = below_at c.self.inside.nodes.keys c.args.id.place c.in-Some.node.now c.self.invariant (grind (arith, common_steps, c.get_index.ensures.key, c.in-Some.is))
+returns-clause-below c = below_at c.self.inside.nodes.keys c.args.id.place c.in-Some.node.now c.self.invariant.pool (grind (arith, common_steps, c.get_index.ensures.key, c.in-Some.is))

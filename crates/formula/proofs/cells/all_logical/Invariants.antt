@@ -1,7 +1,0 @@
-use Rattle.std.proofs.Common.{◌≡◌, drop}
-use Rattle.std.specs.List.{list_all}
-use Rattle.formula.specs.Values.{is_logical_cell}
-use Rattle.formula.proofs.cells.all_logical.Given as goal
-
-abbrev pub invariant-loop-cell : goal.invariant-loop-cell
-invariant-loop-cell l = list_all is_logical_cell l.cells ≡ list_all is_logical_cell (drop l.cell-index l.cells)

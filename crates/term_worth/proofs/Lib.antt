@@ -1,0 +1,11 @@
+pub mod Applied
+pub mod Assigned
+pub mod Bodies
+pub mod Combined
+pub mod Depth
+pub mod Doing
+pub mod Held
+pub mod OtherLengths
+pub mod Remainders
+pub mod Steps
+pub mod SymbolValues

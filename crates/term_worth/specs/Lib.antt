@@ -1,0 +1,3 @@
+pub mod Machine
+pub mod Ranges
+pub mod Sheets

@@ -1,0 +1,22 @@
+//! What terms are worth: their evaluation, with a stock of turns.
+#![tactic(auto)]
+
+mod applying;
+mod cells;
+mod combining;
+mod evaluation;
+mod held_values;
+mod machine;
+mod no_worth;
+mod numbers;
+mod pile;
+mod scopes;
+mod sheet;
+mod sheet_fault;
+mod taking;
+mod uses;
+
+pub use evaluation::worth;
+pub use no_worth::Worth;
+pub use sheet::Sheet;
+pub use sheet_fault::SheetFault;
