@@ -2,8 +2,9 @@
 use Rattle.std.proofs.Common.{◌≡◌, ℕ, ◌+◌, ◌≤◌, inl, inr, Bool, true, false, if◌then◌else◌, List, [], ◌∷◌, length, Option, Some, None, refl, sym, subst, arith, rules}
 use Rattle.std.specs.Prelude.{nat_lt}
 use Rattle.fort_syntax.specs.Cards.{Card, cards_of, kind_of}
-use Rattle.fort_syntax.specs.CardRules.{Before, nothing, behind, broken_by, fault_from, fault_or, card_fault, has_bad_byte, has_bad_label, lacks_initial, is_twentieth, is_bad_note}
-use Rattle.fort_syntax.specs.CardFaults.{IsBrokenBy, bad_byte, bad_label, no_initial, many_cards, bad_note_card, IsBrokenFrom, IsCardRuleBroken, IsAtMost, FirstCardFaultIsLeast}
+use Rattle.fort_syntax.specs.CardRules.{Before, nothing, behind, broken_by, fault_from, fault_or, has_bad_byte, has_bad_label, lacks_initial, is_twentieth, is_bad_note}
+use Rattle.fort_syntax.specs.CardFaults.{IsBrokenBy, bad_byte, bad_label, no_initial, many_cards, bad_note_card, IsBrokenFrom, IsCardRuleBroken, FirstCardFaultIsLeast}
+use Rattle.fort_syntax.specs.FirstFaults.{IsAtMost, TellsLeast}
 use Rattle.fort_syntax.specs.declared.refusal.Fault.{Fault}
 use Rattle.fort_syntax.specs.declared.rule.Rule.{Rule}
 use Rattle.fort_syntax.specs.declared.rule.Rule.TheVariants.{TooLong, BadByte, BadLabel, NoInitial, ManyCards, BadNoteCard}
@@ -94,21 +95,10 @@ not_before before n (card ∷ rest) rule number (inl h) = (let same = h.0 in ome
 not_before before n (card ∷ rest) rule number (inr h) =
     let later = not_before (behind (kind_of card) before) (n + 1) rest rule number h in (let le = later.0 in omega arith, later.1)
 
--- a fault is that of a broken rule, and none is broken before it
-abbrev IsLeastOf : (Rule → ℕ → Type 0) → Fault → Type 0
-IsLeastOf IsBroken f = IsBroken f.rule f.card × ((rule : Rule) (card : ℕ) → IsBroken rule card → IsAtMost f.rule f.card rule card)
-
-some_same : {A : Type 0} (x y : A) → Some x ≡ Some y → x ≡ y
-some_same x y e = search rules
-
-abbrev Answers : (Rule → ℕ → Type 0) → Option Fault → Type 0
-Answers IsBroken None = (rule : Rule) (card : ℕ) → ¬ IsBroken rule card
-Answers IsBroken (Some f) = IsLeastOf IsBroken f
-
 -- one card more in front
 stepped : (before : Before) (n : ℕ) (card : Card) (rest : List Card) (o : Option Rule) (later : Option Fault) → Least before card o
-    → Answers (IsBrokenFrom (behind (kind_of card) before) (n + 1) rest) later
-    → Answers (IsBrokenFrom before n (card ∷ rest)) (fault_or o n later)
+    → TellsLeast (IsBrokenFrom (behind (kind_of card) before) (n + 1) rest) later
+    → TellsLeast (IsBrokenFrom before n (card ∷ rest)) (fault_or o n later)
 stepped before n card rest (Some r) later least rec = (inl (refl, least.0), bound)
   where
     bound : (rule : Rule) (at : ℕ) → IsBrokenFrom before n (card ∷ rest) rule at → IsAtMost r n rule at
@@ -125,15 +115,15 @@ stepped before n card rest None None least rec = none
     none rule at (inl h) = least rule h.1
     none rule at (inr h) = rec rule at h
 
-answers_from : (before : Before) (n : ℕ) (cards : List Card) → Answers (IsBrokenFrom before n cards) (fault_from before n cards)
+answers_from : (before : Before) (n : ℕ) (cards : List Card) → TellsLeast (IsBrokenFrom before n cards) (fault_from before n cards)
 answers_from before n [] = λ rule card h. h
 answers_from before n (card ∷ rest) =
     stepped before n card rest (broken_by before card) (fault_from (behind (kind_of card) before) (n + 1) rest) (least_at before card) (answers_from (behind (kind_of card) before) (n + 1) rest)
 
 -- the length before all cards
 limited : (bytes : List ℕ) (long : Bool) (later : Option Fault) → nat_lt 1048576 (length bytes) ≡ long
-    → Answers (IsBrokenFrom nothing 1 (cards_of bytes)) later
-    → Answers (IsCardRuleBroken bytes) (if long then Some (record { rule = TooLong; card = 1 }) else later)
+    → TellsLeast (IsBrokenFrom nothing 1 (cards_of bytes)) later
+    → TellsLeast (IsCardRuleBroken bytes) (if long then Some (record { rule = TooLong; card = 1 }) else later)
 limited bytes true later long rec = (inl (refl, refl, search rules), bound)
   where
     bound : (rule : Rule) (at : ℕ) → IsCardRuleBroken bytes rule at → IsAtMost TooLong 1 rule at
@@ -150,9 +140,5 @@ limited bytes false None long rec = none
     none rule at (inl h) = search rules
     none rule at (inr h) = rec rule at h
 
-answers_of : (bytes : List ℕ) → Answers (IsCardRuleBroken bytes) (card_fault bytes)
-answers_of bytes = limited bytes (nat_lt 1048576 (length bytes)) (fault_from nothing 1 (cards_of bytes)) refl (answers_from nothing 1 (cards_of bytes))
-
 pub first_is_least : FirstCardFaultIsLeast
-first_is_least bytes =
-    (λ f e. subst (Answers (IsCardRuleBroken bytes)) e (answers_of bytes), λ e. subst (Answers (IsCardRuleBroken bytes)) e (answers_of bytes))
+first_is_least bytes = limited bytes (nat_lt 1048576 (length bytes)) (fault_from nothing 1 (cards_of bytes)) refl (answers_from nothing 1 (cards_of bytes))

@@ -2,7 +2,8 @@
 use Rattle.std.proofs.Common.{◌≡◌, ◌⊎◌, inl, inr, ℕ, true, false, List, [], ◌∷◌, ◌++◌, map, Option, Some, None, refl, sym, ap, ap₂, ◌∙◌, subst, rules, arith, append_assoc, append-nil}
 use Rattle.std.specs.Prelude.{◌&&◌, ◌||◌, not, nat_eq}
 use Rattle.std.specs.List.{list_any, list_all}
-use Rattle.fort_syntax.specs.Scopes.{same_name, same_option, same_dim, same_dims, is_among, once}
+use Rattle.formula.specs.Atoms.{same_bytes, is_among}
+use Rattle.fort_syntax.specs.Scopes.{same_option, same_dim, same_dims, once}
 use Rattle.fort_syntax.specs.Units.{Segment, gathered, blocks_by, names_of_items, items_of_block, group_of, scope_of, unit_of}
 use Rattle.fort_syntax.specs.NameRules.{Member, member_of, same_member, same_members, members, is_adjustable, declares_otherwise, is_bad_block_of}
 use Rattle.fort_syntax.specs.WellFormed.{scope_of_unit, members_of_group, agree_groups, agree_on_blocks}
@@ -54,11 +55,11 @@ dims_equal (d ∷ ds) (e ∷ es) h =
 
 member_equal : (a b : Member) → same_member a b ≡ true → a ≡ b
 member_equal a b h =
-    let firsts = first_true (same_name a.name b.name && same_option a.sort b.sort) (same_dims a.dims b.dims) h in
-    let names = same_names a.name b.name (first_true (same_name a.name b.name) (same_option a.sort b.sort) firsts) in
-    let sorts = sorts_equal a.sort b.sort (second_true (same_name a.name b.name) (same_option a.sort b.sort) firsts) in
+    let firsts = first_true (same_bytes a.name b.name && same_option a.sort b.sort) (same_dims a.dims b.dims) h in
+    let names = same_names a.name b.name (first_true (same_bytes a.name b.name) (same_option a.sort b.sort) firsts) in
+    let sorts = sorts_equal a.sort b.sort (second_true (same_bytes a.name b.name) (same_option a.sort b.sort) firsts) in
     let dims = dims_equal a.dims b.dims
-    (second_true (same_name a.name b.name && same_option a.sort b.sort) (same_dims a.dims b.dims) h) in
+    (second_true (same_bytes a.name b.name && same_option a.sort b.sort) (same_dims a.dims b.dims) h) in
     λ i. record { name = names i; sort = sorts i; dims = dims i }
 
 members_equal : (a b : List Member) → same_members a b ≡ true → a ≡ b
@@ -178,13 +179,13 @@ module _ (d : Dialect) (units : List Segment) (given : AreGiven d [] units) wher
       → IsIn c (gathered blocks_by q)
       → agree_groups (unit_of p) (unit_of q) (group_of p b) (group_of q c) ≡ true
   groups_agree p q k l b c m n =
-      ap₂ (λ x y. not (same_name x y) || same_members (members_of_group (unit_of p) (group_of p b))
+      ap₂ (λ x y. not (same_bytes x y) || same_members (members_of_group (unit_of p) (group_of p b))
       (members_of_group (unit_of q) (group_of q c)))
       (block_again b) (block_again c)
-      ∙ case (same_name b c) same other
+      ∙ case (same_bytes b c) same other
     where
-      same : same_name b c ≡ true
-          → (not (same_name b c) || same_members (members_of_group (unit_of p) (group_of p b))
+      same : same_bytes b c ≡ true
+          → (not (same_bytes b c) || same_members (members_of_group (unit_of p) (group_of p b))
           (members_of_group (unit_of q) (group_of q c))) ≡ true
       same t =
           let e = same_names b c t in
@@ -195,16 +196,16 @@ module _ (d : Dialect) (units : List Segment) (given : AreGiven d [] units) wher
           ∙ all_agree d [] units given (λ x y h. elim h [ ]) p q k l b m
           (subst (λ z. IsIn z (gathered blocks_by q)) (sym e) n)
           ∙ ap (members q) e ∙ sym (made_members d gq.0 q gq.1 c) in
-          right_true (not (same_name b c))
+          right_true (not (same_bytes b c))
           (same_members (members_of_group (unit_of p) (group_of p b)) (members_of_group (unit_of q) (group_of q c)))
           (ap (same_members (members_of_group (unit_of p) (group_of p b))) (sym equal) ∙ members_self
           (members_of_group (unit_of p) (group_of p b)))
 
-      other : same_name b c ≡ false
-          → (not (same_name b c) || same_members (members_of_group (unit_of p) (group_of p b))
+      other : same_bytes b c ≡ false
+          → (not (same_bytes b c) || same_members (members_of_group (unit_of p) (group_of p b))
           (members_of_group (unit_of q) (group_of q c))) ≡ true
       other f =
-          left_true (not (same_name b c))
+          left_true (not (same_bytes b c))
           (same_members (members_of_group (unit_of p) (group_of p b))
           (members_of_group (unit_of q) (group_of q c))) (not_false f)
 

@@ -1,6 +1,7 @@
 -- The COMMON entities of a unit made of statements are those of the statements.
 use Rattle.std.proofs.Common.{◌≡◌, ◌≤◌, ℕ, ◌+◌, Bool, true, false, cond, List, [], ◌∷◌, ◌++◌, map, flat_map, refl, sym, ap, ◌∙◌, subst, rules, arith}
-use Rattle.fort_syntax.specs.Scopes.{same_name, is_among, has_twin, once}
+use Rattle.formula.specs.Atoms.{same_bytes, is_among, has_twin}
+use Rattle.fort_syntax.specs.Scopes.{once}
 use Rattle.fort_syntax.specs.Units.{Segment, gathered, groups_by, blocks_by, items_by, names_in, data_names, dummies_of, own_value_of, common_items_by, commons_of, names_of_items, name_of_block, items_of_block_in, items_of_block, item_of, group_of, unit_of}
 use Rattle.fort_syntax.specs.NameRules.{commons_by}
 use Rattle.fort_syntax.specs.WellFormed.{commons_of_unit}
@@ -23,15 +24,15 @@ one_if false = 0
 
 abbrev times : Name → List Name → ℕ
 times x [] = 0
-times x (y ∷ ys) = one_if (same_name x y) + times x ys
+times x (y ∷ ys) = one_if (same_bytes x y) + times x ys
 
 times_joined : (x : Name) (xs ys : List Name) → times x (xs ++ ys) ≡ times x xs + times x ys
 times_joined x [] ys = let same : 0 + times x ys ≡ times x ys = omega arith in sym same
 times_joined x (y ∷ xs) ys =
     let h = times_joined x xs ys in
-    ap (λ n. one_if (same_name x y) + n) h
-    ∙ (let same : one_if (same_name x y) + (times x xs + times x ys) ≡ one_if
-    (same_name x y) + times x xs + times x ys = omega arith in same)
+    ap (λ n. one_if (same_bytes x y) + n) h
+    ∙ (let same : one_if (same_bytes x y) + (times x xs + times x ys) ≡ one_if
+    (same_bytes x y) + times x xs + times x ys = omega arith in same)
 
 never : (x : Name) (xs : List Name) → ¬ IsIn x xs → times x xs ≡ 0
 never x [] h = refl
@@ -50,7 +51,7 @@ once_at_most : (x : Name) (xs : List Name) → has_twin xs ≡ false → times x
 once_at_most x [] h = omega arith
 once_at_most x (y ∷ ys) h =
     let rest = once_at_most x ys (second_false (is_among y ys) (has_twin ys) h) in
-    case (same_name x y)
+    case (same_bytes x y)
     (λ t. let e = ap one_if t in
     let none = never x ys
     (subst (λ z. ¬ IsIn z ys) (sym (same_names x y t))
@@ -79,7 +80,7 @@ abbrev in_block : List Group → Name → List Name
 in_block groups b = names_of_items (items_of_block_in groups b)
 
 abbrev if_named : Name → List Name → Name → List Name
-if_named c names b = cond (same_name c b) names []
+if_named c names b = cond (same_bytes c b) names []
 
 names_if : (s : Bool) (items : List Item) → names_of_items (cond s items []) ≡ cond s (names_of_items items) []
 names_if true items = refl
@@ -88,8 +89,8 @@ names_if false items = refl
 one_group : (g : Group) (groups : List Group) (b : Name)
     → in_block (g ∷ groups) b ≡ if_named (name_of_block g.block) (of_group g) b ++ in_block groups b
 one_group g groups b =
-    map_joined (λ i. i.name) (cond (same_name (name_of_block g.block) b) g.items []) (items_of_block_in groups b)
-    ∙ ap (λ zs. zs ++ in_block groups b) (names_if (same_name (name_of_block g.block) b) g.items)
+    map_joined (λ i. i.name) (cond (same_bytes (name_of_block g.block) b) g.items []) (items_of_block_in groups b)
+    ∙ ap (λ zs. zs ++ in_block groups b) (names_if (same_bytes (name_of_block g.block) b) g.items)
 
 times_groups : (x : Name) (g : Group) (groups : List Group) (bs : List Name)
     → times x (flat_map (in_block (g ∷ groups)) bs)
@@ -119,7 +120,7 @@ of_one : (x c : Name) (names bs : List Name) → has_twin bs ≡ false
 of_one x c names [] h = omega arith
 of_one x c names (b ∷ bs) h =
     let joined = times_joined x (if_named c names b) (flat_map (if_named c names) bs) in
-    case (same_name c b)
+    case (same_bytes c b)
     (λ t. let one = ap (λ s. times x (cond s names [])) t in
     let none = of_none x c names bs
     (subst (λ z. ¬ IsIn z bs) (sym (same_names c b t))
@@ -198,10 +199,10 @@ module _ (unit : Segment) where
   common_of_block : (x b : Name) → IsIn x (in_block all_groups b) → IsIn x (flat_map of_group all_groups)
   common_of_block x b m =
       let i = map_in (λ j. j.name) (items_of_block_in all_groups b) m in
-      let h = flat_in (λ k. cond (same_name (name_of_block k.block) b) k.items []) all_groups i.1 in
+      let h = flat_in (λ k. cond (same_bytes (name_of_block k.block) b) k.items []) all_groups i.1 in
       in_flat of_group all_groups h.1
       (subst (λ z. IsIn z (of_group h.0)) i.2
-      (in_map (λ j. j.name) h.0.items (if_of (same_name (name_of_block h.0.block) b) h.0.items h.2)))
+      (in_map (λ j. j.name) h.0.items (if_of (same_bytes (name_of_block h.0.block) b) h.0.items h.2)))
 
   as_common : (x : Name) → IsIn x (flat_map of_group all_groups) → IsIn x (commons_of unit)
   as_common x m = subst (λ z. IsIn x z) (sym commons_by_groups ∙ commons_are) m
@@ -219,8 +220,8 @@ module _ (unit : Segment) where
       in_flat (in_block all_groups) (once (gathered blocks_by unit)) (block_given h.0 h.1)
       (subst (λ z. IsIn z (in_block all_groups b)) i.2
       (in_map (λ j. j.name) (items_of_block_in all_groups b)
-      (in_flat (λ k. cond (same_name (name_of_block k.block) b) k.items []) all_groups h.1
-      (of_if (same_name b b) h.0.items (same_self b) i.1))))
+      (in_flat (λ k. cond (same_bytes (name_of_block k.block) b) k.items []) all_groups h.1
+      (of_if (same_bytes b b) h.0.items (same_self b) i.1))))
 
   pub common_in : (x : Name) → IsIn x (commons_of_unit (unit_of unit)) → IsIn x (commons_of unit)
   common_in x m =

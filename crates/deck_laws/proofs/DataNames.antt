@@ -1,7 +1,8 @@
 -- The data names and functions of a unit that keeps the rules.
 use Rattle.std.proofs.Common.{◌≡◌, Bool, true, false, cond, List, [], ◌∷◌, ◌++◌, refl, ap, ◌∙◌, subst, rules}
 use Rattle.std.specs.Prelude.{◌&&◌, ◌||◌, not}
-use Rattle.fort_syntax.specs.Scopes.{same_name, is_among, is_array, is_given_dims, kept, once}
+use Rattle.formula.specs.Atoms.{same_bytes, is_among}
+use Rattle.fort_syntax.specs.Scopes.{is_array, is_given_dims, kept, once}
 use Rattle.fort_syntax.specs.Uses.{Use, called, Occurrence, uses_of}
 use Rattle.fort_syntax.specs.Units.{Segment, gathered, own_value_of, dummies_by, dummies_of, commons_of, items_by, names_in, data_names, held_by, scope_of, dims_in, is_called, is_applied, is_reference, references_in, references_of}
 use Rattle.fort_syntax.specs.UseRules.{is_bare, is_bare_use_of, is_reference_to}
@@ -31,15 +32,15 @@ gathered_in give unit m = flat_in (λ l. give l.stmt) unit m
 pub item_of_dims : (items : List Item) (x : Name) → is_given_dims (dims_in items x) ≡ true
     → (i : Item) × IsIn i items × (i.name ≡ x) × (dims_in items x ≡ i.dims)
 item_of_dims [] x h = search rules
-item_of_dims (i ∷ items) x h = by (same_name i.name x && is_given_dims i.dims) refl h (item_of_dims items x)
+item_of_dims (i ∷ items) x h = by (same_bytes i.name x && is_given_dims i.dims) refl h (item_of_dims items x)
   where
-    by : (b : Bool) → (same_name i.name x && is_given_dims i.dims) ≡ b
+    by : (b : Bool) → (same_bytes i.name x && is_given_dims i.dims) ≡ b
         → is_given_dims (cond b i.dims (dims_in items x)) ≡ true
         → (is_given_dims (dims_in items x) ≡ true → (j : Item) × IsIn j items × (j.name ≡ x)
         × (dims_in items x ≡ j.dims))
         → (j : Item) × IsIn j (i ∷ items) × (j.name ≡ x) × (cond b i.dims (dims_in items x) ≡ j.dims)
     by true e k rest =
-        (i, here refl, same_names i.name x (first_true (same_name i.name x) (is_given_dims i.dims) e), refl)
+        (i, here refl, same_names i.name x (first_true (same_bytes i.name x) (is_given_dims i.dims) e), refl)
     by false e k rest = let r = rest k in (r.0, there r.1, r.2, r.3)
 
 -- an array is no function reference

@@ -8,7 +8,7 @@ use Rattle.fort_syntax.specs.declared.class.Class.TheVariants.{Heading, Declarin
 use Rattle.fort_syntax.specs.declared.dialect.Dialect.{Dialect}
 use Rattle.fort_syntax.specs.declared.unit.Line.{Line}
 use Rattle.deck_laws.specs.Spelling.{IsSpelled, AreSpelled}
-use Rattle.deck_laws.specs.Ascent.{ascend_above}
+use Rattle.deck_laws.proofs.Ascending.{ascend_above, ascend_lower, lower}
 use Rattle.deck_laws.proofs.Tests.{first_true, second_true, both_true}
 use Rattle.deck_laws.proofs.Members.{IsIn, here, there}
 use Rattle.deck_laws.proofs.Keeping.{KeepsAll, AllKeep}
@@ -24,16 +24,6 @@ pub record IsPart (d : Dialect) (card : ℕ) (unit : Segment) : Type 0 where
 abbrev pub AreParts : Dialect → ℕ → List Segment → Type 0
 AreParts d card [] = ⊤
 AreParts d card (unit ∷ units) = IsPart d card unit × AreParts d card units
-
-lower : (low card other : ℕ) → low < card → nat_lt card other ≡ true → nat_lt low other ≡ true
-lower low card other less h = grind (arith, nat_tests)
-
-pub ascend_lower : (low card : ℕ) (lines : List Line) → low < card → ascend_above card lines ≡ true
-    → ascend_above low lines ≡ true
-ascend_lower low card [] less h = refl
-ascend_lower low card (line ∷ lines) less h =
-    both_true (lower low card line.card less (first_true (nat_lt card line.card) (ascend_above line.card lines) h))
-    (second_true (nat_lt card line.card) (ascend_above line.card lines) h)
 
 parts_lower : (d : Dialect) (low card : ℕ) (units : List Segment) → low < card → AreParts d card units
     → AreParts d low units

@@ -1,9 +1,10 @@
 -- The head of a unit, and the unit's own name.
 use Rattle.std.proofs.Common.{◌≡◌, Bool, true, false, List, [], ◌∷◌, ◌++◌, refl, sym, ap, ◌∙◌, subst, rules}
 use Rattle.std.specs.Prelude.{◌&&◌, ◌||◌, not}
-use Rattle.fort_syntax.specs.Scopes.{same_name, is_among, is_name, is_integer_scalar}
+use Rattle.formula.specs.Atoms.{same_bytes, is_among, is_name}
+use Rattle.fort_syntax.specs.Scopes.{is_integer_scalar}
 use Rattle.fort_syntax.specs.Uses.{Use, assigned, applied, called, Occurrence, uses_of}
-use Rattle.fort_syntax.specs.Units.{Segment, gathered, own_name, is_function, is_function_head, headed_by, dummies_by, dummies_of, items_by, names_in, names_in_dims, data_names, references_of, scope_of, class_of, is_heading, is_declaring, is_called, is_applied}
+use Rattle.fort_syntax.specs.Units.{Segment, gathered, own_name, is_function_segment, is_function_head, headed_by, dummies_by, dummies_of, items_by, names_in, names_in_dims, data_names, references_of, scope_of, class_of, is_heading, is_declaring, is_called, is_applied}
 use Rattle.fort_syntax.specs.OrderRules.{has_executable}
 use Rattle.fort_syntax.specs.NameRules.{may_be_dim, typed_by, dimensioned_by, commons_by}
 use Rattle.fort_syntax.specs.UseRules.{is_bare, is_assigned, assigns}
@@ -56,34 +57,34 @@ module _ (d : Dialect) (earlier : List Segment) (unit : Segment) (g : Given d ea
 
   -- the head of a FUNCTION is the first statement of its unit
   function_first : (line : Line) → IsIn line unit → is_function_head line.stmt ≡ true
-      → (is_function unit ≡ true) × (own_name unit ≡ headed_by line.stmt)
+      → (is_function_segment unit ≡ true) × (own_name unit ≡ headed_by line.stmt)
   function_first line m h = let f = found line unit m in by f.before f.behind f.whole
     where
-      by : (before behind : List Line) → before ++ (line ∷ behind) ≡ unit → (is_function unit ≡ true)
+      by : (before behind : List Line) → before ++ (line ∷ behind) ≡ unit → (is_function_segment unit ≡ true)
           × (own_name unit ≡ headed_by line.stmt)
-      by [] behind e = (ap is_function (sym e) ∙ h, ap own_name (sym e))
+      by [] behind e = (ap is_function_segment (sym e) ∙ h, ap own_name (sym e))
       by (b ∷ bs) behind e =
           absurd (clash (function_heads line.stmt h)
           (no_first (first_false (is_heading (class_of line.stmt) && true)
           (is_declaring (class_of line.stmt) && has_executable (b ∷ bs)) (g.keeps (b ∷ bs) line behind e).order)))
 
   -- the value of a FUNCTION is assigned, so its name is used bare
-  own_value_no_reference : is_function unit ≡ true → ¬ IsIn (own_name unit) (references_of unit)
+  own_value_no_reference : is_function_segment unit ≡ true → ¬ IsIn (own_name unit) (references_of unit)
   own_value_no_reference f r =
       let given : not (assigns (own_name unit) (gathered uses_of unit)) ≡ false =
-      other_false (is_function unit) (not (assigns (own_name unit) (gathered uses_of unit)))
+      other_false (is_function_segment unit) (not (assigns (own_name unit) (gathered uses_of unit)))
       (g.keeps [] g.part.head g.part.rest (sym g.part.whole)).result f in
-      let o = some_in (λ p. same_name p.name (own_name unit) && is_assigned p.«use») (gathered uses_of unit)
+      let o = some_in (λ p. same_bytes p.name (own_name unit) && is_assigned p.«use») (gathered uses_of unit)
       (of_not_false given) in
       let w = gathered_in uses_of unit o.1 in
       bare_no_reference d earlier unit g w.0 w.1 o.0 w.2
-      (assigned_is_bare o.0.«use» (second_true (same_name o.0.name (own_name unit)) (is_assigned o.0.«use») o.2))
+      (assigned_is_bare o.0.«use» (second_true (same_bytes o.0.name (own_name unit)) (is_assigned o.0.«use») o.2))
       (subst (λ z. IsIn z (references_of unit))
       (sym (same_names o.0.name (own_name unit)
-      (first_true (same_name o.0.name (own_name unit)) (is_assigned o.0.«use») o.2))) r)
+      (first_true (same_bytes o.0.name (own_name unit)) (is_assigned o.0.«use») o.2))) r)
 
   -- the own name of a SUBROUTINE is used by CALLs alone
-  own_used : is_function unit ≡ false → (line : Line) → IsIn line unit → (o : Occurrence) → IsIn o (uses_of line.stmt)
+  own_used : is_function_segment unit ≡ false → (line : Line) → IsIn line unit → (o : Occurrence) → IsIn o (uses_of line.stmt)
       → is_called o.«use» ≡ false
       → o.name ≡ own_name unit → ⊥
   own_used f line m o k c e =
@@ -92,9 +93,9 @@ module _ (d : Dialect) (earlier : List Segment) (unit : Segment) (g : Given d ea
 
   -- no unit references itself
   pub own_no_reference : ¬ IsIn (own_name unit) (references_of unit)
-  own_no_reference r = case (is_function unit) (λ t. own_value_no_reference t r) no_subroutine
+  own_no_reference r = case (is_function_segment unit) (λ t. own_value_no_reference t r) no_subroutine
     where
-      no_subroutine : is_function unit ≡ false → ⊥
+      no_subroutine : is_function_segment unit ≡ false → ⊥
       no_subroutine f =
           let w = references_are unit (own_name unit) r in
           own_used f w.0 w.1 w.2 w.3 (applied_not_called w.2.«use» (first_true (is_applied w.2.«use») _ w.4)) w.5
@@ -118,7 +119,7 @@ module _ (d : Dialect) (earlier : List Segment) (unit : Segment) (g : Given d ea
       )
 
   -- the name of a SUBROUTINE is no data name
-  pub own_no_data : is_function unit ≡ false → ¬ IsIn (own_name unit) (data_names unit)
+  pub own_no_data : is_function_segment unit ≡ false → ¬ IsIn (own_name unit) (data_names unit)
   own_no_data f m =
       let w = gathered_in names_in unit (data_named unit (own_name unit) m) in
       no_name w.0 w.1 (named_as w.0.stmt (own_name unit) w.2)
@@ -139,8 +140,8 @@ module _ (d : Dialect) (earlier : List Segment) (unit : Segment) (g : Given d ea
       no_name line l (used o k c e) = own_used f line l o k c e
 
   -- the value of a FUNCTION stands in a statement
-  pub own_value_named : is_function unit ≡ true → IsIn (own_name unit) (gathered names_in unit)
+  pub own_value_named : is_function_segment unit ≡ true → IsIn (own_name unit) (gathered names_in unit)
   own_value_named t =
       in_gathered names_in g.part.head unit head_in
       (subst (λ z. IsIn (own_name z) (names_in g.part.head.stmt)) (sym g.part.whole)
-      (function_named g.part.head.stmt (ap is_function (sym g.part.whole) ∙ t)))
+      (function_named g.part.head.stmt (ap is_function_segment (sym g.part.whole) ∙ t)))

@@ -1,15 +1,18 @@
+pub mod Ascending
 pub mod AscendingEntries
 pub mod BlocksAgree
 pub mod CommonNames
 pub mod DataNames
+pub mod FirstFaultsOne
 pub mod Given
 pub mod Heads
 pub mod Keeping
 pub mod Lists
 pub mod Members
 pub mod Named
-pub mod NamesProved
 pub mod Names
+pub mod NamesProved
+pub mod NotesPlaced
 pub mod OrderProved
 pub mod RightStatements
 pub mod RolesProved
@@ -19,5 +22,6 @@ pub mod SortsAgree
 pub mod SpelledForms
 pub mod SpelledNames
 pub mod Tests
+pub mod UnitFaultsFirst
 pub mod UnitScopes
 pub mod WellFormedDecks

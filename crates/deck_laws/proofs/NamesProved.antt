@@ -2,9 +2,10 @@
 use Rattle.std.proofs.Common.{◌≡◌, true, false, cond, List, [], ◌∷◌, ◌++◌, map, flat_map, refl, sym, ap, ◌∙◌, subst}
 use Rattle.std.specs.Prelude.{◌||◌, not, is_some}
 use Rattle.std.specs.List.{list_all}
-use Rattle.fort_syntax.specs.Scopes.{is_among, has_twin, is_name, is_intrinsic_name, once}
+use Rattle.formula.specs.Atoms.{is_among, has_twin, is_name}
+use Rattle.fort_syntax.specs.Scopes.{is_intrinsic_name, once}
 use Rattle.fort_syntax.specs.Uses.{uses_of}
-use Rattle.fort_syntax.specs.Units.{Segment, gathered, own_name, own_value_of, is_function, dummies_of, commons_of, blocks_by, names_in, data_names, references_of, functions_of, group_of, block_of_name, held_by, unit_of}
+use Rattle.fort_syntax.specs.Units.{Segment, gathered, own_name, own_value_of, is_function_segment, dummies_of, commons_of, blocks_by, names_in, data_names, references_of, functions_of, group_of, block_of_name, held_by, unit_of}
 use Rattle.fort_syntax.specs.NameRules.{commons_by}
 use Rattle.fort_syntax.specs.WellFormed.{names_of_unit, functions_of_unit, commons_of_unit, own_value_of_unit, name_as_block, are_names, are_held_once, are_data_names}
 use Rattle.fort_syntax.specs.declared.dialect.Dialect.{Dialect}
@@ -90,7 +91,7 @@ module _ (d : Dialect) (earlier : List Segment) (unit : Segment) (g : Given d ea
   is_data_name : (x : Name) → IsIn x (data_names unit) → is_among x (names_of_unit (unit_of unit)) ≡ true
   is_data_name x m = ap (is_among x) (data_names_are unit) ∙ in_among x (data_names unit) m
 
-  own_is_data : is_function unit ≡ true → IsIn (own_name unit) (data_names unit)
+  own_is_data : is_function_segment unit ≡ true → IsIn (own_name unit) (data_names unit)
   own_is_data t =
       held_is_data unit (own_name unit) (own_value_named d earlier unit g t)
       (in_right (dummies_of unit ++ commons_of unit) (own_value_of unit)
@@ -104,21 +105,21 @@ module _ (d : Dialect) (earlier : List Segment) (unit : Segment) (g : Given d ea
       (λ k. either (in_either (dummies_of unit) (commons_of_unit (unit_of unit)) k)
       (λ h. is_data_name x (dummy_is_data unit x h))
       (λ h. is_data_name x (common_is_data unit x (common_in unit x h))))
-      (λ k. let o = own_value_is unit (is_function unit) x (own_name unit)
+      (λ k. let o = own_value_is unit (is_function_segment unit) x (own_name unit)
       (subst (λ z. IsIn x z) (own_value_same unit) k) in
       is_data_name x (subst (λ z. IsIn z (data_names unit)) o.1 (own_is_data o.0)))
 
   function_or_no_data : (is_some (unit_of unit).sort || not (is_among (own_name unit) (names_of_unit (unit_of unit))))
       ≡ true
-  function_or_no_data = case (is_function unit) function subroutine
+  function_or_no_data = case (is_function_segment unit) function subroutine
     where
-      function : is_function unit ≡ true
+      function : is_function_segment unit ≡ true
           → (is_some (unit_of unit).sort || not (is_among (own_name unit) (names_of_unit (unit_of unit)))) ≡ true
       function t =
           left_true (is_some (unit_of unit).sort) (not (is_among (own_name unit) (names_of_unit (unit_of unit))))
           (is_function_made unit ∙ t)
 
-      subroutine : is_function unit ≡ false
+      subroutine : is_function_segment unit ≡ false
           → (is_some (unit_of unit).sort || not (is_among (own_name unit) (names_of_unit (unit_of unit)))) ≡ true
       subroutine f =
           right_true (is_some (unit_of unit).sort) (not (is_among (own_name unit) (names_of_unit (unit_of unit))))

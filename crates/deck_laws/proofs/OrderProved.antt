@@ -1,10 +1,13 @@
 -- The order of the statements of a made unit, and the value of a FUNCTION.
-use Rattle.std.proofs.Common.{◌≡◌, ℕ, zero, suc, Bool, true, false, cond, List, [], ◌∷◌, ◌++◌, refl, sym, ap, ◌∙◌, rules, arith, append_assoc, append-nil}
+use Rattle.std.proofs.Common.{◌≡◌, ℕ, zero, suc, Bool, true, false, cond, List, [], ◌∷◌, ◌++◌, refl, sym, ap, ◌∙◌, subst, rules, arith, append_assoc, append-nil}
 use Rattle.std.specs.Prelude.{◌&&◌, not, nat_lt, ◌==◌, is_some}
 use Rattle.std.specs.List.{list_any}
 use Rattle.std.proofs.lemmas.Bool.Decides.{nat_tests}
 use Rattle.fort_syntax.specs.Uses.{uses_of}
-use Rattle.fort_syntax.specs.Units.{Segment, gathered, executables, own_name, is_function, class_of, is_performing, unit_of}
+use Rattle.fort_syntax.specs.DeckOrder.{stand_between}
+use Rattle.fort_syntax.specs.Units.{Segment, gathered, executables, own_name, is_function_segment, class_of, is_performing, is_heading, is_ending, card_of_first, card_of_last, unit_of}
+use Rattle.fort_syntax.specs.declared.class.Class.{Class}
+use Rattle.fort_syntax.specs.declared.class.Class.TheVariants.{Heading, Declaring, Performing, Ending}
 use Rattle.fort_syntax.specs.OrderRules.{blocks_behind, blocks_open, has_no_branch, is_outside, still_open, is_ended, stays_open, is_bad_block}
 use Rattle.fort_syntax.specs.UseRules.{has_label, assigns}
 use Rattle.fort_syntax.specs.WellFormed.{are_in_order, has_result}
@@ -12,12 +15,12 @@ use Rattle.fort_syntax.specs.declared.dialect.Dialect.{Dialect}
 use Rattle.fort_syntax.specs.declared.stmt.Stmt.{Stmt}
 use Rattle.fort_syntax.specs.declared.stmt.Stmt.TheVariants.{Subroutine, Function, Declare, Dimension, Common, End, BlockIf, ElseIf, Else, EndIf}
 use Rattle.fort_syntax.specs.declared.unit.Line.{Line}
-use Rattle.deck_laws.specs.Ascent.{ascend_above}
 use Rattle.deck_laws.proofs.Tests.{case, first_true, second_true, both_true, not_false, of_not_false, other_false, left_true, right_true}
 use Rattle.deck_laws.proofs.Lists.{flat_joined}
 use Rattle.deck_laws.proofs.UnitScopes.{is_function_made}
 use Rattle.deck_laws.proofs.Members.{none_are, none_of, kept_in}
-use Rattle.deck_laws.proofs.Given.{Given, ascend_lower}
+use Rattle.deck_laws.proofs.Ascending.{ascend_above, ascend_lower}
+use Rattle.deck_laws.proofs.Given.{Given}
 
 -- ---- statements that are not executable
 
@@ -48,6 +51,29 @@ no_uses (Dimension items) h = refl
 no_uses (Common groups) h = refl
 no_uses End h = refl
 no_uses _ h = search rules
+
+heads_not_performed : (s : Stmt) → is_heading (class_of s) ≡ true → is_performing (class_of s) ≡ false
+heads_not_performed s h = by (class_of s) h
+  where
+    by : (class : Class) → is_heading class ≡ true → is_performing class ≡ false
+    by Performing h = search rules
+    by _ h = refl
+
+ends_not_performed : (s : Stmt) → is_ending (class_of s) ≡ true → is_performing (class_of s) ≡ false
+ends_not_performed s h = by (class_of s) h
+  where
+    by : (class : Class) → is_ending class ≡ true → is_performing class ≡ false
+    by Performing h = search rules
+    by _ h = refl
+
+not_both : (s : Stmt) → is_ending (class_of s) ≡ true → is_heading (class_of s) ≡ true → ⊥
+not_both s h k = by (class_of s) h k
+  where
+    by : (class : Class) → is_ending class ≡ true → is_heading class ≡ true → ⊥
+    by Ending h k = search rules
+    by Heading h k = search rules
+    by Declaring h k = search rules
+    by Performing h k = search rules
 
 -- an executable statement is among the executables, and another one is not
 with_one : (line : Line) (lines : List Line) → is_performing (class_of line.stmt) ≡ true
@@ -118,39 +144,71 @@ no_label label lines h = by (not (label == 0)) h
     by false k = refl
 
 module _ (d : Dialect) (earlier : List Segment) (unit : Segment) (g : Given d earlier unit) where
-  order_from : (lines before : List Line) (card : ℕ) → before ++ lines ≡ unit → ascend_above card lines ≡ true
-      → are_in_order (executables before) card (executables lines) ≡ true
-  order_from [] before card e a = refl
-  order_from (line ∷ behind) before card e a =
-      let less = first_true (nat_lt card line.card) (ascend_above line.card behind) a in
-      let later = second_true (nat_lt card line.card) (ascend_above line.card behind) a in
+  order_from : (lines before : List Line) → before ++ lines ≡ unit
+      → are_in_order (executables before) (executables lines) ≡ true
+  order_from [] before e = refl
+  order_from (line ∷ behind) before e =
       let next = append_assoc before (line ∷ []) behind ∙ e in
-      case (is_performing (class_of line.stmt))
-      (performed less (order_from behind (before ++ line ∷ []) line.card next later))
-      (passed (order_from behind (before ++ line ∷ []) card next
-      (ascend_lower card line.card behind (grind (arith, nat_tests)) later)))
+      case (is_performing (class_of line.stmt)) (performed (order_from behind (before ++ line ∷ []) next))
+      (passed (order_from behind (before ++ line ∷ []) next))
     where
-      performed : nat_lt card line.card ≡ true
-          → are_in_order (executables (before ++ line ∷ [])) line.card (executables behind) ≡ true
+      performed : are_in_order (executables (before ++ line ∷ [])) (executables behind) ≡ true
           → is_performing (class_of line.stmt) ≡ true
-          → are_in_order (executables before) card (executables (line ∷ behind)) ≡ true
-      performed less rest t =
+          → are_in_order (executables before) (executables (line ∷ behind)) ≡ true
+      performed rest t =
           let k = g.keeps before line behind e in
-          ap (are_in_order (executables before) card) (with_one line behind t)
+          ap (are_in_order (executables before)) (with_one line behind t)
           ∙ both_true
-          (both_true (both_true (not_false (same_bad line.stmt before behind ∙ k.nesting))
-          (not_false (no_label line.label before k.labels))) less)
-          (ap (λ b. are_in_order b line.card (executables behind)) (sym (behind_one before line t)) ∙ rest)
+          (both_true (not_false (same_bad line.stmt before behind ∙ k.nesting)) (not_false (no_label line.label before k.labels)))
+          (ap (λ b. are_in_order b (executables behind)) (sym (behind_one before line t)) ∙ rest)
 
-      passed : are_in_order (executables (before ++ line ∷ [])) card (executables behind) ≡ true
+      passed : are_in_order (executables (before ++ line ∷ [])) (executables behind) ≡ true
           → is_performing (class_of line.stmt) ≡ false
-          → are_in_order (executables before) card (executables (line ∷ behind)) ≡ true
+          → are_in_order (executables before) (executables (line ∷ behind)) ≡ true
       passed rest f =
-          ap (are_in_order (executables before) card) (without_one line behind f)
-          ∙ (ap (λ b. are_in_order b card (executables behind)) (sym (behind_none before line f)) ∙ rest)
+          ap (are_in_order (executables before)) (without_one line behind f)
+          ∙ (ap (λ b. are_in_order b (executables behind)) (sym (behind_none before line f)) ∙ rest)
 
-  pub order_proved : are_in_order [] 0 (unit_of unit).lines ≡ true
-  order_proved = order_from unit [] 0 refl g.part.ascend
+  pub order_proved : are_in_order [] (unit_of unit).lines ≡ true
+  order_proved = order_from unit [] refl
+
+  -- ---- cards
+
+  -- the last statement is END, so none that is executable stands behind it
+  last_ends : (line : Line) (before : List Line) → before ++ line ∷ [] ≡ unit → is_ending (class_of line.stmt) ≡ true
+  last_ends line before e = of_not_false (g.keeps before line [] e).last
+
+  between_from : (line : Line) (behind before : List Line) (card : ℕ) → before ++ line ∷ behind ≡ unit
+      → ascend_above card (line ∷ behind) ≡ true
+      → stand_between card (executables (line ∷ behind)) (card_of_last line.card behind) ≡ true
+  between_from line [] before card e a =
+      ap (λ zs. stand_between card zs line.card) (without_one line [] (ends_not_performed line.stmt (last_ends line before e)))
+      ∙ first_true (nat_lt card line.card) true a
+  between_from line (next ∷ behind) before card e a =
+      let less = first_true (nat_lt card line.card) (ascend_above line.card (next ∷ behind)) a in
+      let later = second_true (nat_lt card line.card) (ascend_above line.card (next ∷ behind)) a in
+      let whole = append_assoc before (line ∷ []) (next ∷ behind) ∙ e in
+      case (is_performing (class_of line.stmt))
+      (λ t. ap (λ zs. stand_between card zs (card_of_last next.card behind)) (with_one line (next ∷ behind) t)
+      ∙ both_true less (between_from next behind (before ++ line ∷ []) line.card whole later))
+      (λ f. ap (λ zs. stand_between card zs (card_of_last next.card behind)) (without_one line (next ∷ behind) f)
+      ∙ between_from next behind (before ++ line ∷ []) card whole
+      (ascend_lower card line.card (next ∷ behind) (grind (arith, nat_tests)) later))
+
+  abbrev AreBetween : Segment → Type 0
+  AreBetween lines = stand_between (card_of_first lines) (executables lines) (card_of_last 0 lines) ≡ true
+
+  pub cards_proved : stand_between (unit_of unit).head (unit_of unit).lines (unit_of unit).«end» ≡ true
+  cards_proved = subst AreBetween (sym g.part.whole) (by g.part.rest g.part.whole)
+    where
+      by : (rest : List Line) → unit ≡ g.part.head ∷ rest → AreBetween (g.part.head ∷ rest)
+      by [] e =
+          absurd (not_both g.part.head.stmt (last_ends g.part.head [] (sym e)) (of_not_false (g.keeps [] g.part.head [] (sym e)).head))
+      by (next ∷ rest) e =
+          ap (λ zs. stand_between g.part.head.card zs (card_of_last next.card rest))
+          (without_one g.part.head (next ∷ rest) (heads_not_performed g.part.head.stmt (of_not_false (g.keeps [] g.part.head (next ∷ rest) (sym e)).head)))
+          ∙ between_from next rest (g.part.head ∷ []) g.part.head.card (sym e)
+          (second_true (nat_lt 0 g.part.head.card) (ascend_above g.part.head.card (next ∷ rest)) (ap (ascend_above 0) (sym e) ∙ g.part.ascend))
 
   -- ---- the value of a FUNCTION
 
@@ -163,16 +221,16 @@ module _ (d : Dialect) (earlier : List Segment) (unit : Segment) (g : Given d ea
       ∙ (same_uses lines ∙ ap (λ zs. zs ++ gathered uses_of lines) (sym (no_uses line.stmt f))))
 
   pub result_proved : has_result (unit_of unit) ≡ true
-  result_proved = case (is_function unit) assigned none
+  result_proved = case (is_function_segment unit) assigned none
     where
-      assigned : is_function unit ≡ true → has_result (unit_of unit) ≡ true
+      assigned : is_function_segment unit ≡ true → has_result (unit_of unit) ≡ true
       assigned t =
           right_true (not (is_some (unit_of unit).sort)) (assigns (own_name unit) (gathered uses_of (executables unit)))
           (ap (assigns (own_name unit)) (same_uses unit)
-          ∙ of_not_false (other_false (is_function unit) (not (assigns (own_name unit) (gathered uses_of unit)))
+          ∙ of_not_false (other_false (is_function_segment unit) (not (assigns (own_name unit) (gathered uses_of unit)))
           (g.keeps [] g.part.head g.part.rest (sym g.part.whole)).result t))
 
-      none : is_function unit ≡ false → has_result (unit_of unit) ≡ true
+      none : is_function_segment unit ≡ false → has_result (unit_of unit) ≡ true
       none f =
           left_true (not (is_some (unit_of unit).sort)) (assigns (own_name unit) (gathered uses_of (executables unit)))
           (not_false (is_function_made unit ∙ f))

@@ -1,8 +1,9 @@
 -- The executable statements of a unit that keeps the rules are right in the unit made of it.
-use Rattle.std.proofs.Common.{◌≡◌, ℕ, true, false, cond, List, Some, refl, sym, ap, ◌∙◌}
+use Rattle.std.proofs.Common.{◌≡◌, ℕ, Bool, true, false, cond, List, Some, refl, sym, ap, ◌∙◌}
 use Rattle.std.specs.Prelude.{◌&&◌, ◌||◌, not, length, ◌==◌}
 use Rattle.std.specs.List.{list_all}
-use Rattle.fort_syntax.specs.Scopes.{Scope, is_among, is_array, is_given_dims, is_intrinsic, is_intrinsic_name}
+use Rattle.formula.specs.Atoms.{is_among}
+use Rattle.fort_syntax.specs.Scopes.{Scope, is_array, is_given_dims, is_intrinsic, is_intrinsic_name}
 use Rattle.fort_syntax.specs.Uses.{Use, read, assigned, assigned_element, counted, applied, argument_of, actual, called, Occurrence, occurrence, uses_of, all_parts, used_labels}
 use Rattle.fort_syntax.specs.Units.{Segment, executables, names_in, data_names, references_of, functions_of, scope_of, unit_of, class_of, is_performing}
 use Rattle.fort_syntax.specs.TypeRules.{is_well_typed, all_plain_subscripts}
@@ -14,19 +15,24 @@ use Rattle.fort_syntax.specs.declared.name.Name.{Name}
 use Rattle.fort_syntax.specs.declared.unit.Line.{Line}
 use Rattle.deck_laws.proofs.Tests.{case, first_true, both_true, not_false, of_not_false, other_false, left_true, right_true}
 use Rattle.deck_laws.proofs.Members.{IsIn, all_are, all_of, none_of, in_kept, kept_in}
-use Rattle.deck_laws.proofs.Names.{in_among}
+use Rattle.deck_laws.proofs.Names.{in_among, not_among}
 use Rattle.deck_laws.proofs.Named.{use_named}
 use Rattle.deck_laws.proofs.SpelledNames.{uses_named, is_named}
 use Rattle.deck_laws.proofs.SpelledForms.{statement_numbers, statement_form, no_blocks}
 use Rattle.deck_laws.proofs.Given.{Given}
 use Rattle.deck_laws.proofs.RuleFacts.{kept_at, well_used, kinds_at}
 use Rattle.deck_laws.proofs.DataNames.{in_references, in_gathered, array_is_data, bare_is_data}
+use Rattle.deck_laws.proofs.RolesProved.{reference_no_data}
 use Rattle.deck_laws.proofs.UnitScopes.{data_names_are, functions_are, dims_agree, data_sort, function_sort, scope_is}
 use Rattle.deck_laws.proofs.SortsAgree.{Agree, misused_same, all_subscripts_same, well_typed_same}
 
 module _ (d : Dialect) (earlier : List Segment) (unit : Segment) (g : Given d earlier unit) where
   abbrev made : Scope
   made = scope_of_unit (unit_of unit)
+
+  -- an intrinsic function that is no data name
+  abbrev is_built_in : Name → Bool
+  is_built_in y = is_intrinsic_name y && not (is_among y (names_of_unit (unit_of unit)))
 
   array_made : (x : Name) → is_array made x ≡ is_array (scope_of unit) x
   array_made x = ap is_given_dims (dims_agree unit x)
@@ -61,19 +67,21 @@ module _ (d : Dialect) (earlier : List Segment) (unit : Segment) (g : Given d ea
       where
         array : is_array (scope_of unit) x ≡ true → is_known (unit_of unit) x (applied n) ≡ true
         array a =
-            left_true (is_array made x || is_intrinsic made x) (is_among x (functions_of_unit (unit_of unit)))
-            (left_true (is_array made x) (is_intrinsic made x) (array_made x ∙ a))
+            left_true (is_array made x || is_built_in x) (is_among x (functions_of_unit (unit_of unit)))
+            (left_true (is_array made x) (is_built_in x) (array_made x ∙ a))
 
         intrinsic : is_array (scope_of unit) x ≡ false → is_intrinsic_name x ≡ true
             → is_known (unit_of unit) x (applied n) ≡ true
         intrinsic a i =
-            left_true (is_array made x || is_intrinsic made x) (is_among x (functions_of_unit (unit_of unit)))
-            (right_true (is_array made x) (is_intrinsic made x) (both_true i (not_false (array_made x ∙ a))))
+            left_true (is_array made x || is_built_in x) (is_among x (functions_of_unit (unit_of unit)))
+            (right_true (is_array made x) (is_built_in x)
+            (both_true i (not_false (ap (is_among x) (data_names_are unit) ∙ not_among x (data_names unit)
+            (reference_no_data unit d earlier g x (in_references unit line m (occurrence x (applied n)) k (not_false a)))))))
 
         function : is_array (scope_of unit) x ≡ false → is_intrinsic_name x ≡ false
             → is_known (unit_of unit) x (applied n) ≡ true
         function a i =
-            right_true (is_array made x || is_intrinsic made x) (is_among x (functions_of_unit (unit_of unit)))
+            right_true (is_array made x || is_built_in x) (is_among x (functions_of_unit (unit_of unit)))
             (ap (is_among x) (functions_are unit) ∙ in_among x (functions_of unit) (applied_to x n k a i))
 
     called_known : (x : Name) → IsIn (occurrence x called) (uses_of line.stmt) → is_known (unit_of unit) x called ≡ true

@@ -2,9 +2,10 @@
 use Rattle.std.proofs.Common.{◌≡◌, ◌⊎◌, inl, inr, Bool, true, false, cond, List, [], ◌∷◌, ◌++◌, map, Some, None, refl, sym, ap, ap₂, ◌∙◌, subst, rules}
 use Rattle.std.specs.Prelude.{◌||◌, not}
 use Rattle.std.specs.List.{list_any, list_all}
-use Rattle.fort_syntax.specs.Scopes.{same_sort, same_option, is_among, do_meet, has_twin, is_intrinsic_name}
+use Rattle.formula.specs.Atoms.{is_among, has_twin}
+use Rattle.fort_syntax.specs.Scopes.{same_sort, same_option, do_meet, is_intrinsic_name}
 use Rattle.fort_syntax.specs.Uses.{uses_of}
-use Rattle.fort_syntax.specs.Units.{Segment, gathered, own_name, own_value_of, is_function, dummies_of, commons_of, data_names, references_of, references_in, functions_of, role_of, data_name_of, scope_of, sort_or_integer, unit_of, is_reference}
+use Rattle.fort_syntax.specs.Units.{Segment, gathered, own_name, own_value_of, is_function_segment, dummies_of, commons_of, data_names, references_of, references_in, functions_of, role_of, data_name_of, scope_of, sort_or_integer, unit_of, is_reference}
 use Rattle.fort_syntax.specs.WellFormed.{commons_of_unit, own_value_of_unit, role_in_unit, same_role, has_right_role, are_functions}
 use Rattle.fort_syntax.specs.declared.dialect.Dialect.{Dialect}
 use Rattle.fort_syntax.specs.declared.dialect.Sort.{Sort}
@@ -68,8 +69,8 @@ module _ (unit : Segment) where
       let own = among_in x (own_value_of unit)
       (of_own_value (is_among x (dummies_of unit)) (is_among x (commons_of unit))
       (is_among x (own_value_of unit)) h) in
-      let o = own_value_is (is_function unit) x (own_name unit) own in
-      same_some (is_function unit) (sort_or_integer ((scope_of unit).sort x))
+      let o = own_value_is (is_function_segment unit) x (own_name unit) own in
+      same_some (is_function_segment unit) (sort_or_integer ((scope_of unit).sort x))
       (sort_or_integer ((scope_of unit).sort (own_name unit))) o.0
       (ap (λ y. sort_or_integer ((scope_of unit).sort y)) (sym o.1))
 
@@ -104,10 +105,11 @@ module _ (unit : Segment) where
   reference_in x m = (kept_in (λ f. not (is_intrinsic_name f)) (references_of unit) m).0
 
   module _ (d : Dialect) (earlier : List Segment) (g : Given d earlier unit) where
-    no_data : (x : Name) → IsIn x (functions_of unit) → ¬ IsIn x (data_names unit)
-    no_data x f m =
+    -- a function that the unit references, an intrinsic one too, is no data name
+    pub reference_no_data : (x : Name) → IsIn x (references_of unit) → ¬ IsIn x (data_names unit)
+    reference_no_data x f m =
         either (in_either (dummies_of unit ++ commons_of unit) (own_value_of unit)
-        (data_held unit x m (reference_in x f))) held own
+        (data_held unit x m f)) held own
       where
         of_either : IsIn x (dummies_of unit) ⊎ IsIn x (commons_of unit)
             → (is_among x (dummies_of unit) || is_among x (commons_of unit)) ≡ true
@@ -118,7 +120,7 @@ module _ (unit : Segment) where
 
         held : IsIn x (dummies_of unit ++ commons_of unit) → ⊥
         held k =
-            let w = references_are unit x (reference_in x f) in
+            let w = references_are unit x f in
             clash (of_either (in_either (dummies_of unit) (commons_of unit) k))
             (ap (λ y. is_among y (dummies_of unit) || is_among y (commons_of unit)) (sym w.5)
             ∙ other_false (is_reference (scope_of unit) w.2)
@@ -127,8 +129,11 @@ module _ (unit : Segment) where
 
         own : IsIn x (own_value_of unit) → ⊥
         own k =
-            let o = own_value_is (is_function unit) x (own_name unit) k in
-            own_no_reference d earlier unit g (subst (λ z. IsIn z (references_of unit)) (sym o.1) (reference_in x f))
+            let o = own_value_is (is_function_segment unit) x (own_name unit) k in
+            own_no_reference d earlier unit g (subst (λ z. IsIn z (references_of unit)) (sym o.1) f)
+
+    no_data : (x : Name) → IsIn x (functions_of unit) → ¬ IsIn x (data_names unit)
+    no_data x f = reference_no_data x (reference_in x f)
 
     pub functions_proved : are_functions (unit_of unit) ≡ true
     functions_proved =

@@ -2,9 +2,10 @@
 use Rattle.std.proofs.Common.{◌≡◌, Bool, true, false, List, [], ◌∷◌, ◌++◌, refl, sym, ap, ◌∙◌, subst, append_assoc, append-nil}
 use Rattle.std.specs.Prelude.{◌&&◌, ◌||◌, not, is_none}
 use Rattle.std.specs.List.{list_any}
-use Rattle.fort_syntax.specs.Scopes.{same_name, is_among, do_meet, has_twin}
+use Rattle.formula.specs.Atoms.{same_bytes, is_among, has_twin}
+use Rattle.fort_syntax.specs.Scopes.{do_meet}
 use Rattle.fort_syntax.specs.Uses.{Occurrence, uses_of}
-use Rattle.fort_syntax.specs.Units.{Segment, gathered, own_name, is_function, dummies_by, dummies_of, commons_of, items_by, names_in, data_names, scope_of, is_called, is_reference}
+use Rattle.fort_syntax.specs.Units.{Segment, gathered, own_name, is_function_segment, dummies_by, dummies_of, commons_of, items_by, names_in, data_names, scope_of, is_called, is_reference}
 use Rattle.fort_syntax.specs.NameRules.{typed_by, dimensioned_by, commons_by, does_again, is_bad_shape, is_bad_item}
 use Rattle.fort_syntax.specs.UseRules.{is_misused, is_bare_use_of, is_reference_to, is_used_both_ways, is_use_of_other_kind, is_second_kind_of_use}
 use Rattle.fort_syntax.specs.declared.dialect.Dialect.{Dialect}
@@ -152,13 +153,13 @@ module _ (d : Dialect) (earlier : List Segment) (unit : Segment) (g : Given d ea
       → ((is_reference (scope_of unit) o && (is_among o.name (dummies_of unit) || is_among o.name (commons_of unit)))
       ≡ false)
       × ((is_called o.«use» && is_among o.name (data_names unit)) ≡ false)
-      × ((not (is_called o.«use») && not (is_function unit) && same_name o.name (own_name unit)) ≡ false)
+      × ((not (is_called o.«use») && not (is_function_segment unit) && same_bytes o.name (own_name unit)) ≡ false)
   kinds_at line m o k =
       let f = found line unit m in
       three_false (is_reference (scope_of unit) o &&
       (is_among o.name (dummies_of unit) || is_among o.name (commons_of unit)))
       (is_called o.«use» && is_among o.name (data_names unit))
-      (not (is_called o.«use») && not (is_function unit) && same_name o.name (own_name unit))
+      (not (is_called o.«use») && not (is_function_segment unit) && same_bytes o.name (own_name unit))
       (use_once f.before line f.behind f.whole o k).1
 
   abbrev both_ways : List Occurrence → Name → Bool
@@ -196,9 +197,9 @@ module _ (d : Dialect) (earlier : List Segment) (unit : Segment) (g : Given d ea
           (λ s. clash (both_true (in_some (is_reference_to (scope_of unit) x) a r refers.2)
           (in_some (is_bare_use_of x) a s bare.2)) was)
           (λ s. second_kind x before line behind e was now bare.0 s
-          (same_names bare.0.name x (first_true (same_name bare.0.name x) _ bare.2))))
+          (same_names bare.0.name x (first_true (same_bytes bare.0.name x) _ bare.2))))
           (λ r. second_kind x before line behind e was now refers.0 r
-          (same_names refers.0.name x (first_true (same_name refers.0.name x) _ refers.2)))
+          (same_names refers.0.name x (first_true (same_bytes refers.0.name x) _ refers.2)))
 
   one_kind : (x : Name) (before lines : List Line) → before ++ lines ≡ unit
       → both_ways (gathered uses_of before) x ≡ false

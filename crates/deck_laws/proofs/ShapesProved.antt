@@ -2,10 +2,11 @@
 use Rattle.std.proofs.Common.{◌≡◌, ℕ, Bool, true, false, cond, List, [], ◌∷◌, map, Some, refl, sym, ap, ap₂, ◌∙◌, subst, arith}
 use Rattle.std.specs.Prelude.{◌&&◌, not, ◌==◌}
 use Rattle.std.specs.List.{list_all}
-use Rattle.fort_syntax.specs.Scopes.{Scope, same_option, same_dim, same_dims, is_among, is_array, is_given_dims, is_integer_scalar, has_twin, once}
+use Rattle.formula.specs.Atoms.{is_among, has_twin}
+use Rattle.fort_syntax.specs.Scopes.{Scope, same_option, same_dim, same_dims, is_array, is_given_dims, is_integer_scalar, once}
 use Rattle.fort_syntax.specs.Units.{Segment, gathered, dummies_of, commons_of, blocks_by, items_by, names_of_items, names_in_dims, data_names, role_of, own_value_of, data_name_of, item_of, group_of, items_of_block, block_of_name, name_of_block, scope_of, unit_of}
 use Rattle.fort_syntax.specs.NameRules.{is_bad_shape}
-use Rattle.fort_syntax.specs.WellFormed.{scope_of_unit, same_role, has_right_dims, is_bare, is_right_item, are_blocks}
+use Rattle.fort_syntax.specs.WellFormed.{scope_of_unit, same_role, has_right_dims, is_bare_block, is_right_item, are_blocks}
 use Rattle.fort_syntax.specs.declared.dialect.Dialect.{Dialect}
 use Rattle.fort_syntax.specs.declared.dialect.Dialect.TheVariants.{Common, SeventySeven}
 use Rattle.fort_syntax.specs.declared.dialect.Sort.TheVariants.{Integer}
@@ -43,7 +44,7 @@ pub block_again : (b : Name) → name_of_block (block_of_name b) ≡ b
 block_again [] = refl
 block_again (c ∷ cs) = refl
 
-not_bare : (b : Name) → is_bare (block_of_name b) ≡ false
+not_bare : (b : Name) → is_bare_block (block_of_name b) ≡ false
 not_bare [] = refl
 not_bare (c ∷ cs) = refl
 
@@ -109,7 +110,7 @@ module _ (d : Dialect) (earlier : List Segment) (unit : Segment) (g : Given d ea
       ∙ (ap (same_dims ((scope_of unit).dims x.0)) (dims_agree unit x.0) ∙ dims_self ((scope_of unit).dims x.0))
 
   block_is_right : (b : Name)
-      → (not (is_bare (group_of unit b).block) && list_all (is_right_item (unit_of unit)) (group_of unit b).items)
+      → (not (is_bare_block (group_of unit b).block) && list_all (is_right_item (unit_of unit)) (group_of unit b).items)
       ≡ true
   block_is_right b =
       both_true (not_false (not_bare b))
@@ -118,8 +119,8 @@ module _ (d : Dialect) (earlier : List Segment) (unit : Segment) (g : Given d ea
   pub blocks_proved : are_blocks (unit_of unit) ≡ true
   blocks_proved =
       both_true (not_false (ap has_twin (blocks_again all_blocks) ∙ once_without_twin (gathered blocks_by unit)))
-      (all_are (λ group. not (is_bare group.block) && list_all (is_right_item (unit_of unit)) group.items)
+      (all_are (λ group. not (is_bare_block group.block) && list_all (is_right_item (unit_of unit)) group.items)
       (map (group_of unit) all_blocks)
       (λ group m. let b = map_in (group_of unit) all_blocks m in
-      ap (λ (h : Group). not (is_bare h.block) && list_all (is_right_item (unit_of unit)) h.items) (sym b.2)
+      ap (λ (h : Group). not (is_bare_block h.block) && list_all (is_right_item (unit_of unit)) h.items) (sym b.2)
       ∙ block_is_right b.0))

@@ -2,6 +2,7 @@
 use Rattle.std.proofs.Common.{◌≡◌, true, cond, List, [], ◌∷◌, ◌++◌, flat_map, Option, Some, None, refl, ap, rules}
 use Rattle.std.specs.Prelude.{◌&&◌, ◌||◌, not, length, ⊤}
 use Rattle.std.specs.List.{list_all}
+use Rattle.fort_syntax.specs.Grammar.{is_carried}
 use mathlib.Core.Former.{Count}
 use Rattle.fort_syntax.specs.TreePatterns.{only, carried, listed}
 use Rattle.fort_syntax.specs.Scopes.{Scope, same_option, is_array, is_intrinsic, is_integer_scalar}
@@ -21,7 +22,7 @@ use Rattle.fort_syntax.specs.declared.stmt.Stmt.TheVariants.{Assign, Computed, A
 use Rattle.deck_laws.proofs.Tests.{second_true, and_same}
 use Rattle.deck_laws.proofs.Lists.{all_same, joined_same}
 use Rattle.deck_laws.proofs.Members.{IsIn, here, there, in_left, in_right}
-use Rattle.fort_syntax.specs.WellFormed.{is_left_side, may_be_carried, has_right_form}
+use Rattle.fort_syntax.specs.WellFormed.{is_left_side, has_right_form}
 
 module _ (a b : Name → Option Sort) (dims : Name → List Dim) where
   abbrev pub one : Scope
@@ -213,7 +214,7 @@ module _ (a b : Name → Option Sort) (dims : Name → List Dim) where
   places_same (ArithIf e l m n) t h = integer_same read refl e h
   places_same (LogicalIf' e m (carried s)) t h =
       and_same (logical_same read refl e (lefts (uses_in read e) (uses_of s) h))
-      (places_same s (second_true (may_be_carried s) (has_right_form s) t) (rights (uses_in read e) (uses_of s) h))
+      (places_same s (second_true (is_carried s) (has_right_form s) t) (rights (uses_in read e) (uses_of s) h))
   places_same (Do label x first last step) t h =
       let ps = rest (occurrence x counted) (uses_of_param first ++ uses_of_param last ++ uses_of_step step) h in
       let two = lefts (uses_of_param first ++ uses_of_param last) (uses_of_step step) ps in
@@ -242,7 +243,7 @@ module _ (a b : Name → Option Sort) (dims : Name → List Dim) where
   all_operands_same (ArithIf e l m n) t h = both (parts e) [] (operands_same read refl e h) refl
   all_operands_same (LogicalIf' e m (carried s)) t h =
       both (parts e) (all_parts s) (operands_same read refl e (lefts (uses_in read e) (uses_of s) h))
-      (all_operands_same s (second_true (may_be_carried s) (has_right_form s) t)
+      (all_operands_same s (second_true (is_carried s) (has_right_form s) t)
       (rights (uses_in read e) (uses_of s) h))
   all_operands_same (Call f args) t h =
       actuals_same args (rest (occurrence f called) (flat_map (uses_in actual) args) h)

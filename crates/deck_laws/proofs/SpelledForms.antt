@@ -2,20 +2,21 @@
 use Rattle.std.proofs.Common.{◌≡◌, ◌≤◌, ◌<◌, ◌⊎◌, inl, inr, ℕ, zero, suc, ◌+◌, ◌-◌, ◌*◌, ◌^◌, get_or, true, false, List, [], ◌∷◌, ◌++◌, length, flat_map, Option, Some, None, refl, sym, ap, ◌∙◌, subst, rules, arith}
 use Rattle.std.specs.Prelude.{◌&&◌, nat_le, nat_lt}
 use Rattle.std.specs.List.{list_all}
+use Rattle.fort_syntax.specs.Cards.{is_given}
 use mathlib.Core.Former.{Count}
 use Rattle.formula.specs.Atoms.{without_zeros, is_digit}
 use Rattle.formula.proofs.Digits as digits
-use Rattle.fort_syntax.specs.TreePatterns.{only, carried}
+use Rattle.fort_syntax.specs.TreePatterns.{only, carried, row_of}
 use Rattle.fort_syntax.specs.Scopes.{is_given_dims, kept}
 use Rattle.fort_syntax.specs.Spelled as spelling
-use Rattle.fort_syntax.specs.Spelled.{Texts, expression, arguments, more_arguments, row_of}
+use Rattle.fort_syntax.specs.Spelled.{expression, arguments, more_arguments}
 use Rattle.fort_syntax.specs.Grammar as grammar
 use Rattle.fort_syntax.specs.Grammar.{form}
 use Rattle.fort_syntax.specs.Uses.{parts, parts_of_row, all_parts}
 use Rattle.fort_syntax.specs.Units.{items_by, common_items_by}
 use Rattle.fort_syntax.specs.NameRules.{typed_by, dimensioned_by, commons_by}
 use Rattle.fort_syntax.specs.UseRules.{wants_plain_subscripts}
-use Rattle.fort_syntax.specs.WellFormed.{is_block_statement, may_be_carried, is_left_side, is_given, is_small, is_small_param, is_small_step, has_right_form, has_right_numbers}
+use Rattle.fort_syntax.specs.WellFormed.{is_block_statement, is_left_side, is_small, is_small_param, is_small_step, has_right_form, has_right_numbers}
 use Rattle.fort_syntax.specs.declared.dialect.Dialect.{Dialect}
 use Rattle.fort_syntax.specs.declared.dialect.Dialect.TheVariants.{Common as CommonForms, SeventySeven}
 use Rattle.fort_syntax.specs.declared.expr.Expr.{Expr, Row_of-Expr, end_of-Expr, more_of-Expr}
@@ -25,7 +26,7 @@ use Rattle.fort_syntax.specs.declared.stmt.Dim.{Dim}
 use Rattle.fort_syntax.specs.declared.stmt.Param.{Param}
 use Rattle.fort_syntax.specs.declared.stmt.Param.TheVariants as parameter
 use Rattle.fort_syntax.specs.declared.stmt.Stmt.{Stmt}
-use Rattle.fort_syntax.specs.declared.stmt.Stmt.TheVariants.{Declare, Dimension, Assign, GoTo, Computed, ArithIf, LogicalIf', Do, Continue, Call, Return, BlockIf, ElseIf, Else, EndIf}
+use Rattle.fort_syntax.specs.declared.stmt.Stmt.TheVariants.{Declare, Dimension, Assign, Computed, ArithIf, LogicalIf', Do, Call, BlockIf, ElseIf, Else, EndIf}
 use Rattle.deck_laws.proofs.Tests.{both_true}
 use Rattle.deck_laws.proofs.Lists.{all_joined}
 use Rattle.deck_laws.proofs.Members.{IsIn, in_map, in_kept, all_of}
@@ -166,19 +167,9 @@ left_form (Not' m a) t h = absurd h
 left_form (And' m a n b) t h = absurd h
 left_form (Or' m a n b) t h = absurd h
 
-labels_given : (labels : List ℕ) (t : List ℕ) → grammar.listed spelling.label labels t → is_given labels ≡ true
+labels_given : (labels : List ℕ) (t : List ℕ) → grammar.comma_list spelling.label labels t → is_given labels ≡ true
 labels_given [] t h = absurd h
 labels_given (l ∷ labels) t h = refl
-
-carried_form : (s : Stmt) → grammar.is_carried s ≡ true → may_be_carried s ≡ true
-carried_form (Assign left right) h = refl
-carried_form (GoTo l) h = refl
-carried_form (Computed labels x) h = refl
-carried_form (ArithIf e l m n) h = refl
-carried_form (Call f args) h = refl
-carried_form Continue h = refl
-carried_form Return h = refl
-carried_form _ h = search rules
 
 param_form : (p : Param) (t : List ℕ) → grammar.param p t → is_small_param p ≡ true
 param_form (parameter.Fixed n) t h = small_constant n t h
@@ -192,7 +183,7 @@ pub statement_form : (d : Dialect) (s : Stmt) (t : List ℕ) → form d s t → 
 statement_form d (Assign left right) t h = left_form left h.0 h.3
 statement_form d (Computed labels x) t h = labels_given labels h.4.3.4.0 h.4.3.4.3
 statement_form d (LogicalIf' e m (carried s)) t h =
-    both_true (carried_form s h.4.4.0) (statement_form d s h.4.1 h.4.4.1)
+    both_true (h.4.4.0) (statement_form d s h.4.1 h.4.4.1)
 statement_form d (Do label x first last step) t h =
     let the_first = h.4.4.4.4 in
     let the_last = the_first.4.4 in
@@ -222,7 +213,7 @@ item_declared d (Dimension items) t h i m =
     (all_of (λ j. is_given_dims j.dims) items
     (listed_pass grammar.array (λ j. is_given_dims j.dims) given items h.1 h.4) m))))
   where
-    given_dims : (dims : List Dim) (u : List ℕ) → grammar.listed grammar.dim dims u → is_given_dims dims ≡ true
+    given_dims : (dims : List Dim) (u : List ℕ) → grammar.comma_list grammar.dim dims u → is_given_dims dims ≡ true
     given_dims [] u k = absurd k
     given_dims (e ∷ dims) u k = refl
 

@@ -1,13 +1,12 @@
 -- The names in statements that texts spell are names.
-use Rattle.std.proofs.Common.{◌≡◌, ℕ, Bool, true, false, cond, List, [], ◌∷◌, ◌++◌, map, flat_map, Option, Some, None, refl, sym, ap, ◌∙◌, rules}
-use Rattle.std.specs.Prelude.{◌&&◌, length, nat_le}
+use Rattle.std.proofs.Common.{◌≡◌, ℕ, Bool, true, false, cond, List, [], ◌∷◌, ◌++◌, map, flat_map, Option, Some, None, refl, ap, ◌∙◌, rules}
+use Rattle.std.specs.Prelude.{◌&&◌}
 use Rattle.std.specs.List.{list_all}
 use mathlib.Core.Former.{Count}
-use Rattle.formula.specs.Atoms.{starts, is_name_byte, is_letter as is_upper}
-use Rattle.fort_syntax.specs.TreePatterns.{only, carried}
-use Rattle.fort_syntax.specs.Scopes.{is_name, begins_with_letter}
+use Rattle.formula.specs.Atoms.{is_name}
+use Rattle.fort_syntax.specs.TreePatterns.{only, carried, row_of}
 use Rattle.fort_syntax.specs.Spelled as spelling
-use Rattle.fort_syntax.specs.Spelled.{Texts, expression, arguments, more_arguments, row_of}
+use Rattle.fort_syntax.specs.Spelled.{Texts, expression, arguments, more_arguments}
 use Rattle.fort_syntax.specs.Grammar as grammar
 use Rattle.fort_syntax.specs.Grammar.{form}
 use Rattle.fort_syntax.specs.Uses.{Use, read, argument_of, actual, Occurrence, uses_in, uses_in_row, uses_on_left, uses_of_param, uses_of_step, uses_of}
@@ -40,7 +39,7 @@ more_pass P test passes (x ∷ xs) t h = both_true (passes x h.4.0 h.4.3) (more_
 
 -- what is listed passes a test that each of its texts gives
 pub listed_pass : {T : Type 0} (P : T → Texts) (test : T → Bool) → ((x : T) (t : List ℕ) → P x t → test x ≡ true)
-    → (xs : List T) (t : List ℕ) → grammar.listed P xs t → list_all test xs ≡ true
+    → (xs : List T) (t : List ℕ) → grammar.comma_list P xs t → list_all test xs ≡ true
 listed_pass P test passes [] t h = absurd h
 listed_pass P test passes (x ∷ xs) t h = both_true (passes x h.0 h.3) (more_pass P test passes xs h.1 h.4)
 
@@ -51,22 +50,8 @@ in_brackets_pass P test passes (x ∷ xs) t h = listed_pass P test passes (x ∷
 
 -- ---- names
 
-swapped : (a b c : Bool) → (a && b && c) ≡ true → (a && c && b) ≡ true
-swapped true true c h = ap (λ x. x && true) h
-swapped true false c h = search rules
-swapped false b c h = search rules
-
-begins : (x : Name) → starts is_upper x ≡ begins_with_letter x
-begins [] = refl
-begins (b ∷ rest) = refl
-
-pub is_a_name : (x : Name) → spelling.is_name x ≡ true → is_name x ≡ true
-is_a_name x h =
-    ap (λ b. b && nat_le (length x) 6 && list_all is_name_byte x) (sym (begins x))
-    ∙ swapped (starts is_upper x) (list_all is_name_byte x) (nat_le (length x) 6) h
-
 pub name_named : (x : Name) (t : List ℕ) → spelling.name x t → is_name x ≡ true
-name_named x t h = is_a_name x h.1
+name_named x t h = h.1
 
 -- ---- expressions
 

@@ -1,9 +1,11 @@
 -- What a unit made of statements says of names, and what its declarations say.
 use Rattle.std.proofs.Common.{◌≡◌, Bool, true, false, cond, List, [], ◌∷◌, map, Option, Some, None, refl, sym, ap, ◌∙◌, rules}
 use Rattle.std.specs.Prelude.{is_none, is_some}
-use Rattle.fort_syntax.specs.Scopes.{same_name, is_among, is_array, is_given_dims}
-use Rattle.fort_syntax.specs.Units.{own_name, is_function, Segment, gathered, names_in, data_names, functions_of, data_name_of, function_name_of, scope_of, sort_or_integer, unit_of}
-use Rattle.fort_syntax.specs.WellFormed.{sort_of_function, sort_among, dims_among, scope_of_unit, names_of_unit, functions_of_unit}
+use Rattle.formula.specs.Atoms.{same_bytes, is_among}
+use Rattle.fort_syntax.specs.Scopes.{is_array, is_given_dims}
+use Rattle.fort_syntax.specs.Units.{own_name, is_function_segment, Segment, gathered, names_in, data_names, functions_of, data_name_of, function_name_of, scope_of, sort_or_integer, unit_of}
+use Rattle.fort_syntax.specs.Names.{data_name_in, dims_of_data, sort_or}
+use Rattle.fort_syntax.specs.WellFormed.{sort_of_function, scope_of_unit, names_of_unit, functions_of_unit}
 use Rattle.fort_syntax.specs.declared.dialect.Dialect.{Dialect}
 use Rattle.fort_syntax.specs.declared.dialect.Sort.{Sort}
 use Rattle.fort_syntax.specs.declared.name.Name.{Name}
@@ -38,21 +40,21 @@ module _ (unit : Segment) where
   -- ---- dimensions
 
   dims_in_list : (xs : List Name) (x : Name) → IsIn x xs
-      → dims_among (map (data_name_of unit) xs) x ≡ (scope_of unit).dims x
+      → dims_of_data (data_name_in (map (data_name_of unit) xs) x) ≡ (scope_of unit).dims x
   dims_in_list [] x m = elim m [ ]
-  dims_in_list (y ∷ xs) x m = by (dims_in_list xs x) (same_name y x) refl m
+  dims_in_list (y ∷ xs) x m = by (dims_in_list xs x) (same_bytes y x) refl m
     where
-      by : (IsIn x xs → dims_among (map (data_name_of unit) xs) x ≡ (scope_of unit).dims x) → (b : Bool)
-          → same_name y x ≡ b → IsIn x (y ∷ xs)
-          → cond b ((scope_of unit).dims y) (dims_among (map (data_name_of unit) xs) x) ≡ (scope_of unit).dims x
+      by : (IsIn x xs → dims_of_data (data_name_in (map (data_name_of unit) xs) x) ≡ (scope_of unit).dims x) → (b : Bool)
+          → same_bytes y x ≡ b → IsIn x (y ∷ xs)
+          → dims_of_data (cond b (Some (data_name_of unit y)) (data_name_in (map (data_name_of unit) xs) x)) ≡ (scope_of unit).dims x
       by later true e k = ap (scope_of unit).dims (same_names y x e)
       by later false e (here s) = absurd (clash (are_same y x s) e)
       by later false e (there k) = later k
 
-  dims_not_in : (xs : List Name) (x : Name) → ¬ IsIn x xs → dims_among (map (data_name_of unit) xs) x ≡ []
+  dims_not_in : (xs : List Name) (x : Name) → ¬ IsIn x xs → dims_of_data (data_name_in (map (data_name_of unit) xs) x) ≡ []
   dims_not_in [] x h = refl
   dims_not_in (y ∷ xs) x h =
-      ap (λ b. cond b ((scope_of unit).dims y) (dims_among (map (data_name_of unit) xs) x))
+      ap (λ b. dims_of_data (cond b (Some (data_name_of unit y)) (data_name_in (map (data_name_of unit) xs) x)))
       (are_others y x (λ e. h (here e)))
       ∙ dims_not_in xs x (λ m. h (there m))
 
@@ -70,33 +72,33 @@ module _ (unit : Segment) where
   given x = Some (sort_or_integer ((scope_of unit).sort x))
 
   sort_in_list : (xs fs : List Name) (x : Name) → IsIn x xs
-      → sort_among (map (data_name_of unit) xs) (map (function_name_of unit) fs) x ≡ given x
+      → sort_or (data_name_in (map (data_name_of unit) xs) x) (sort_of_function (map (function_name_of unit) fs) x) ≡ given x
   sort_in_list [] fs x m = elim m [ ]
-  sort_in_list (y ∷ xs) fs x m = by (sort_in_list xs fs x) (same_name y x) refl m
+  sort_in_list (y ∷ xs) fs x m = by (sort_in_list xs fs x) (same_bytes y x) refl m
     where
-      by : (IsIn x xs → sort_among (map (data_name_of unit) xs) (map (function_name_of unit) fs) x ≡ given x)
-          → (b : Bool) → same_name y x ≡ b
+      by : (IsIn x xs → sort_or (data_name_in (map (data_name_of unit) xs) x) (sort_of_function (map (function_name_of unit) fs) x) ≡ given x)
+          → (b : Bool) → same_bytes y x ≡ b
           → IsIn x (y ∷ xs)
-          → cond b (given y) (sort_among (map (data_name_of unit) xs) (map (function_name_of unit) fs) x) ≡ given x
+          → sort_or (cond b (Some (data_name_of unit y)) (data_name_in (map (data_name_of unit) xs) x)) (sort_of_function (map (function_name_of unit) fs) x) ≡ given x
       by later true e k = ap given (same_names y x e)
       by later false e (here s) = absurd (clash (are_same y x s) e)
       by later false e (there k) = later k
 
   sort_not_in : (xs fs : List Name) (x : Name) → ¬ IsIn x xs
-      → sort_among (map (data_name_of unit) xs) (map (function_name_of unit) fs) x ≡ sort_of_function
+      → sort_or (data_name_in (map (data_name_of unit) xs) x) (sort_of_function (map (function_name_of unit) fs) x) ≡ sort_of_function
       (map (function_name_of unit) fs) x
   sort_not_in [] fs x h = refl
   sort_not_in (y ∷ xs) fs x h =
-      ap (λ b. cond b (given y) (sort_among (map (data_name_of unit) xs) (map (function_name_of unit) fs) x))
+      ap (λ b. sort_or (cond b (Some (data_name_of unit y)) (data_name_in (map (data_name_of unit) xs) x)) (sort_of_function (map (function_name_of unit) fs) x))
       (are_others y x (λ e. h (here e)))
       ∙ sort_not_in xs fs x (λ m. h (there m))
 
   sort_of_reference : (fs : List Name) (x : Name) → IsIn x fs
       → sort_of_function (map (function_name_of unit) fs) x ≡ given x
   sort_of_reference [] x m = elim m [ ]
-  sort_of_reference (y ∷ fs) x m = by (sort_of_reference fs x) (same_name y x) refl m
+  sort_of_reference (y ∷ fs) x m = by (sort_of_reference fs x) (same_bytes y x) refl m
     where
-      by : (IsIn x fs → sort_of_function (map (function_name_of unit) fs) x ≡ given x) → (b : Bool) → same_name y x ≡ b
+      by : (IsIn x fs → sort_of_function (map (function_name_of unit) fs) x ≡ given x) → (b : Bool) → same_bytes y x ≡ b
           → IsIn x (y ∷ fs) → cond b (given y) (sort_of_function (map (function_name_of unit) fs) x) ≡ given x
       by later true e k = ap given (same_names y x e)
       by later false e (here s) = absurd (clash (are_same y x s) e)
@@ -135,5 +137,5 @@ module _ (unit : Segment) where
   some_is false s = refl
 
   -- the unit is a FUNCTION where its head is that of one
-  pub is_function_made : is_some (unit_of unit).sort ≡ is_function unit
-  is_function_made = some_is (is_function unit) (sort_or_integer ((scope_of unit).sort (own_name unit)))
+  pub is_function_made : is_some (unit_of unit).sort ≡ is_function_segment unit
+  is_function_made = some_is (is_function_segment unit) (sort_or_integer ((scope_of unit).sort (own_name unit)))

@@ -9,12 +9,14 @@ use Rattle.fort_syntax.specs.declared.unit.Line.{Line}
 use Rattle.deck_laws.specs.Laws.{DecksWithoutFaultAreWellFormed}
 use Rattle.deck_laws.proofs.Members.{IsIn}
 use Rattle.deck_laws.proofs.Keeping.{KeepsRules, rules_kept, all_keep}
+use Rattle.deck_laws.proofs.Ascending.{statements_ascend, units_ascend, notes_ascend}
+use Rattle.deck_laws.proofs.NotesPlaced.{notes_placed}
 use Rattle.deck_laws.proofs.Given.{Given, AreGiven, parts, are_given}
 use Rattle.deck_laws.proofs.NamesProved.{names_proved, held_proved, data_names_proved}
 use Rattle.deck_laws.proofs.RolesProved.{roles_proved, functions_proved}
 use Rattle.deck_laws.proofs.ShapesProved.{dimensions_proved, blocks_proved}
 use Rattle.deck_laws.proofs.RightStatements.{statements_right}
-use Rattle.deck_laws.proofs.OrderProved.{order_proved, result_proved}
+use Rattle.deck_laws.proofs.OrderProved.{order_proved, cards_proved, result_proved}
 use Rattle.deck_laws.proofs.BlocksAgree.{blocks_agree}
 
 unit_proved : (d : Dialect) (earlier : List Segment) (unit : Segment) → Given d earlier unit
@@ -30,6 +32,7 @@ unit_proved d earlier unit g =
       blocks = blocks_proved d earlier unit g;
       statements = statements_right d earlier unit g;
       order = order_proved d earlier unit g;
+      cards = cards_proved d earlier unit g;
       result = result_proved d earlier unit g;
     }
 
@@ -48,6 +51,12 @@ pub decks_without_fault_are_well_formed : DecksWithoutFaultAreWellFormed
 decks_without_fault_are_well_formed d pieces spelled ascend none =
     let lines = statements pieces in
     let units = segments lines in
-    let given = are_given d [] units (all_keep d [] units (places_keep d lines none))
-    (parts d 0 lines spelled ascend) in
-    (units_proved d [] units given, blocks_agree d units given)
+    let cards = statements_ascend 0 pieces ascend in
+    let given = are_given d [] units (all_keep d [] units (places_keep d lines none)) (parts d 0 lines spelled cards) in
+    record {
+      units = units_proved d [] units given;
+      blocks = blocks_agree d units given;
+      order = units_ascend 0 lines cards;
+      notes = notes_ascend 0 [] pieces ascend;
+      places = notes_placed [] pieces;
+    }

@@ -1,21 +1,28 @@
 -- Cards that ascend.
 use Rattle.std.specs.Prelude.{ℕ, ◌&&◌, nat_lt, Bool, true, List, [], ◌∷◌}
-use Rattle.fort_syntax.specs.declared.unit.Line.{Line}
+use Rattle.fort_syntax.specs.Units.{Piece, stated, remarked}
 use Rattle.fort_syntax.specs.declared.cards.Entry.{Entry}
 use Rattle.fort_syntax.specs.declared.cards.Entry.TheVariants.{Statement, Note}
 
--- the cards of statements ascend from above one
-abbrev pub ascend_above : ℕ → List Line → Bool
-ascend_above card [] = true
-ascend_above card (line ∷ lines) = nat_lt card line.card && ascend_above line.card lines
+-- the first card of a statement or note
+abbrev pub card_of_piece : Piece → ℕ
+card_of_piece (stated line) = line.card
+card_of_piece (remarked card text) = card
 
--- the cards of statements ascend from above 0
-abbrev pub do_ascend : List Line → Bool
-do_ascend lines = ascend_above 0 lines
+abbrev pub card_of_entry : Entry → ℕ
+card_of_entry (Statement number label text) = number
+card_of_entry (Note number text) = number
 
--- the cards of the statements among some entries ascend from above one
+-- the cards of statements and notes ascend from above one
+abbrev pub pieces_ascend_above : ℕ → List Piece → Bool
+pieces_ascend_above card [] = true
+pieces_ascend_above card (piece ∷ pieces) = nat_lt card (card_of_piece piece) && pieces_ascend_above (card_of_piece piece) pieces
+
+-- the cards of statements and notes ascend from above 0
+abbrev pub do_ascend : List Piece → Bool
+do_ascend pieces = pieces_ascend_above 0 pieces
+
+-- the cards of entries ascend from above one
 abbrev pub entries_ascend_above : ℕ → List Entry → Bool
 entries_ascend_above card [] = true
-entries_ascend_above card (Statement number label text ∷ entries) =
-    nat_lt card number && entries_ascend_above number entries
-entries_ascend_above card (Note number text ∷ entries) = entries_ascend_above card entries
+entries_ascend_above card (entry ∷ entries) = nat_lt card (card_of_entry entry) && entries_ascend_above (card_of_entry entry) entries

@@ -1,6 +1,8 @@
+pub mod Depths
 pub mod First
 pub mod Lines
 pub mod Names
+pub mod Rests
 pub mod Sent
 pub mod Size
 pub mod Trees

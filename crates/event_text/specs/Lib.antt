@@ -1,4 +1,6 @@
 pub mod Conditions
+pub mod Depths
 pub mod EventText
+pub mod Rests
 pub mod Sending
 pub mod TermText

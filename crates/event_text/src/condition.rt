@@ -1,12 +1,15 @@
 // Conditions on their way out.
-ghost use Rattle.std.specs.Prelude.{◌≡◌, length, map};
+ghost use Rattle.std.specs.Prelude.{◌≡◌, ◌≤◌, length, map};
 ghost use Rattle.std.specs.List.{All, flat_map, zip};
 ghost use Rattle.event_text.specs.Sending.{Goes};
 ghost use Rattle.event_text.specs.Conditions.{condition_tree, IsConditionIn};
 ghost use Rattle.event_text.specs.EventText.{condition_line, lemma_name, note_text};
+ghost use Rattle.formula.specs.Pool.{trees};
+ghost use Rattle.event_text.specs.Depths.{deepest};
 
 use crate::out::Out;
 use crate::terms::{put_term, put_terms};
+use crate::writing_stack::WritingStack;
 use edge_io::Sink;
 use formula::{Definitions, TermPool};
 use fort_syntax::Condition;
@@ -39,18 +42,28 @@ fn put_condition<K: Sink>(
     sink: &mut K,
     pool: &TermPool,
     definitions: &Definitions,
+    stack: &mut WritingStack,
     condition: &Condition,
     mark: u8,
 )
-    requires { IsConditionIn pool.now condition.now }
-    ensures { Goes (K.written sink.old) (K.written sink.new) (K.faults sink.old) (K.faults sink.new) out.old out.new (condition_line (map (λ d. d.name) definitions.now) (condition_tree pool.now condition.now) mark) }
+    requires inside { IsConditionIn pool.now condition.now }
+    requires room { deepest (trees pool.now) ≤ stack.old.room }
+    ensures room { stack.old.room ≤ stack.new.room }
+    ensures goes { Goes (K.written sink.old) (K.written sink.new) (K.faults sink.old) (K.faults sink.new) out.old out.new (condition_line (map (λ d. d.name) definitions.now) (condition_tree pool.now condition.now) mark) }
 {
     out.put(sink, b"(PROVE-LEMMA ");
     put_lemma_name(out, sink, condition);
     out.put(sink, b" NIL (IMPLIES (AND");
-    put_terms(out, sink, pool, definitions, condition.hyps.as_slice());
+    put_terms(
+        out,
+        sink,
+        pool,
+        definitions,
+        stack,
+        condition.hyps.as_slice(),
+    );
     out.put(sink, b") ");
-    put_term(out, sink, pool, definitions, condition.goal);
+    put_term(out, sink, pool, definitions, stack, condition.goal);
     out.put(sink, b")) ; ");
     put_note(out, sink, condition, mark);
     out.put(sink, b"\n");
@@ -62,14 +75,17 @@ pub fn put_conditions<K: Sink>(
     sink: &mut K,
     pool: &TermPool,
     definitions: &Definitions,
+    stack: &mut WritingStack,
     conditions: &[Condition],
     letters: &[u8],
 )
     requires inside { All (IsConditionIn pool.now) conditions.now }
     requires letters { length letters.now ≡ length conditions.now }
-    ensures { Goes (K.written sink.old) (K.written sink.new) (K.faults sink.old) (K.faults sink.new) out.old out.new (flat_map (λ p. condition_line (map (λ d. d.name) definitions.now) (condition_tree pool.now p.0) p.1) (zip conditions.now letters.now)) }
+    requires room { deepest (trees pool.now) ≤ stack.old.room }
+    ensures room { stack.old.room ≤ stack.new.room }
+    ensures goes { Goes (K.written sink.old) (K.written sink.new) (K.faults sink.old) (K.faults sink.new) out.old out.new (flat_map (λ p. condition_line (map (λ d. d.name) definitions.now) (condition_tree pool.now p.0) p.1) (zip conditions.now letters.now)) }
 {
     for (k, condition) in conditions.iter().enumerate() {
-        put_condition(out, sink, pool, definitions, condition, letters[k]);
+        put_condition(out, sink, pool, definitions, stack, condition, letters[k]);
     }
 }

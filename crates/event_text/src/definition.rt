@@ -1,12 +1,17 @@
 // Definitions on their way out.
-ghost use Rattle.std.specs.Prelude.{◌≡◌, ◌++◌, length, map, codes};
+ghost use Rattle.std.specs.Prelude.{◌≡◌, ◌≤◌, ◌++◌, length, map, codes};
 ghost use Rattle.std.specs.List.{All, flat_map};
 ghost use Rattle.event_text.specs.Sending.{Goes};
-ghost use Rattle.event_text.specs.Conditions.{body_tree, definition_tree, IsBodyIn, IsDefinitionIn};
+ghost use Rattle.formula.specs.Adding.{IsBodyIn};
+ghost use Rattle.formula.specs.Worth.{body_of, function_of};
+ghost use Rattle.event_text.specs.Conditions.{IsDefinitionIn};
 ghost use Rattle.event_text.specs.EventText.{body_text, definition_line, first_word, spaced};
+ghost use Rattle.formula.specs.Pool.{trees};
+ghost use Rattle.event_text.specs.Depths.{deepest};
 
 use crate::out::Out;
 use crate::terms::put_term;
+use crate::writing_stack::WritingStack;
 use edge_io::Sink;
 use formula::{Body, Definition, Definitions, TermPool, Word};
 
@@ -45,20 +50,23 @@ fn put_body<K: Sink>(
     sink: &mut K,
     pool: &TermPool,
     definitions: &Definitions,
+    stack: &mut WritingStack,
     definition: &Definition,
 )
-    requires { IsBodyIn pool.now definition.now.body }
-    ensures { Goes (K.written sink.old) (K.written sink.new) (K.faults sink.old) (K.faults sink.new) out.old out.new (body_text (map (λ d. d.name) definitions.now) definition.now.params (body_tree pool.now definition.now.body)) }
+    requires inside { IsBodyIn pool.now definition.now.body }
+    requires room { deepest (trees pool.now) ≤ stack.old.room }
+    ensures room { stack.old.room ≤ stack.new.room }
+    ensures goes { Goes (K.written sink.old) (K.written sink.new) (K.faults sink.old) (K.faults sink.new) out.old out.new (body_text (map (λ d. d.name) definitions.now) definition.now.params (body_of pool.now definition.now.body)) }
 {
     match definition.body {
-        Body::Plain(term) => put_term(out, sink, pool, definitions, term),
+        Body::Plain(term) => put_term(out, sink, pool, definitions, stack, term),
         Body::Counting(base, step) => {
             out.put(sink, b"(IF (ZLEQ ");
             put_first_word(out, sink, definition.params.as_slice());
             out.put(sink, b" 0) ");
-            put_term(out, sink, pool, definitions, base);
+            put_term(out, sink, pool, definitions, stack, base);
             out.put(sink, b" ");
-            put_term(out, sink, pool, definitions, step);
+            put_term(out, sink, pool, definitions, stack, step);
             out.put(sink, b")");
         }
     }
@@ -70,17 +78,20 @@ fn put_definition<K: Sink>(
     sink: &mut K,
     pool: &TermPool,
     definitions: &Definitions,
+    stack: &mut WritingStack,
     definition: &Definition,
 )
-    requires { IsDefinitionIn pool.now definition.now }
-    ensures { Goes (K.written sink.old) (K.written sink.new) (K.faults sink.old) (K.faults sink.new) out.old out.new (definition_line (map (λ d. d.name) definitions.now) (definition_tree pool.now definition.now)) }
+    requires inside { IsDefinitionIn pool.now definition.now }
+    requires room { deepest (trees pool.now) ≤ stack.old.room }
+    ensures room { stack.old.room ≤ stack.new.room }
+    ensures goes { Goes (K.written sink.old) (K.written sink.new) (K.faults sink.old) (K.faults sink.new) out.old out.new (definition_line (map (λ d. d.name) definitions.now) (function_of pool.now definition.now)) }
 {
     out.put(sink, b"(DEFN ");
     out.put(sink, definition.name.as_bytes());
     out.put(sink, b" (");
     put_words(out, sink, definition.params.as_slice());
     out.put(sink, b") ");
-    put_body(out, sink, pool, definitions, definition);
+    put_body(out, sink, pool, definitions, stack, definition);
     out.put(sink, b")\n");
 }
 
@@ -90,11 +101,14 @@ pub fn put_definitions<K: Sink>(
     sink: &mut K,
     pool: &TermPool,
     definitions: &Definitions,
+    stack: &mut WritingStack,
 )
-    requires { All (IsDefinitionIn pool.now) definitions.now }
-    ensures { Goes (K.written sink.old) (K.written sink.new) (K.faults sink.old) (K.faults sink.new) out.old out.new (flat_map (λ d. definition_line (map (λ d. d.name) definitions.now) (definition_tree pool.now d)) definitions.now) }
+    requires inside { All (IsDefinitionIn pool.now) definitions.now }
+    requires room { deepest (trees pool.now) ≤ stack.old.room }
+    ensures room { stack.old.room ≤ stack.new.room }
+    ensures goes { Goes (K.written sink.old) (K.written sink.new) (K.faults sink.old) (K.faults sink.new) out.old out.new (flat_map (λ d. definition_line (map (λ d. d.name) definitions.now) (function_of pool.now d)) definitions.now) }
 {
     for k in 0..definitions.count() {
-        put_definition(out, sink, pool, definitions, definitions.get(k + 1));
+        put_definition(out, sink, pool, definitions, stack, definitions.get(k + 1));
     }
 }

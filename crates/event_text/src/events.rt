@@ -1,16 +1,20 @@
 // The whole text.
-ghost use Rattle.std.specs.Prelude.{◌≡◌, length, map, OnOk, OnErr};
+ghost use Rattle.std.specs.Prelude.{◌≡◌, ◌≤◌, length, map, OnOk, OnErr};
 ghost use Rattle.std.specs.Io.KnownBytes.{Appends};
 ghost use Rattle.std.specs.List.{All, flat_map};
 ghost use Rattle.edge_io.specs.Causes.{HasCause};
-ghost use Rattle.event_text.specs.Conditions.{condition_tree, definition_tree, IsConditionIn, IsDefinitionIn};
+ghost use Rattle.formula.specs.Worth.{function_of};
+ghost use Rattle.event_text.specs.Conditions.{condition_tree, IsConditionIn, IsDefinitionIn};
 ghost use Rattle.event_text.specs.EventText.{asked_line, closing_line, event_text};
 ghost use Rattle.event_text.specs.Sending.{AppendsPart, Goes};
+ghost use Rattle.formula.specs.Pool.{trees};
+ghost use Rattle.event_text.specs.Depths.{deepest};
 
 use crate::Marks;
 use crate::condition::put_conditions;
 use crate::definition::put_definitions;
 use crate::out::Out;
+use crate::writing_stack::WritingStack;
 use edge_io::{Failed, List, Sink};
 use formula::{Definitions, TermPool};
 use fort_syntax::Condition;
@@ -43,20 +47,23 @@ fn put_events<K: Sink>(
     sink: &mut K,
     pool: &TermPool,
     definitions: &Definitions,
+    stack: &mut WritingStack,
     conditions: &[Condition],
     marks: &Marks,
 )
     requires definitions { All (IsDefinitionIn pool.now) definitions.now }
     requires conditions { All (IsConditionIn pool.now) conditions.now }
     requires letters { length marks.now.letters ≡ length conditions.now }
-    ensures { Goes (K.written sink.old) (K.written sink.new) (K.faults sink.old) (K.faults sink.new) out.old out.new (event_text (map (definition_tree pool.now) definitions.now) (map (condition_tree pool.now) conditions.now) marks.now) }
+    requires room { deepest (trees pool.now) ≤ stack.old.room }
+    ensures { Goes (K.written sink.old) (K.written sink.new) (K.faults sink.old) (K.faults sink.new) out.old out.new (event_text (map (function_of pool.now) definitions.now) (map (condition_tree pool.now) conditions.now) marks.now) }
 {
-    put_definitions(out, sink, pool, definitions);
+    put_definitions(out, sink, pool, definitions, stack);
     put_conditions(
         out,
         sink,
         pool,
         definitions,
+        stack,
         conditions,
         marks.letters.as_slice(),
     );
@@ -67,21 +74,24 @@ fn put_events<K: Sink>(
 /// Writes the text of definitions, of conditions whose terms use them, and of what is known of
 /// the conditions: a line for each definition, for each condition with its letter, and for each
 /// prover, and a closing line. It goes out in pieces of 4,096 bytes and a last shorter one. At
-/// `Failed` a front part of the text was written. It takes no memory.
+/// `Failed` a front part of the text was written. It takes no memory: `stack` has the room
+/// that the terms want.
 pub fn write_events<K: Sink>(
     sink: &mut K,
     pool: &TermPool,
     definitions: &Definitions,
     conditions: &List<Condition>,
     marks: &Marks,
+    stack: &mut WritingStack,
 ) -> Result<(), Failed>
     requires definitions { All (IsDefinitionIn pool.now) definitions.now }
     requires conditions { All (IsConditionIn pool.now) conditions.now }
     requires letters { length marks.now.letters ≡ length conditions.now }
-    ensures ok { OnOk result (Appends (K.written sink.old) (K.written sink.new) (event_text (map (definition_tree pool.now) definitions.now) (map (condition_tree pool.now) conditions.now) marks.now)) }
+    requires room { deepest (trees pool.now) ≤ stack.old.room }
+    ensures ok { OnOk result (Appends (K.written sink.old) (K.written sink.new) (event_text (map (function_of pool.now) definitions.now) (map (condition_tree pool.now) conditions.now) marks.now)) }
 
     // A front part of the text was appended.
-    ensures err { OnErr result (AppendsPart (K.written sink.old) (K.written sink.new) (event_text (map (definition_tree pool.now) definitions.now) (map (condition_tree pool.now) conditions.now) marks.now)) }
+    ensures err { OnErr result (AppendsPart (K.written sink.old) (K.written sink.new) (event_text (map (function_of pool.now) definitions.now) (map (condition_tree pool.now) conditions.now) marks.now)) }
     ensures cause { HasCause (K.faults sink.old) (K.faults sink.new) result }
 {
     let mut out = Out::new();
@@ -90,6 +100,7 @@ pub fn write_events<K: Sink>(
         sink,
         pool,
         definitions,
+        stack,
         conditions.as_slice(),
         marks,
     );

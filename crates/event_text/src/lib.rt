@@ -1,6 +1,7 @@
 //! Conditions as text, and text as conditions.
 #![tactic(auto)]
 
+mod bracket;
 mod condition;
 mod definition;
 mod events;
@@ -10,7 +11,9 @@ mod out;
 mod page;
 mod putting;
 mod terms;
+mod writing_stack;
 
 pub use events::write_events;
 pub use fault::write_fault;
 pub use marks::Marks;
+pub use writing_stack::WritingStack;

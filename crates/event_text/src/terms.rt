@@ -1,10 +1,15 @@
 // Terms on their way out.
-ghost use Rattle.std.specs.Prelude.{◌≡◌, length, map};
+ghost use Rattle.std.specs.Prelude.{◌≡◌, ◌≤◌, ◌<◌, ◌+◌, [], ◌∷◌, ◌++◌, length, map, MatchOption};
 ghost use Rattle.formula.specs.Pool.{trees, tree_of, row_in, AllBelow, IsIn};
-ghost use Rattle.event_text.specs.Sending.{Goes};
+ghost use Rattle.formula.specs.Facts.{depth};
+ghost use Rattle.event_text.specs.Depths.{deepest};
+ghost use Rattle.event_text.specs.Rests.{pending, rest_of, IsNested};
+ghost use Rattle.event_text.specs.Sending.{Goes, Nears};
 ghost use Rattle.event_text.specs.TermText.{function_text, name_at, row_text, term_text, truth_text};
 
+use crate::bracket::Bracket;
 use crate::out::Out;
+use crate::writing_stack::WritingStack;
 use edge_io::Sink;
 use formula::{Definitions, Func, Node, TermId, TermPool};
 
@@ -39,17 +44,40 @@ fn put_function<K: Sink>(out: &mut Out, sink: &mut K, definitions: &Definitions,
     }
 }
 
-/// Puts a term.
-#[cycle(term)]
-pub fn put_term<K: Sink>(
+/// The next argument of an open bracket, and the bracket behind it.
+fn next_argument(pool: &TermPool, bracket: Bracket) -> Option<(TermId, Bracket)>
+    requires { IsIn pool.now bracket.id }
+    ensures rest { MatchOption result (rest_of pool.now bracket ≡ []) (λ p. rest_of pool.now bracket ≡ p.0 ∷ rest_of pool.now p.1) }
+    ensures below { MatchOption result (Unit {0}) (λ p. (p.0.place < bracket.id.place) × (p.1.id ≡ bracket.id)) }
+{
+    let args = pool.arguments(bracket.id);
+    if bracket.at >= args.len() {
+        return None;
+    }
+    let behind = Bracket {
+        id: bracket.id,
+        at: bracket.at + 1,
+    };
+    Some((args[bracket.at], behind))
+}
+
+/// Puts a term up to its arguments: the whole of one that has no bracket, and else a bracket is
+/// open then.
+fn begin_term<K: Sink>(
     out: &mut Out,
     sink: &mut K,
     pool: &TermPool,
     definitions: &Definitions,
+    stack: &mut WritingStack,
     id: TermId,
 )
-    requires { IsIn pool.now id }
-    ensures { Goes (K.written sink.old) (K.written sink.new) (K.faults sink.old) (K.faults sink.new) out.old out.new (term_text (map (λ d. d.name) definitions.now) (tree_of pool.now id)) }
+    requires room { deepest (trees pool.now) ≤ stack.old.room }
+    requires id { IsIn pool.now id }
+    requires low { depth (tree_of pool.now id) + length stack.old.brackets ≤ deepest (trees pool.now) }
+    requires nested { IsNested pool.now stack.old.brackets }
+    ensures nears { Nears (K.written sink.old) (K.written sink.new) (K.faults sink.old) (K.faults sink.new) out.old out.new (term_text (map (λ d. d.name) definitions.now) (tree_of pool.now id) ++ pending (map (λ d. d.name) definitions.now) pool.now stack.old.brackets) (pending (map (λ d. d.name) definitions.now) pool.now stack.new.brackets) }
+    ensures nested { IsNested pool.now stack.new.brackets }
+    ensures room { stack.old.room ≤ stack.new.room }
 {
     match pool.node(id) {
         Node::Num(n) => out.put_signed(sink, *n),
@@ -60,33 +88,77 @@ pub fn put_term<K: Sink>(
             out.put(sink, name.as_bytes());
             out.put(sink, b")");
         }
-        Node::Apply(function, args) => {
+        Node::Apply(function, _) => {
             out.put(sink, b"(");
             put_function(out, sink, definitions, *function);
-            put_terms(out, sink, pool, definitions, args.as_slice());
-            out.put(sink, b")");
+            stack.open(Bracket { id, at: 0 });
         }
     }
 }
 
+/// Puts what comes next in a bracket that was taken from the stack: its end, or an argument up to
+/// that one's arguments.
+fn go_on<K: Sink>(
+    out: &mut Out,
+    sink: &mut K,
+    pool: &TermPool,
+    definitions: &Definitions,
+    stack: &mut WritingStack,
+    bracket: Bracket,
+)
+    requires room { deepest (trees pool.now) ≤ stack.old.room }
+    requires nested { IsNested pool.now (bracket ∷ stack.old.brackets) }
+    ensures nears { Nears (K.written sink.old) (K.written sink.new) (K.faults sink.old) (K.faults sink.new) out.old out.new (pending (map (λ d. d.name) definitions.now) pool.now (bracket ∷ stack.old.brackets)) (pending (map (λ d. d.name) definitions.now) pool.now stack.new.brackets) }
+    ensures shorter { length (pending (map (λ d. d.name) definitions.now) pool.now stack.new.brackets) < length (pending (map (λ d. d.name) definitions.now) pool.now (bracket ∷ stack.old.brackets)) }
+    ensures nested { IsNested pool.now stack.new.brackets }
+    ensures room { stack.old.room ≤ stack.new.room }
+{
+    let Some((id, behind)) = next_argument(pool, bracket) else {
+        out.put(sink, b")");
+        return;
+    };
+    stack.open(behind);
+    out.put(sink, b" ");
+    begin_term(out, sink, pool, definitions, stack, id);
+}
+
+/// Puts a term. It takes no memory: its open brackets stand in `stack`, and not on the call stack.
+pub fn put_term<K: Sink>(
+    out: &mut Out,
+    sink: &mut K,
+    pool: &TermPool,
+    definitions: &Definitions,
+    stack: &mut WritingStack,
+    id: TermId,
+)
+    requires id { IsIn pool.now id }
+    requires room { deepest (trees pool.now) ≤ stack.old.room }
+    ensures goes { Goes (K.written sink.old) (K.written sink.new) (K.faults sink.old) (K.faults sink.new) out.old out.new (term_text (map (λ d. d.name) definitions.now) (tree_of pool.now id)) }
+    ensures room { stack.old.room ≤ stack.new.room }
+{
+    stack.clear();
+    begin_term(out, sink, pool, definitions, stack, id);
+    while let Some(bracket) = stack.close() {
+        go_on(out, sink, pool, definitions, stack, bracket);
+    }
+}
+
 /// Puts terms, with a blank before each.
-#[cycle(term)]
 pub fn put_terms<K: Sink>(
     out: &mut Out,
     sink: &mut K,
     pool: &TermPool,
     definitions: &Definitions,
+    stack: &mut WritingStack,
     ids: &[TermId],
 )
-    requires { AllBelow (length pool.now) ids.now }
-    ensures { Goes (K.written sink.old) (K.written sink.new) (K.faults sink.old) (K.faults sink.new) out.old out.new (row_text (map (λ d. d.name) definitions.now) (row_in (trees pool.now) ids.now)) }
+    requires ids { AllBelow (length pool.now) ids.now }
+    requires room { deepest (trees pool.now) ≤ stack.old.room }
+    ensures goes { Goes (K.written sink.old) (K.written sink.new) (K.faults sink.old) (K.faults sink.new) out.old out.new (row_text (map (λ d. d.name) definitions.now) (row_in (trees pool.now) ids.now)) }
+    ensures room { stack.old.room ≤ stack.new.room }
 {
-    match ids {
-        [] => {}
-        [first, rest @ ..] => {
-            out.put(sink, b" ");
-            put_term(out, sink, pool, definitions, *first);
-            put_terms(out, sink, pool, definitions, rest);
-        }
+    for id in ids {
+        out.put(sink, b" ");
+        put_term(out, sink, pool, definitions, stack, *id);
     }
 }

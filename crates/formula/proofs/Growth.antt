@@ -1,5 +1,5 @@
 -- The trees of a pool that grows.
-use Rattle.std.proofs.Common.{◌≡◌, ℕ, zero, suc, ◌+◌, ◌<◌, ◌≤◌, List, [], ◌∷◌, ◌++◌, length, Some, IsTrue, refl, sym, ap, ◌∙◌, subst, arith, append_assoc, length-append, slice_get}
+use Rattle.std.proofs.Common.{◌≡◌, ℕ, zero, suc, ◌+◌, ◌<◌, ◌≤◌, List, [], ◌∷◌, ◌++◌, length, Some, IsTrue, refl, sym, ap, ◌∙◌, subst, arith, append_assoc, length-append, slice_get, get_or}
 use Rattle.std.proofs.lemmas.Grind.{common_steps}
 use Rattle.formula.specs.declared.node.Node.{Node}
 use Rattle.formula.specs.declared.node.Node.TheVariants.{Num, Truth, Symbol, Old, Apply}
@@ -28,6 +28,12 @@ AllBelow-more n m [] le h = tt
 AllBelow-more n m (id ∷ args) le h =
     let here : id.place < n = h.0 in
     (omega arith, AllBelow-more n m args le h.1)
+
+-- so is the one at a place
+pub argument_at : (n : ℕ) (args : List TermId) (k : ℕ) (d : TermId) → AllBelow n args → k < length args → (get_or args k d).place < n
+argument_at n [] k d below h = absurd (omega arith)
+argument_at n (id ∷ args) zero d below h = below.0
+argument_at n (id ∷ args) (suc k) d below h = argument_at n args k d below.1 (omega arith)
 
 pub HasArguments-append : (done rest : List Tree) (node : Node) → HasArguments done node → HasArguments (done ++ rest) node
 HasArguments-append done rest (Num z) h = tt

@@ -13,9 +13,9 @@ use Rattle.formula.specs.declared.passing.TestResults.{TestResults}
 use Rattle.formula.specs.Adding.{is_known_use, is_other, counts_down, has_names_of}
 use Rattle.formula.specs.Atoms.{is_among}
 use Rattle.formula.specs.Headings.{heading_with, is_headed}
-use Rattle.formula.specs.Order.{IsReached, itself, below, IsOrder}
+use Rattle.formula.specs.Reach.{IsReached, itself, below, AreReached}
 use Rattle.formula.specs.Passing.{all_pass, both, names_are_own, term_results, use_results, top_results, results_of}
-use Rattle.formula.specs.Pool.{AllBelow, HasArgumentsBelow, IsIn, IsPool, row_in, tree_at, tree_in, tree_of, trees}
+use Rattle.formula.specs.Pool.{AllBelow, HasArgumentsBelow, IsPool, row_in, tree_at, tree_in, trees}
 use Rattle.formula.specs.Substitution.{arguments_of}
 use Rattle.formula.specs.TermTests.{uses_pass, row_uses_pass, row_names_pass}
 use Rattle.formula.specs.Tree.{Tree, num, truth, symbol, old, apply, Row, none, more}
@@ -33,7 +33,7 @@ there [] k x e = absurd (cc)
 there (y ∷ xs) zero x e = omega arith
 there (y ∷ xs) (suc k) x e = let lt = there xs k x e in omega arith
 
-same_default : {X : Type 0} (xs : List X) (k : ℕ) (d e : X) → k < length xs → get_or xs k e ≡ get_or xs k d
+pub same_default : {X : Type 0} (xs : List X) (k : ℕ) (d e : X) → k < length xs → get_or xs k e ≡ get_or xs k d
 same_default [] k d e lt = absurd (omega arith)
 same_default (x ∷ xs) zero d e lt = refl
 same_default (x ∷ xs) (suc k) d e lt = same_default xs k d e (omega arith)
@@ -52,35 +52,35 @@ argument_below n (Apply f args) b h c = all_below n args c.0 b h c.1 c.2
 
 -- ---- the nodes that a term reaches
 
-module _ (pool : List Node) (id : TermId) (ids : List TermId) (order : IsOrder pool id ids) (within : IsIn pool id) where
-  reached_in : (a : TermId) → IsReached pool id a → IsIn pool a
-  reached_in a itself = within
-  reached_in b (below a _ node r at c) =
-      let lt = argument_below a.place node b (below_at pool a.place node order.pool_is at) c in
-      let high : a.place < length pool = there pool a.place node at in
+module _ (pool : List Node) (top : ℕ) (is_pool : IsPool [] pool) (within : top < length pool) where
+  pub reached_in : (place : ℕ) → IsReached pool top place → place < length pool
+  reached_in place itself = within
+  reached_in _ (below place node b r at c) =
+      let lt = argument_below place node b (below_at pool place node is_pool at) c in
+      let high : place < length pool = there pool place node at in
       omega arith
 
-  pub ordered_in : (k : ℕ) (d : TermId) → k < length ids → IsIn pool (get_or ids k d)
-  ordered_in k d lt = reached_in (get_or ids k d) (order.reached (get_or ids k d) (k, lt, same_default ids k d (get_or ids k d) lt))
+pub ordered_in : (pool : List Node) (top : ℕ) (places : List ℕ) → AreReached pool top places → top < length pool → (k d : ℕ) → k < length places → get_or places k d < length pool
+ordered_in pool top places are within k d lt = reached_in pool top are.is_pool within (get_or places k d) (are.reached (get_or places k d) (k, lt, same_default places k d (get_or places k d) lt))
 
 -- ---- a test of nodes
 
--- the trees at these ids pass
-abbrev all_nodes : (Tree → Bool) → List Tree → List TermId → Bool
+-- the trees at these places pass
+abbrev all_nodes : (Tree → Bool) → List Tree → List ℕ → Bool
 all_nodes test ts [] = true
-all_nodes test ts (id ∷ rest) = test (tree_at ts id.place) && all_nodes test ts rest
+all_nodes test ts (place ∷ rest) = test (tree_at ts place) && all_nodes test ts rest
 
-one_of : (test : Tree → Bool) (ts : List Tree) (ids : List TermId) (k : ℕ) (a : TermId) → k < length ids → get_or ids k a ≡ a → all_nodes test ts ids ≡ true → test (tree_at ts a.place) ≡ true
+one_of : (test : Tree → Bool) (ts : List Tree) (places : List ℕ) (k a : ℕ) → k < length places → get_or places k a ≡ a → all_nodes test ts places ≡ true → test (tree_at ts a) ≡ true
 one_of test ts [] k a lt e h = absurd (omega arith)
-one_of test ts (x ∷ ids) zero a lt e h = subst (λ (y : TermId). test (tree_at ts y.place) ≡ true) e (first_so (test (tree_at ts x.place)) (all_nodes test ts ids) h)
-one_of test ts (x ∷ ids) (suc k) a lt e h = one_of test ts ids k a (omega arith) e (second_so (test (tree_at ts x.place)) (all_nodes test ts ids) h)
+one_of test ts (x ∷ places) zero a lt e h = subst (λ y. test (tree_at ts y) ≡ true) e (first_so (test (tree_at ts x)) (all_nodes test ts places) h)
+one_of test ts (x ∷ places) (suc k) a lt e h = one_of test ts places k a (omega arith) e (second_so (test (tree_at ts x)) (all_nodes test ts places) h)
 
 both_so : (a b : Bool) → a ≡ true → b ≡ true → (a && b) ≡ true
 both_so a b e f = (λ i. e i && f i)
 
-each_of : (test : Tree → Bool) (ts : List Tree) (ids : List TermId) → ((k : ℕ) (a : TermId) → k < length ids → get_or ids k a ≡ a → test (tree_at ts a.place) ≡ true) → all_nodes test ts ids ≡ true
+each_of : (test : Tree → Bool) (ts : List Tree) (places : List ℕ) → ((k a : ℕ) → k < length places → get_or places k a ≡ a → test (tree_at ts a) ≡ true) → all_nodes test ts places ≡ true
 each_of test ts [] h = refl
-each_of test ts (x ∷ ids) h = both_so _ _ (h zero x (omega arith) refl) (each_of test ts ids (λ k a lt e. h (suc k) a (omega arith) e))
+each_of test ts (x ∷ places) h = both_so _ _ (h zero x (omega arith) refl) (each_of test ts places (λ k a lt e. h (suc k) a (omega arith) e))
 
 -- a test of trees that each node passes, what is below it aside
 record IsTested (top whole : Tree → Bool) (row : Row → Bool) : Type 0 where
@@ -127,19 +127,19 @@ module _ (top whole : Tree → Bool) (row : Row → Bool) (is : IsTested top who
   argument_whole ts (Old s) b c h = let lt = c.1 in absurd (omega arith)
   argument_whole ts (Apply f ids) b c h = one_whole ts ids c.0 b c.1 c.2 (second_so (top (apply f (row_in ts ids))) (row (row_in ts ids)) (sym (is.function f (row_in ts ids)) ∙ h))
 
-  module _ (pool : List Node) (id : TermId) (ids : List TermId) (order : IsOrder pool id ids) (within : IsIn pool id) where
-    reached_whole : whole (tree_of pool id) ≡ true → (a : TermId) → IsReached pool id a → whole (tree_of pool a) ≡ true
-    reached_whole h a itself = h
-    reached_whole h b (below a _ node r at c) =
-        argument_whole (trees pool) node b c (ap whole (sym (tree_at-trees pool a.place node order.pool_is at)) ∙ reached_whole h a r)
+  module _ (pool : List Node) (at_top : ℕ) (places : List ℕ) (are : AreReached pool at_top places) (within : at_top < length pool) where
+    reached_whole : whole (tree_at (trees pool) at_top) ≡ true → (place : ℕ) → IsReached pool at_top place → whole (tree_at (trees pool) place) ≡ true
+    reached_whole h place itself = h
+    reached_whole h _ (below place node b r at c) =
+        argument_whole (trees pool) node b c (ap whole (sym (tree_at-trees pool place node are.is_pool at)) ∙ reached_whole h place r)
 
-    ordered_whole : all_nodes top (trees pool) ids ≡ true → (n : ℕ) (a : TermId) → a.place < n → Contains ids a → whole (tree_of pool a) ≡ true
+    ordered_whole : all_nodes top (trees pool) places ≡ true → (n a : ℕ) → a < n → Contains places a → whole (tree_at (trees pool) a) ≡ true
     ordered_whole h zero a lt c = absurd (omega arith)
     ordered_whole h (suc n) a lt c =
-        let p = present pool a.place (reached_in pool id ids order within a (order.reached a c)) in
-        let tree = tree_at-trees pool a.place p.0 order.pool_is p.1 in
-        ap whole tree ∙ node_whole (trees pool) p.0 (ap top (sym tree) ∙ one_of top (trees pool) ids c.0 a c.1 c.2 h)
-        (λ b d. ordered_whole h n b (let low = argument_below a.place p.0 b (below_at pool a.place p.0 order.pool_is p.1) d in omega arith) (order.closed a b p.0 c p.1 d))
+        let p = present pool a (reached_in pool at_top are.is_pool within a (are.reached a c)) in
+        let tree = tree_at-trees pool a p.0 are.is_pool p.1 in
+        ap whole tree ∙ node_whole (trees pool) p.0 (ap top (sym tree) ∙ one_of top (trees pool) places c.0 a c.1 c.2 h)
+        (λ b d. ordered_whole h n b.place (let low = argument_below a p.0 b (below_at pool a p.0 are.is_pool p.1) d in omega arith) (are.closed a p.0 b c p.1 d))
 
     alike : (a b : Bool) → (a ≡ true → b ≡ true) → (b ≡ true → a ≡ true) → a ≡ b
     alike true b f g = sym (f refl)
@@ -147,20 +147,20 @@ module _ (top whole : Tree → Bool) (row : Row → Bool) (is : IsTested top who
     alike false false f g = refl
 
     -- the nodes that a term reaches pass just where the term does
-    nodes_tell : all_nodes top (trees pool) ids ≡ whole (tree_of pool id)
+    nodes_tell : all_nodes top (trees pool) places ≡ whole (tree_at (trees pool) at_top)
     nodes_tell =
-        alike (all_nodes top (trees pool) ids) (whole (tree_of pool id)) (λ h. ordered_whole h (suc id.place) id (omega arith) order.has_top)
-        (λ h. each_of top (trees pool) ids (λ k a lt e. whole_top (tree_of pool a) (reached_whole h a (order.reached a (k, lt, e)))))
+        alike (all_nodes top (trees pool) places) (whole (tree_at (trees pool) at_top)) (λ h. ordered_whole h (suc at_top) at_top (omega arith) are.has_top)
+        (λ h. each_of top (trees pool) places (λ k a lt e. whole_top (tree_at (trees pool) a) (reached_whole h a (are.reached a (k, lt, e)))))
 
 -- ---- the tests of a definition
 
 module _ (earlier : List Heading) (name : List ℕ) (params : List (List ℕ)) where
-  part_of : (part : TestResults → Bool) → ((a b : TestResults) → part (both a b) ≡ (part a && part b)) → part all_pass ≡ true → (ts : List Tree) (ids : List TermId)
-      → part (results_of earlier name params ts ids) ≡ all_nodes (λ t. part (top_results earlier name params t)) ts ids
+  part_of : (part : TestResults → Bool) → ((a b : TestResults) → part (both a b) ≡ (part a && part b)) → part all_pass ≡ true → (ts : List Tree) (places : List ℕ)
+      → part (results_of earlier name params ts places) ≡ all_nodes (λ t. part (top_results earlier name params t)) ts places
   part_of part joins passes ts [] = passes
-  part_of part joins passes ts (id ∷ ids) =
-      joins (top_results earlier name params (tree_at ts id.place)) (results_of earlier name params ts ids)
-      ∙ ap (λ b. part (top_results earlier name params (tree_at ts id.place)) && b) (part_of part joins passes ts ids)
+  part_of part joins passes ts (place ∷ places) =
+      joins (top_results earlier name params (tree_at ts place)) (results_of earlier name params ts places)
+      ∙ ap (λ b. part (top_results earlier name params (tree_at ts place)) && b) (part_of part joins passes ts places)
 
   module _ (part : TestResults → Bool) (test : ℕ → Row → Bool) (one_use : (j : ℕ) (r : Row) → part (use_results earlier name params j r) ≡ test j r) (names : (b : Bool) → part (names_are_own b) ≡ true) where
     of_function : (f : Func) (r : Row) → uses_pass test (apply f r) ≡ (part (top_results earlier name params (apply f r)) && row_uses_pass test r)
@@ -193,24 +193,24 @@ module _ (earlier : List Heading) (name : List ℕ) (params : List (List ℕ)) w
     more_row = λ t r. refl;
   }
 
-  module _ (pool : List Node) (id : TermId) (ids : List TermId) (order : IsOrder pool id ids) (within : IsIn pool id) where
+  module _ (pool : List Node) (top : ℕ) (places : List ℕ) (are : AreReached pool top places) (within : top < length pool) where
     of_uses : (part : TestResults → Bool) (test : ℕ → Row → Bool) → ((a b : TestResults) → part (both a b) ≡ (part a && part b)) → ((j : ℕ) (r : Row) → part (use_results earlier name params j r) ≡ test j r)
-        → ((b : Bool) → part (names_are_own b) ≡ true) → part (results_of earlier name params (trees pool) ids) ≡ uses_pass test (tree_of pool id)
+        → ((b : Bool) → part (names_are_own b) ≡ true) → part (results_of earlier name params (trees pool) places) ≡ uses_pass test (tree_at (trees pool) top)
     of_uses part test joins one_use names =
-        part_of part joins (names true) (trees pool) ids
-        ∙ nodes_tell (λ t. part (top_results earlier name params t)) (uses_pass test) (row_uses_pass test) (uses_tested part test one_use names) pool id ids order within
+        part_of part joins (names true) (trees pool) places
+        ∙ nodes_tell (λ t. part (top_results earlier name params t)) (uses_pass test) (row_uses_pass test) (uses_tested part test one_use names) pool top places are within
 
     -- what the tests say of the nodes that a term reaches is what they say of the term
-    pub results_are : results_of earlier name params (trees pool) ids ≡ term_results earlier name params (tree_of pool id)
+    pub results_are : results_of earlier name params (trees pool) places ≡ term_results earlier name params (tree_at (trees pool) top)
     results_are =
         let k = suc (length earlier) in
         let known = of_uses (λ r. r.known_uses) (is_known_use k) (λ a b. refl) (λ j r. refl) (λ b. refl) in
         let counts = of_uses (λ r. r.right_counts) (is_headed (earlier ++ heading_with name params ∷ [])) (λ a b. refl) (λ j r. refl) (λ b. refl) in
         let others = of_uses (λ r. r.other_uses) (is_other k) (λ a b. refl) (λ j r. refl) (λ b. refl) in
         let down = of_uses (λ r. r.counts_down) (counts_down k params) (λ a b. refl) (λ j r. refl) (λ b. refl) in
-        let names : (results_of earlier name params (trees pool) ids).own_names ≡ has_names_of params (tree_of pool id) =
-        part_of (λ r. r.own_names) (λ a b. refl) refl (trees pool) ids
-        ∙ nodes_tell (λ t. (top_results earlier name params t).own_names) (has_names_of params) (row_names_pass (λ s. is_among s params) (λ s. false)) names_tested pool id ids order within in
+        let names : (results_of earlier name params (trees pool) places).own_names ≡ has_names_of params (tree_at (trees pool) top) =
+        part_of (λ r. r.own_names) (λ a b. refl) refl (trees pool) places
+        ∙ nodes_tell (λ t. (top_results earlier name params t).own_names) (has_names_of params) (row_names_pass (λ s. is_among s params) (λ s. false)) names_tested pool top places are within in
         λ i. record { known_uses = known i; right_counts = counts i; other_uses = others i; counts_down = down i; own_names = names i }
 
 -- ---- step by step
@@ -241,11 +241,11 @@ both-all_pass a = λ i. record {
   own_names = and_true a.own_names i;
 }
 
-pub one_more : (earlier : List Heading) (name : List ℕ) (params : List (List ℕ)) (ts : List Tree) (ids : List TermId) (i : ℕ) (d : TermId) (results : TestResults) → i < length ids
-    → both results (results_of earlier name params ts (drop i ids))
-    ≡ both (both results (top_results earlier name params (tree_at ts (get_or ids i d).place))) (results_of earlier name params ts (drop (i + 1) ids))
-one_more earlier name params ts ids i d results lt =
-    let step : drop i ids ≡ get_or ids i d ∷ drop (suc i) ids = drop-cons ids i d lt in
-    let opened : drop i ids ≡ get_or ids i d ∷ drop (i + 1) ids = rw add-one step in
+pub one_more : (earlier : List Heading) (name : List ℕ) (params : List (List ℕ)) (ts : List Tree) (places : List ℕ) (i d : ℕ) (results : TestResults) → i < length places
+    → both results (results_of earlier name params ts (drop i places))
+    ≡ both (both results (top_results earlier name params (tree_at ts (get_or places i d)))) (results_of earlier name params ts (drop (i + 1) places))
+one_more earlier name params ts places i d results lt =
+    let step : drop i places ≡ get_or places i d ∷ drop (suc i) places = drop-cons places i d lt in
+    let opened : drop i places ≡ get_or places i d ∷ drop (i + 1) places = rw add-one step in
     ap (λ l. both results (results_of earlier name params ts l)) opened
-    ∙ both-assoc results (top_results earlier name params (tree_at ts (get_or ids i d).place)) (results_of earlier name params ts (drop (i + 1) ids))
+    ∙ both-assoc results (top_results earlier name params (tree_at ts (get_or places i d))) (results_of earlier name params ts (drop (i + 1) places))

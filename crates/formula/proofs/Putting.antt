@@ -1,6 +1,8 @@
 -- A pool after a node is put in.
-use Rattle.std.proofs.Common.{◌≡◌, ℕ, ◌+◌, ◌<◌, ◌^◌, Bool, true, false, List, [], ◌∷◌, ◌++◌, length, refl, sym, ap, ◌∙◌, true≢false, if◌then◌else◌, Contains, subst, slice_get, Some, get_or, arith, length-append}
+use Rattle.std.proofs.Common.{◌≡◌, ℕ, ◌+◌, ◌<◌, ◌≤◌, ◌^◌, map, take, Bool, true, false, List, [], ◌∷◌, ◌++◌, length, refl, sym, ap, ◌∙◌, true≢false, if◌then◌else◌, Contains, subst, slice_get, Some, get_or, arith, length-append}
 use Rattle.std.specs.List.{list_any, position}
+use Rattle.std.proofs.lemmas.Grind.{common_steps}
+use Rattle.std.proofs.lemmas.List.{length-map, map-append}
 use Rattle.std.proofs.lemmas.List.Quantifiers.{position-Some}
 use Rattle.std.proofs.lemmas.Option.{slice_get-get_or}
 use Rattle.std.proofs.lemmas.Map.Views.{list_any-from_Contains}
@@ -10,9 +12,13 @@ use Rattle.formula.specs.declared.node.Node.{Node}
 use Rattle.formula.specs.declared.node.TermId.{TermId}
 use Rattle.formula.specs.contracts.node.NodePartialEq.TheImpl.{ghosts as node_ghosts}
 use Rattle.formula.specs.contracts.node.NodeEq.TheImpl.Laws.{laws-law}
-use Rattle.formula.specs.Pool.{HasArguments, IsPool, IsSound, Grows, trees, tree_in, tree_of}
+use Rattle.formula.specs.declared.facts.Facts.{Facts}
+use Rattle.formula.specs.Facts.{depth, facts_in, facts_of}
+use Rattle.formula.specs.Kept.{IsKept}
+use Rattle.formula.specs.Pool.{HasArguments, HasArgumentsBelow, IsPool, Grows, trees, tree_in, tree_of}
 use Rattle.formula.proofs.Same.{same_node}
-use Rattle.formula.proofs.Growth.{IsPool-append, tree_at-trees, tree_in-append}
+use Rattle.formula.proofs.FactsTold.{depth_at, facts_of_node, node_depth}
+use Rattle.formula.proofs.Growth.{IsPool-append, arguments_below, grown-append, length-trees, tree_at-trees, tree_in-append}
 use Rattle.formula.proofs.Grown.{trees-Grows}
 
 -- ---- a node that is looked up
@@ -43,11 +49,44 @@ behind nodes after node unknown e = by_test nodes after node (list_any (node_gho
 pub Grows-behind : (nodes after : List Node) (node : Node) → after ≡ nodes ++ node ∷ [] → Grows nodes after
 Grows-behind nodes after node e = record { added = node ∷ []; is = e }
 
-pub IsSound-behind : (nodes after : List Node) (node : Node) → after ≡ nodes ++ node ∷ [] → length nodes + 1 < 2 ^ 32 → IsSound nodes → HasArguments (trees nodes) node → IsSound after
-IsSound-behind nodes after node e short ok h = record {
+pub trees-behind : (nodes after : List Node) (node : Node) → after ≡ nodes ++ node ∷ [] → trees after ≡ trees nodes ++ tree_in (trees nodes) node ∷ []
+trees-behind nodes after node e = ap trees e ∙ grown-append [] nodes (node ∷ [])
+
+-- the facts of the terms before a node tell those of its own
+pub facts-before : (nodes : List Node) (facts : List Facts) (node : Node) → IsKept nodes facts → HasArguments (trees nodes) node → facts_in facts node ≡ facts_of (tree_in (trees nodes) node)
+facts-before nodes facts node ok h = ap (λ fs. facts_in fs node) ok.told ∙ facts_of_node (trees nodes) node h
+
+pub below-before : (nodes : List Node) (facts : List Facts) (node : Node) → IsKept nodes facts → HasArguments (trees nodes) node → HasArgumentsBelow (length facts) node
+below-before nodes facts node ok h =
+    let count : length facts ≡ length (trees nodes) = ap length ok.told ∙ length-map (trees nodes) facts_of in
+    subst (λ n. HasArgumentsBelow n node) (sym count) (arguments_below (trees nodes) node h)
+
+-- and a pool that is not full has room for its depth
+pub shallow-before : (nodes : List Node) (facts : List Facts) (node : Node) → IsKept nodes facts → HasArguments (trees nodes) node → length nodes + 1 < 2 ^ 32 → (facts_in facts node).depth < 2 ^ 32
+shallow-before nodes facts node ok h short =
+    let count : length (trees nodes) ≡ length nodes = length-trees nodes in
+    let below = subst (λ n. HasArgumentsBelow n node) count (arguments_below (trees nodes) node h) in
+    let deep : depth (tree_in (trees nodes) node) ≤ length nodes + 1 = node_depth (trees nodes) (length nodes) node below (λ j before. depth_at nodes j ok.pool before) in
+    let same : (facts_in facts node).depth ≡ depth (tree_in (trees nodes) node) = ap (λ f. f.depth) (facts-before nodes facts node ok h) in
+    omega arith
+
+pub IsKept-behind : (nodes after : List Node) (facts more : List Facts) (node : Node) → after ≡ nodes ++ node ∷ [] → more ≡ facts ++ facts_in facts node ∷ []
+    → length nodes + 1 < 2 ^ 32 → IsKept nodes facts → HasArguments (trees nodes) node → IsKept after more
+IsKept-behind nodes after facts more node e told short ok h = record {
   pool = subst (IsPool []) (sym e) (IsPool-append [] nodes node ok.pool h);
   small = let long : length after ≡ length (nodes ++ node ∷ []) = ap length e in omega (arith, simp length-append at long);
+  told =
+      told ∙ (λ i. ok.told i ++ facts-before nodes facts node ok h i ∷ []) ∙ sym (map-append facts_of (trees nodes) (tree_in (trees nodes) node ∷ []))
+      ∙ ap (map facts_of) (sym (trees-behind nodes after node e));
 }
+
+-- a node that found no room leaves no facts
+pub IsKept-back : (nodes same : List Node) (facts more cut : List Facts) (f : Facts) → same ≡ nodes → more ≡ facts ++ f ∷ [] → cut ≡ take (length nodes) more → IsKept nodes facts → IsKept same cut
+IsKept-back nodes same facts more cut f is longer back ok =
+    let count : length nodes ≡ length facts = sym (ap length ok.told ∙ length-map (trees nodes) facts_of ∙ length-trees nodes) in
+    let whole : take (length facts) (facts ++ f ∷ []) ≡ facts = grind (arith, common_steps) in
+    let cut_is : cut ≡ facts = back ∙ (λ i. take (count i) (longer i)) ∙ whole in
+    subst (λ ns. IsKept ns cut) (sym is) (subst (λ fs. IsKept nodes fs) (sym cut_is) ok)
 
 last-there : (nodes : List Node) (node : Node) → slice_get (nodes ++ node ∷ []) (length nodes) ≡ Some node
 last-there [] node = refl

@@ -4,7 +4,6 @@ use Rattle.std.specs.Ordering.{int_eq}
 use Rattle.formula.specs.declared.definition.Heading.{Heading}
 use Rattle.formula.specs.declared.function.Func.{Func}
 use Rattle.formula.specs.declared.function.Func.TheVariants.{BuiltIn, Defined}
-use Rattle.formula.specs.declared.node.TermId.{TermId}
 use Rattle.formula.specs.declared.adding.BodyResults.{BodyResults}
 use Rattle.formula.specs.declared.passing.TestResults.{TestResults}
 use Rattle.formula.specs.Adding.{body_passes, is_known_use, is_other, counts_down, recurs_well, has_names_of}
@@ -75,10 +74,10 @@ module _ (earlier : List Heading) (name : List ℕ) (params : List (List ℕ)) w
   top_results (old s) = names_are_own false
   top_results (apply f row) = function_results f row
 
-  -- of some nodes, each with what stands below aside
-  abbrev pub results_of : List Tree → List TermId → TestResults
+  -- of the nodes at some places, each with what stands below aside
+  abbrev pub results_of : List Tree → List ℕ → TestResults
   results_of ts [] = all_pass
-  results_of ts (id ∷ rest) = both (top_results (tree_at ts id.place)) (results_of ts rest)
+  results_of ts (place ∷ rest) = both (top_results (tree_at ts place)) (results_of ts rest)
 
 -- ---- a word less 1
 

@@ -1,5 +1,5 @@
 -- What the nodes of a pool stand for.
-use Rattle.std.specs.Prelude.{ℕ, ◌<◌, ◌^◌, ◌≡◌, false, List, [], ◌∷◌, ◌++◌, length, slice_index_or, IsTrue}
+use Rattle.std.specs.Prelude.{ℕ, ◌<◌, ◌≡◌, false, List, [], ◌∷◌, ◌++◌, length, slice_index_or, IsTrue}
 use Rattle.formula.specs.declared.node.Node.{Node}
 use Rattle.formula.specs.declared.node.Node.TheVariants.{Num, Truth, Symbol, Old, Apply}
 use Rattle.formula.specs.declared.node.TermId.{TermId}
@@ -25,6 +25,17 @@ tree_in done (Truth b) = truth b
 tree_in done (Symbol s) = symbol s
 tree_in done (Old s) = old s
 tree_in done (Apply f args) = apply f (row_in done args)
+
+abbrev pub arguments_of : Node → List TermId
+arguments_of (Num z) = []
+arguments_of (Truth b) = []
+arguments_of (Symbol s) = []
+arguments_of (Old s) = []
+arguments_of (Apply f args) = args
+
+-- the arguments of an id's node
+abbrev pub arguments_at : List Node → TermId → List TermId
+arguments_at pool id = arguments_of (slice_index_or pool id.place (Truth false))
 
 -- a node's arguments are among these trees, and its function takes them
 abbrev pub HasArguments : List Tree → Node → Type 0
@@ -54,11 +65,6 @@ trees = grown []
 abbrev pub IsPool : List Tree → List Node → Type 0
 IsPool done [] = Unit {0}
 IsPool done (node ∷ rest) = HasArguments done node × IsPool (done ++ tree_in done node ∷ []) rest
-
--- and there are fewer than 2^32 of them, so that a place has 32 bits
-pub record IsSound (nodes : List Node) : Type 0 where
-  pub pool : IsPool [] nodes
-  pub small : length nodes < 2 ^ 32
 
 -- the tree that an id stands for
 abbrev pub tree_of : List Node → TermId → Tree

@@ -34,7 +34,15 @@ impl<'a> Candidate<'a> {
         ensures twin { IfOk result (λ r. r.1 ≡ has_twin params.now) }
     {
         let (table, twin) = table_of(alloc, keys, params)?;
-        Ok((Candidate { earlier, name, params, table }, twin))
+        Ok((
+            Candidate {
+                earlier,
+                name,
+                params,
+                table,
+            },
+            twin,
+        ))
     }
 
     /// The number of the definition.

@@ -8,7 +8,8 @@ ghost use Rattle.formula.specs.Tree.{Tree, apply};
 ghost use Rattle.std.specs.Prelude.{◌++◌, [], ◌∷◌};
 
 use crate::candidate::Candidate;
-use crate::{BuiltIn, Func, Node, TermId, TermPool, Word, order};
+use crate::reach::reached;
+use crate::{BuiltIn, Func, Node, TermId, TermPool, Word};
 use edge_io::NoMemory;
 use std::alloc::Global;
 
@@ -132,12 +133,7 @@ fn is_right_count(candidate: &Candidate<'_>, k: usize, count: usize) -> bool
 
 #[tactic(auto, using(crate::proofs::Passes::known_use))]
 /// What the tests say of a use of the definition of number k.
-fn use_results(
-    pool: &TermPool,
-    candidate: &Candidate<'_>,
-    k: usize,
-    args: &[TermId],
-) -> TestResults
+fn use_results(pool: &TermPool, candidate: &Candidate<'_>, k: usize, args: &[TermId]) -> TestResults
     requires { AllBelow (length pool.now) args.now }
     ensures { result ≡ use_results candidate.now.earlier.now candidate.now.name candidate.now.params.now k (row_in (trees pool.now) args.now) }
 {
@@ -191,10 +187,11 @@ pub fn term_results(
     requires { IsIn pool.now id }
     ensures { IfOk result (λ r. r ≡ term_results candidate.now.earlier.now candidate.now.name candidate.now.params.now (tree_of pool.now id)) }
 {
-    let ids = order(alloc, pool, id)?;
+    let places = reached(alloc, pool, id)?;
     let mut results = names_are_own(true);
-    for here in &ids {
-        results = both(results, top_results(pool, candidate, *here));
+    for place in places.as_slice() {
+        let here = TermId { place: *place };
+        results = both(results, top_results(pool, candidate, here));
     }
     Ok(results)
 }

@@ -1,8 +1,10 @@
 // The terms of a run.
 ghost use Rattle.std.specs.Prelude.{◌≡◌, ◌<◌, ◌^◌, [], ◌∷◌, ◌++◌, length, slice_get, Some, IsOk, IfOk, OnOk, OnErr, IsSome, IfSome, IfNone, IsTrue, Contains};
-ghost use Rattle.formula.specs.Pool.{AllBelow, HasArguments, HasArgumentsBelow, HasOneIdEach, Grows, IsIn, trees, tree_in, tree_of, row_in};
+ghost use Rattle.formula.specs.Facts as told;
+ghost use Rattle.formula.specs.Pool.{AllBelow, IsPool, arguments_at, HasArguments, HasArgumentsBelow, HasOneIdEach, Grows, IsIn, trees, tree_in, tree_of, row_in};
 ghost use Rattle.formula.specs.Tree.{num, truth, symbol, old, apply, none, more, takes};
 
+use crate::facts::{Facts, note};
 use crate::{Args, BuiltIn, Func, Node, TermId, Word};
 use edge_io::{Keys, NoMemory};
 use indexmap::IndexSet;
@@ -14,19 +16,20 @@ use std::marker::Model;
 #[derive(Drop)]
 pub struct TermPool {
     nodes: IndexSet<Node, Keys>,
+    facts: Vec<Facts>,
     alloc: Global,
 }
 
 impl Model for TermPool {
     ghost use Rattle.std.specs.Prelude.{List};
     ghost use Rattle.formula.specs.declared.node.Node.{Node};
-    ghost use Rattle.formula.specs.Pool.{IsSound};
+    ghost use Rattle.formula.specs.Kept.{IsKept};
 
     ghost Value = { List Node };
 
     ghost view = { λ p. p.nodes.keys };
 
-    ghost invariant = { λ p. IsSound p.nodes.keys };
+    ghost invariant = { λ p. IsKept p.nodes.keys p.facts.items };
 }
 
 impl TermPool {
@@ -36,6 +39,7 @@ impl TermPool {
     {
         TermPool {
             nodes: IndexSet::with_hasher(alloc, keys),
+            facts: Vec::new(alloc),
             alloc,
         }
     }
@@ -44,6 +48,7 @@ impl TermPool {
     pub fn count(&self) -> usize
         ensures count { result ≡ length self.now }
         ensures small { result < 2 ^ 32 }
+        ensures pool { IsPool [] self.now }
         ensures one_id_each { HasOneIdEach self.now }
     {
         self.nodes.len()
@@ -102,7 +107,11 @@ impl TermPool {
         if count >= u32::MAX as usize {
             return Err(NoMemory);
         }
+        let Ok(()) = note(&mut self.facts, &node) else {
+            return Err(NoMemory);
+        };
         let Ok(_) = self.nodes.insert_full(node) else {
+            self.facts.truncate(count);
             return Err(NoMemory);
         };
         Ok(TermId {
@@ -122,6 +131,59 @@ impl TermPool {
             Some(node) => node,
             None => unreachable!(),
         }
+    }
+
+    /// The arguments of an id's node.
+    pub fn arguments(&self, id: TermId) -> &[TermId]
+        requires { IsIn self.now id }
+        ensures value { result.now ≡ arguments_at self.now id }
+        ensures below { AllBelow id.place result.now }
+    {
+        match self.node(id) {
+            Node::Apply(_, args) => args.as_slice(),
+            _ => &[],
+        }
+    }
+
+    /// Whether a symbol, or the entry value of one, stands in a term.
+    pub fn has_symbol(&self, id: TermId) -> bool
+        requires { IsIn self.now id }
+        ensures { result ≡ told.has_symbol (tree_of self.now id) }
+    {
+        self.facts_of(id).has_symbol
+    }
+
+    /// Whether a definition is used in a term.
+    pub fn uses_definition(&self, id: TermId) -> bool
+        requires { IsIn self.now id }
+        ensures { result ≡ told.uses_definition (tree_of self.now id) }
+    {
+        self.facts_of(id).uses_definition
+    }
+
+    /// The most functions that stand one in another in a term.
+    pub fn depth(&self, id: TermId) -> u32
+        requires { IsIn self.now id }
+        ensures { result ≡ told.depth (tree_of self.now id) }
+    {
+        self.facts_of(id).depth
+    }
+
+    /// The number of a term's numbers, truth values, symbols, entry values and functions, where that
+    /// is below 2^32, and else 2^32 - 1. What stands in it twice counts twice.
+    pub fn size(&self, id: TermId) -> u32
+        requires { IsIn self.now id }
+        ensures { result ≡ told.capped (told.tree_size (tree_of self.now id)) }
+    {
+        self.facts_of(id).size
+    }
+
+    /// What is kept of a term.
+    fn facts_of(&self, id: TermId) -> Facts
+        requires { IsIn self.now id }
+        ensures { result ≡ told.facts_of (tree_of self.now id) }
+    {
+        self.facts[id.index()]
     }
 
     /// The term of a number.

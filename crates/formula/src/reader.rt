@@ -94,7 +94,16 @@ pub fn read_term(
     let mut at = 0;
     while let Some(lexeme) = next_token(text, at) {
         at = lexeme.after;
-        match token_read(alloc, pool, headings, next, limit, &mut open, due, lexeme.token)? {
+        match token_read(
+            alloc,
+            pool,
+            headings,
+            next,
+            limit,
+            &mut open,
+            due,
+            lexeme.token,
+        )? {
             Turn::Whole(id) => return Ok((id, at)),
             Turn::Going(then) => due = then,
         }

@@ -1,10 +1,12 @@
 // Terms put for the symbols of a term, and for their entry values, all at once.
-ghost use Rattle.std.specs.Prelude.{◌≡◌, ◌∷◌, [], ◌++◌, ◌+◌, length, IfOk, OnOk, true};
+ghost use Rattle.std.specs.Prelude.{◌≡◌, ◌++◌, ◌∷◌, [], List, ℕ, length, if◌then◌else◌, IfOk, OnOk};
+ghost use Rattle.formula.specs.declared.node.Node.{Node};
 ghost use Rattle.formula.specs.Pool.{AllBelow, Grows, IsIn, tree_of};
-ghost use Rattle.formula.specs.Substitution.{AreIn, HasImages, IsClosedFrom, arguments_of, binding_of, ids_at, is_marked, marked, under};
+ghost use Rattle.formula.specs.Substitution.{AreIn, binding_of, term_named, under, under_names};
 
-use crate::{Args, Node, TermId, TermPool, Word};
-use edge_io::NoMemory;
+use crate::replacement::{Replacement, Table, replaced};
+use crate::{NameTable, TermId, TermPool, Word};
+use edge_io::{Keys, NoMemory};
 use std::alloc::Global;
 
 /// A symbol, or its entry value, and the term that is put for it.
@@ -15,7 +17,8 @@ pub struct Binding {
 }
 
 /// The term with the bound terms put for its symbols and for their entry values, all at once. Of
-/// two bindings of a name the first counts, and what has none stays.
+/// two bindings of a name the first counts, and what has none stays. It takes time in the number of
+/// nodes that the term is made of, and of the bindings, whatever the pool has beside them.
 pub fn substitute(
     alloc: Global,
     pool: &mut TermPool,
@@ -30,126 +33,86 @@ pub fn substitute(
     ensures tree { IfOk result (λ r. tree_of pool.new r ≡ under pool.old symbols.now entries.now (tree_of pool.old id)) }
     ensures grows { Grows pool.old pool.new }
 {
-    let marks = reached(alloc, pool, id)?;
-    let mut images = Vec::new(alloc);
-    for place in 0..marks.len() {
-        prove!(place < pool.count());
-        let here = TermId {
-            place: place as u32,
-        };
-        if marks[place] {
-            let answer = image(alloc, pool, symbols, entries, images.as_slice(), here)?;
-            pushed(&mut images, answer)?;
-        } else {
-            pushed(&mut images, here)?;
-        }
-    }
-    Ok(images[id.index()])
-}
-
-/// Puts an id at the end.
-fn pushed(ids: &mut Vec<TermId>, id: TermId) -> Result<(), NoMemory>
-    ensures { OnOk result (ids.new.items ≡ ids.old.items ++ id ∷ []) }
-{
-    if ids.push(id).is_err() {
-        return Err(NoMemory);
-    }
-    Ok(())
-}
-
-/// Marks of the places up to that of the id, where those of its term's nodes are set.
-fn reached(alloc: Global, pool: &TermPool, id: TermId) -> Result<Vec<bool>, NoMemory>
-    requires { IsIn pool.now id }
-    ensures count { IfOk result (λ m. length m.items ≡ id.place + 1) }
-    ensures top { IfOk result (λ m. is_marked m.items id.place ≡ true) }
-    ensures closed { IfOk result (λ m. IsClosedFrom 0 pool.now m.items) }
-{
-    prove!(id.index() < pool.count());
-    let Ok(mut marks) = vec![in alloc; false; id.index() + 1] else {
-        return Err(NoMemory);
+    let symbols = table_of(alloc, pool.keys(), symbols)?;
+    let entries = table_of(alloc, pool.keys(), entries)?;
+    let by = Replacement {
+        symbols: Table {
+            names: &symbols.names,
+            terms: symbols.terms.as_slice(),
+            bounds_stay: false,
+        },
+        entries: Table {
+            names: &entries.names,
+            terms: entries.terms.as_slice(),
+            bounds_stay: false,
+        },
     };
-    marks[id.index()] = true;
-    let mut left = id.index() + 1;
-    while left > 0 {
-        left -= 1;
-        if marks[left] {
-            let node = pool.node(TermId { place: left as u32 });
-            mark(&mut marks, arguments(node));
-        }
-    }
-    Ok(marks)
+    replaced(alloc, pool, &by, id)
 }
 
-/// A node's arguments.
-fn arguments(node: &Node) -> &[TermId]
-    ensures { result.now ≡ arguments_of node.now }
-{
-    match node {
-        Node::Apply(_, args) => args.as_slice(),
-        _ => &[],
-    }
-}
-
-/// Marks some places.
-fn mark(marks: &mut Vec<bool>, ids: &[TermId])
-    requires { AllBelow (length marks.old.items) ids.now }
-    ensures { marks.new.items ≡ marked marks.old.items ids.now }
-{
-    for id in ids {
-        marks[id.index()] = true;
-    }
-}
-
-/// What becomes of a term, where it is known what becomes of its arguments.
-fn image(
+/// The term with the present terms of names put for its symbols, and their entry terms for its entry
+/// values, all at once: the terms at the places that the names have in the table. LEAST and GREATEST
+/// stay symbols, whatever the table names, and so does a name that the table lacks. It takes time in
+/// the number of nodes that the term is made of, whatever the pool has beside them.
+pub fn substitute_names(
     alloc: Global,
     pool: &mut TermPool,
-    symbols: &[Binding],
-    entries: &[Binding],
-    images: &[TermId],
+    names: &NameTable,
+    now: &[TermId],
+    entry: &[TermId],
     id: TermId,
 ) -> Result<TermId, NoMemory>
-    requires symbols { AreIn pool.old symbols.now }
-    requires entries { AreIn pool.old entries.now }
+    requires now { AllBelow (length pool.old) now.now }
+    requires entry { AllBelow (length pool.old) entry.now }
     requires id { IsIn pool.old id }
-    requires count { length images.now ≡ id.place }
-    requires images { HasImages pool.old (under pool.old symbols.now entries.now) images.now id.place }
     ensures is_in { IfOk result (λ r. IsIn pool.new r) }
-    ensures tree { IfOk result (λ r. tree_of pool.new r ≡ under pool.old symbols.now entries.now (tree_of pool.old id)) }
+    ensures tree { IfOk result (λ r. tree_of pool.new r ≡ under_names pool.old names.now now.now entry.now (tree_of pool.old id)) }
     ensures grows { Grows pool.old pool.new }
 {
-    match pool.node(id) {
-        Node::Num(_) | Node::Truth(_) => Ok(id),
-        Node::Symbol(name) => Ok(bound_term(symbols, *name).unwrap_or(id)),
-        Node::Old(name) => Ok(bound_term(entries, *name).unwrap_or(id)),
-        Node::Apply(f, args) => {
-            let function = *f;
-            let changed = picked(alloc, images, args.as_slice())?;
-            pool.apply(function, changed)
-        }
-    }
+    let by = Replacement {
+        symbols: Table {
+            names,
+            terms: now,
+            bounds_stay: true,
+        },
+        entries: Table {
+            names,
+            terms: entry,
+            bounds_stay: false,
+        },
+    };
+    replaced(alloc, pool, &by, id)
 }
 
-/// The first binding of a name.
-fn bound_term(bindings: &[Binding], name: Word) -> Option<TermId>
-    ensures { result ≡ binding_of bindings.now name }
+/// The names of bindings, each once, and their terms.
+#[derive(Drop)]
+struct Listed {
+    names: NameTable,
+    terms: Vec<TermId>,
+}
+
+/// The names of some bindings with the terms of their first bindings.
+fn table_of(alloc: Global, keys: Keys, bindings: &[Binding]) -> Result<Listed, NoMemory>
+    ensures terms { IfOk result (λ l. (name : List ℕ) → term_named l.names l.terms.items name ≡ binding_of bindings.now name) }
+    ensures below { IfOk result (λ l. (pool : List Node) → AreIn pool bindings.now → AllBelow (length pool) l.terms.items) }
 {
+    let mut names = NameTable::new(alloc, keys);
+    let mut terms = Vec::new(alloc);
     for b in bindings {
-        if b.name == name {
-            return Some(b.term);
-        }
+        let new = names.add(b.name)?;
+        put_new(&mut terms, new, b.term)?;
     }
-    None
+    Ok(Listed { names, terms })
 }
 
-/// The images at some places.
-fn picked(alloc: Global, images: &[TermId], ids: &[TermId]) -> Result<Args, NoMemory>
-    requires { AllBelow (length images.now) ids.now }
-    ensures { IfOk result (λ l. l ≡ ids_at images.now ids.now) }
+/// Puts the term of a name at the end, where the name is new.
+fn put_new(terms: &mut Vec<TermId>, new: bool, term: TermId) -> Result<(), NoMemory>
+    ensures { OnOk result (terms.new.items ≡ (if new then terms.old.items ++ term ∷ [] else terms.old.items)) }
 {
-    let mut items = Args::empty();
-    for id in ids {
-        items.push(alloc, images[id.index()])?;
+    if new {
+        let Ok(()) = terms.push(term) else {
+            return Err(NoMemory);
+        };
     }
-    Ok(items)
+    Ok(())
 }

@@ -158,20 +158,19 @@ closed_behind line lines depth (inl opens) fact all = subst (λ q. BlockFact q d
 closed_behind line lines depth (inr branches) fact all =
     subst (λ q. stays_open (level_behind q 1) lines ≡ false) branches (shift line lines 1 (omega arith) (all 1 (omega arith) (subst (λ q. BlockFact q depth lines) branches fact)))
 
-fork_closed : (before : List Line) (card : ℕ) (lines : List Line) (k : ℕ) (line : Line) → are_in_order before card lines ≡ true → AllClose (length (blocks_open [] before)) lines
+fork_closed : (before : List Line) (lines : List Line) (k : ℕ) (line : Line) → are_in_order before lines ≡ true → AllClose (length (blocks_open [] before)) lines
     → slice_get lines k ≡ Some line → IsFork line.stmt → stays_open 1 (drop (suc k) lines) ≡ false
-fork_closed before card [] k line ordered all e fork = absurd (cc)
-fork_closed before card (x ∷ xs) k line ordered all e fork = by_place k e (λ j q. fork_closed (before ++ x ∷ []) x.card xs j line behind.1 further q fork)
+fork_closed before [] k line ordered all e fork = absurd (cc)
+fork_closed before (x ∷ xs) k line ordered all e fork = by_place k e (λ j q. fork_closed (before ++ x ∷ []) xs j line behind.1 further q fork)
   where
-    behind : ((not (is_bad_block before x.stmt xs) && not (has_label x.label before) && nat_lt card x.card) ≡ true) × (are_in_order (before ++ x ∷ []) x.card xs ≡ true)
-    behind = split (not (is_bad_block before x.stmt xs) && not (has_label x.label before) && nat_lt card x.card) (are_in_order (before ++ x ∷ []) x.card xs) ordered
+    behind : ((not (is_bad_block before x.stmt xs) && not (has_label x.label before)) ≡ true) × (are_in_order (before ++ x ∷ []) xs ≡ true)
+    behind = split (not (is_bad_block before x.stmt xs) && not (has_label x.label before)) (are_in_order (before ++ x ∷ []) xs) ordered
 
     fact : BlockFact (part_of x.stmt) (length (blocks_open [] before)) xs
     fact =
         block_fact before x.stmt xs
         (not_so (is_bad_block before x.stmt xs)
-        (split (not (is_bad_block before x.stmt xs)) (not (has_label x.label before))
-        (split (not (is_bad_block before x.stmt xs) && not (has_label x.label before)) (nat_lt card x.card) behind.0).0).0)
+        (split (not (is_bad_block before x.stmt xs)) (not (has_label x.label before)) behind.0).0)
 
     further : AllClose (length (blocks_open [] (before ++ x ∷ []))) xs
     further =
@@ -193,6 +192,6 @@ drop_at (suc k) (x ∷ xs) m = let e : suc (k + m) ≡ suc k + m = omega arith i
 pub fork_ends : (dialect : Dialect) (u : Routine) → IsWellFormedUnit dialect u → (sought : Part → ℕ → Bool) → sought Closes 0 ≡ true → (pc : ℕ) (line : Line) → slice_get u.lines pc ≡ Some line → IsFork line.stmt
     → IsAt u.lines (suc pc + lines_before sought (drop (suc pc) u.lines) 0)
 fork_ends dialect u w sought stops pc line e fork =
-    let closed = fork_closed [] 0 u.lines pc line w.order (λ n low high. absurd (omega (arith, low, high))) e fork in
+    let closed = fork_closed [] u.lines pc line w.order (λ n low high. absurd (omega (arith, low, high))) e fork in
     let found = found_close sought stops (drop (suc pc) u.lines) 1 0 (omega arith) closed in
     (found.0, sym (drop_at (suc pc) u.lines (lines_before sought (drop (suc pc) u.lines) 0)) ∙ found.1)

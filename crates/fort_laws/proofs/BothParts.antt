@@ -1,6 +1,9 @@
 -- The parts of expressions and statements, in two senses between which things correspond.
 use Rattle.std.proofs.Common.{◌≡◌, ℕ, zero, suc, Bool, true, false, cond, List, [], ◌∷◌, ◌++◌, map, length, Option, Some, None, slice_get, refl, ap, ◌∙◌, subst}
 use Rattle.std.specs.Prelude.{nat_lt, ◌==◌, pred}
+use Rattle.fort_syntax.specs.TreePatterns.{only, carried, row_of}
+use Rattle.fort_syntax.specs.Names.{Intrinsic, Absolute, Modulo, Greatest, Least, Applied, Element, BuiltIn, Reference, applied, function, subroutine, unit_at, is_function, data_name, dims_of, has_common}
+use Rattle.formula.specs.Atoms.{same_bytes, is_among}
 use mathlib.Core.Former.{Count}
 use Rattle.formula.specs.declared.function.BuiltIn.{BuiltIn as Builtin}
 use Rattle.formula.specs.declared.function.BuiltIn.TheVariants as f
@@ -26,15 +29,13 @@ use Rattle.fort_syntax.specs.declared.stmt.Stmt.{Stmt}
 use Rattle.fort_syntax.specs.declared.stmt.Stmt.TheVariants.{Subroutine, Function, Declare, Dimension, Common as CommonBlock, Assign, GoTo, Computed as ComputedGoTo, ArithIf, LogicalIf', Do, Continue, Call, Return, End, BlockIf, ElseIf, Else, EndIf}
 use Rattle.fort_syntax.specs.declared.unit.DataName.{DataName}
 use Rattle.fort_syntax.specs.declared.unit.Unit.{Unit as Routine}
-use Rattle.fort_model.specs.Trees.{only, carried, row_of}
-use Rattle.fort_model.specs.Names.{Intrinsic, Absolute, Modulo, Greatest, Least, Applied, Element, BuiltIn, Reference, applied, function, subroutine, unit_at, is_function, same_name, data_name, dims_of}
 use Rattle.fort_model.specs.Flow.{target, Loop, loops_at, loops_around}
 use Rattle.fort_model.specs.Perform.{card_in}
-use Rattle.fort_model.specs.Program.{Program, notes_of, is_smashed, has_common, is_among}
+use Rattle.fort_model.specs.Program.{Program, notes_of, is_smashed}
 use Rattle.fort_model.specs.Senses.{Sense, natural, make2, undefined, is_defined, negated, lies_from_to, greatest_integer}
 use Rattle.fort_model.specs.Events.{Check}
 use Rattle.fort_model.specs.Seen.{Named, See, ◌>>◌, see}
-use Rattle.fort_model.specs.WalkPlaces.{fixed_size, dim, stretch_from, stretch, size_or, size, place_from, place, subscripts_fit, cell_sort, cells_sort, sort_by, sort_in, blank_by, blank, sorts}
+use Rattle.fort_model.specs.WalkPlaces.{size_if_fixed, dim, stretch_from, stretch, size_or, size, place_from, place, subscripts_fit, cell_sort, cells_sort, sort_by, sort_in, blank_by, blank, sorts}
 use Rattle.fort_model.specs.WalkCalls.{Sight, Operand, Bare, Part, Computed, stands_for, with_actuals, seen_by, smashed_actuals, smashed_commons, hits, changed, stands_after, result_facts, notes_told, call_unit, call_in, call}
 use Rattle.fort_model.specs.WalkExpr.{checked, read, read_operand, valued, computed, ranged, constant, divisor, operate, power_from, relation, folded, intrinsic_value, place_checked, apply, operand, values, operands, value}
 use Rattle.fort_model.specs.WalkStmt.{with_name, taken, assign, parameter, step_value, left_with, tests, behind, passed_over, entered, begin, counts_label, select, selected, choice_check, sign_fact, truth_fact, result, performed}
@@ -66,7 +67,7 @@ module _ {V W : Type 0} (R : V → W → Type 0) (s : Sense V) (t : Sense W) (c 
     size_or_alike (Some n) v w k = natural_alike R s t c n
 
     size_alike : (ds : List Dim) → R (size s now ds) (size t now' ds)
-    size_alike ds = size_or_alike (fixed_size ds) _ _ (stretch_alike ds)
+    size_alike ds = size_or_alike (size_if_fixed ds) _ _ (stretch_alike ds)
 
     place_from_alike : (is : List V) (js : List W) (ds : List Dim) (p q : V) (p' q' : W) → R p p' → R q q' → Pairwise R is js
         → R (place_from s now p q is ds) (place_from t now' p' q' js ds)
@@ -251,12 +252,12 @@ module _ {V W : Type 0} (R : V → W → Type 0) (s : Sense V) (t : Sense W) (c 
     actuals_alike (d ∷ ds) [] [] o o' k l x = l x
     actuals_alike (d ∷ ds) [] (w ∷ ws) o o' k l x = absurd k
     actuals_alike (d ∷ ds) (v ∷ vs) [] o o' k l x = absurd k
-    actuals_alike (d ∷ ds) (v ∷ vs) (w ∷ ws) o o' k l x = pick_alike R (same_name d x) _ _ _ _ k.0 (actuals_alike ds vs ws o o' k.1 l x)
+    actuals_alike (d ∷ ds) (v ∷ vs) (w ∷ ws) o o' k l x = pick_alike R (same_bytes d x) _ _ _ _ k.0 (actuals_alike ds vs ws o o' k.1 l x)
 
     seen_alike : (g : Routine) (vs : List V) (ws : List W) (now : Named V) (now' : Named W) (v : V) (w : W) → Pairwise R vs ws → NamesAlike R now now' → R v w
         → NamesAlike R (seen_by one g vs now v) (seen_by two g ws now' w)
     seen_alike g vs ws now now' v w k l m =
-        actuals_alike g.dummies vs ws _ _ k (λ x. pick_alike R (same_name g.name x) _ _ _ _ m (pick_alike R (has_common g x) _ _ _ _ (l x) undefined_alike))
+        actuals_alike g.dummies vs ws _ _ k (λ x. pick_alike R (same_bytes g.name x) _ _ _ _ m (pick_alike R (has_common g x) _ _ _ _ (l x) undefined_alike))
 
     stands_alike : (xs : List (Operand V)) (ys : List (Operand W)) → Pairwise OperandAlike xs ys → Pairwise R (map stands_for xs) (map stands_for ys)
     stands_alike [] [] k = tt
@@ -313,7 +314,7 @@ module _ {V W : Type 0} (R : V → W → Type 0) (s : Sense V) (t : Sense W) (c 
     smashed_same smashed (d ∷ ds) (Computed v ∷ xs) (Computed w ∷ ys) k = smashed_same smashed ds xs ys k.1
 
     changed_alike : (zs : List Name) (new now : Named V) (new' now' : Named W) → NamesAlike R new new' → NamesAlike R now now' → NamesAlike R (changed one zs new now) (changed two zs new' now')
-    changed_alike zs new now new' now' k l x = pick_alike R (is_among zs x) _ _ _ _ (k x) (l x)
+    changed_alike zs new now new' now' k l x = pick_alike R (is_among x zs) _ _ _ _ (k x) (l x)
 
     result_facts_alike : (o : Option Sort) (v : V) (w : W) → R v w → Pairwise R (result_facts one o v) (result_facts two o w)
     result_facts_alike None v w k = tt
@@ -445,7 +446,7 @@ module _ {V W : Type 0} (R : V → W → Type 0) (s : Sense V) (t : Sense W) (c 
     taken_alike v w k = alike_meet R _ _ (k, tt)
 
     with_name_alike : (now : Named V) (now' : Named W) (x : Name) (v : V) (w : W) → NamesAlike R now now' → R v w → NamesAlike R (with_name now x v) (with_name now' x w)
-    with_name_alike now now' x v w k l y = pick_alike R (same_name x y) _ _ _ _ l (k y)
+    with_name_alike now now' x v w k l y = pick_alike R (same_bytes x y) _ _ _ _ l (k y)
 
     -- the answers of parts of statements are what names stand for
     abbrev Step : See V (Named V) → See W (Named W) → Type 0

@@ -1,13 +1,14 @@
 -- Whole walks along one path, in two senses between which things correspond.
 use Rattle.std.proofs.Common.{ℕ, zero, suc, false, List, [], ◌∷◌, ◌++◌, map, Option, Some, None, slice_get, refl}
+use Rattle.fort_syntax.specs.Names.{data_name, is_own, has_role, commons}
 use Rattle.formula.specs.declared.function.BuiltIn.TheVariants as f
 use Rattle.fort_syntax.specs.declared.name.Name.{Name}
 use Rattle.fort_syntax.specs.declared.condition.Kind.TheVariants.{AssertCheck, ClockCheck, OutputCheck}
 use Rattle.fort_syntax.specs.declared.unit.Line.{Line}
 use Rattle.fort_syntax.specs.declared.unit.Unit.{Unit as Routine}
 use Rattle.fort_model.specs.Flow.{leads}
-use Rattle.fort_model.specs.Names.{data_name, is_own}
-use Rattle.fort_model.specs.Program.{Program, Assertion, notes_of, is_smashed, has_role, commons}
+use Rattle.fort_notes.specs.Assertions.{Assertion}
+use Rattle.fort_model.specs.Program.{Program, notes_of, is_smashed}
 use Rattle.fort_model.specs.Senses.{Sense, note}
 use Rattle.fort_model.specs.Events.{Event, takes}
 use Rattle.fort_model.specs.Seen.{Named, Answers, symbols_of_calls}

@@ -1,5 +1,7 @@
 -- A call on a walk and in a run: what names stand for at the callee's entry and end, and in the caller afterwards.
 use Rattle.std.proofs.Common.{◌≡◌, ◌≢◌, ℕ, ◌+◌, ◌<◌, ◌≤◌, ◌⊎◌, inl, inr, Bool, true, false, cond, ◌&&◌, List, [], ◌∷◌, map, length, Option, Some, None, slice_get, refl, sym, ap, ◌∙◌, subst, arith, ext_get_or}
+use Rattle.formula.specs.Atoms.{same_bytes, is_among}
+use Rattle.fort_syntax.specs.Names.{data_name, dims_of_data, dims_of, is_function, is_own, has_common, has_role, is_in_common, commons}
 use Rattle.formula.specs.declared.value.Cell.{Cell}
 use Rattle.formula.specs.declared.value.Cell.TheVariants as cell
 use Rattle.formula.specs.declared.value.Value.{Value}
@@ -22,11 +24,10 @@ use Rattle.fort_model.specs.Correct.{held_in, names_hold}
 use Rattle.fort_model.specs.Evaluate.{Scene}
 use Rattle.fort_model.specs.Fits.{IsIn, IsVisible, Fits, has_sort}
 use Rattle.fort_model.specs.Lists.{IsAmong}
-use Rattle.fort_model.specs.Names.{same_name, data_name, dims_in, dims_of, is_function, is_own}
 use Rattle.fort_model.specs.Outcome.{Ended}
 use Rattle.fort_model.specs.Passing.{Taken, Cells}
 use Rattle.fort_model.specs.Processor.{Processor}
-use Rattle.fort_model.specs.Program.{Program, has_common, has_role, is_in_common, is_among, is_smashed, commons}
+use Rattle.fort_model.specs.Program.{Program, is_smashed}
 use Rattle.fort_model.specs.Seen.{Named}
 use Rattle.fort_model.specs.Senses.{of_values}
 use Rattle.fort_model.specs.Smashes.{Smashes, HoldsSmashed, passes, shares}
@@ -189,15 +190,15 @@ module _ (program : Program) (i j : ℕ) (c : Calls program.units i j) (of_calle
   hit_listed y (by_common h s) =
       among_right y actuals_hit commons_hit (passes_filter is_common_hit (commons c.caller) y (blocks i j c y h) (both_hold (has_common g y) (is_smashed program j y) h ((table j y).1 s)))
 
-  pub hit_among : (y : Name) → Hit y → is_among hit_names y ≡ true
-  hit_among y h = passes_any (same_name y) hit_names y (hit_listed y h) (same_self y)
+  pub hit_among : (y : Name) → Hit y → is_among y hit_names ≡ true
+  hit_among y h = passes_any (same_bytes y) hit_names y (hit_listed y h) (same_self y)
 
-  same_text : (x y : Name) → same_name x y ≡ true → x ≡ y
+  same_text : (x y : Name) → same_bytes x y ≡ true → x ≡ y
   same_text x y h = pick (same_or_not x y)
     where
       pick : SameOrNot x y → x ≡ y
       pick (same e t) = e
-      pick (other n t) = absurd (clash (same_name x y) h t)
+      pick (other n t) = absurd (clash (same_bytes x y) h t)
 
   listed_hit : (y : Name) → IsAmong y hit_names → Hit y
   listed_hit y m = pick (among_either y actuals_hit commons_hit m)
@@ -214,8 +215,8 @@ module _ (program : Program) (i j : ℕ) (c : Calls program.units i j) (of_calle
           let t = both_parts (has_common g y) (is_smashed program j y) r.1 in
           by_common t.0 ((table j y).0 t.1)
 
-  pub among_hit : (y : Name) → is_among hit_names y ≡ true → Hit y
-  among_hit y h = let r = some_passes (same_name y) hit_names h in subst Hit (sym (same_text y r.0 r.2)) (listed_hit r.0 r.1)
+  pub among_hit : (y : Name) → is_among y hit_names ≡ true → Hit y
+  among_hit y h = let r = some_passes (same_bytes y) hit_names h in subst Hit (sym (same_text y r.0 r.2)) (listed_hit r.0 r.1)
 
   -- a COMMON entity of the called unit
   common_data : (y : Name) → has_common g y ≡ true → (d : DataName) × IsAmong d g.names × (d.name ≡ y) × (d.role ≡ InCommon)
@@ -351,17 +352,17 @@ module _ (program : Program) (i j : ℕ) (c : Calls program.units i j) (of_calle
         }
 
     pub left_sorted : (d : DataName) → IsAmong d c.caller.names → HoldsName p env left d
-    left_sorted d m k lt = known (is_among hit_names d.name)
+    left_sorted d m k lt = known (is_among d.name hit_names)
         (λ t. let b = hit_back d m (among_hit d.name t) in
         let z = b.cells.size in
         ap (has_sort p d.sort) (b.cells.cells k (omega arith)) ∙ subst (λ (q : Sort). has_sort p q (load after ((cells_in b.its.name).first + k)) ≡ true) b.sort (ended_sorts b.its b.visible k (omega arith)))
-        (λ f. ap (has_sort p d.sort) ((unhit_cells d m (λ h. clash (is_among hit_names d.name) (hit_among d.name h) f)).cells k lt) ∙ sorted d m k lt)
+        (λ f. ap (has_sort p d.sort) ((unhit_cells d m (λ h. clash (is_among d.name hit_names) (hit_among d.name h) f)).cells k lt) ∙ sorted d m k lt)
 
     -- ---- values afterwards
 
     -- what is answered: the value of the called unit, and what the names hold then
     abbrev pub new_names : Named Value
-    new_names x = cond (same_name g.name x) (of_cell value) (held_in (dims_of c.caller x) left (env x))
+    new_names x = cond (same_bytes g.name x) (of_cell value) (held_in (dims_of c.caller x) left (env x))
 
     abbrev pub after_names : Named Value
     after_names = walk.changed w hit_names new_names now
@@ -370,14 +371,14 @@ module _ (program : Program) (i j : ℕ) (c : Calls program.units i j) (of_calle
     caller_one d m = caller_cell program.units i c.caller of_caller env st placed d m
 
     pub left_named : (d : DataName) → IsAmong d c.caller.names → after_names d.name ≡ held_in d.dims left (env d.name)
-    left_named d m = known (is_among hit_names d.name)
+    left_named d m = known (is_among d.name hit_names)
         (λ t. ap (λ (b : Bool). cond b (new_names d.name) (now d.name)) t
         ∙ (ap (λ (b : Bool). cond b (of_cell value) (held_in (dims_of c.caller d.name) left (env d.name))) (other_name (same_or_not g.name d.name))
-        ∙ ap (λ (o : Option DataName). held_in (dims_in o) left (env d.name)) (found program.units i c.caller of_caller d m d.name refl)))
+        ∙ ap (λ (o : Option DataName). held_in (dims_of_data o) left (env d.name)) (found program.units i c.caller of_caller d m d.name refl)))
         (λ f. ap (λ (b : Bool). cond b (new_names d.name) (now d.name)) f
-        ∙ (named d m ∙ sym (held_same d.dims d.dims left st (env d.name) (env d.name) (alike_same d.dims d.dims refl) (caller_one d m) (unhit_cells d m (λ h. clash (is_among hit_names d.name) (hit_among d.name h) f)))))
+        ∙ (named d m ∙ sym (held_same d.dims d.dims left st (env d.name) (env d.name) (alike_same d.dims d.dims refl) (caller_one d m) (unhit_cells d m (λ h. clash (is_among d.name hit_names) (hit_among d.name h) f)))))
       where
-        other_name : SameOrNot g.name d.name → same_name g.name d.name ≡ false
+        other_name : SameOrNot g.name d.name → same_bytes g.name d.name ≡ false
         other_name (same e t) = absurd (agree.apart d m (sym e))
         other_name (other n t) = t
 
@@ -386,7 +387,7 @@ module _ (program : Program) (i j : ℕ) (c : Calls program.units i j) (of_calle
     new_result = ap (λ (b : Bool). cond b (of_cell value) (held_in (dims_of c.caller g.name) left (env g.name))) (same_self g.name)
 
     unhit_name : (y : Name) → (Hit y → ⊥) → after_names y ≡ now y
-    unhit_name y n = known (is_among hit_names y) (λ t. absurd (n (among_hit y t))) (λ f. ap (λ (b : Bool). cond b (new_names y) (now y)) f)
+    unhit_name y n = known (is_among y hit_names) (λ t. absurd (n (among_hit y t))) (λ f. ap (λ (b : Bool). cond b (new_names y) (now y)) f)
 
     -- what an unsmashed visible name of the called unit holds is as at the entry
     kept_held : (d : DataName) → IsVisible g d → (Smashes program.units j d.name → ⊥) → held_in d.dims begun (cells_in d.name) ≡ held_in d.dims after (cells_in d.name)
@@ -411,7 +412,7 @@ module _ (program : Program) (i j : ℕ) (c : Calls program.units i j) (of_calle
         smashed h =
             let b = bare program.units i j c of_caller of_callee of_call env st placed copies xs fit d.name t.seat h in
             let o = bare_operand now b.name t.operand (subst (λ (z : Expr). IsOperandOf now z t.operand) b.is t.form) in
-            let dims : dims_of c.caller b.name ≡ b.has.its.dims = ap dims_in (found program.units i c.caller of_caller b.has.its b.has.among b.name b.has.name) in
+            let dims : dims_of c.caller b.name ≡ b.has.its.dims = ap dims_of_data (found program.units i c.caller of_caller b.has.its b.has.among b.name b.has.name) in
             let alike : AreAlike b.has.its.dims d.dims =
             subst (λ (ds : List Dim). AreAlike ds d.dims) dims (alike_back d.dims (dims_of c.caller b.name)
             (subst (λ (z : Expr). AreAlike d.dims (dims_of_actual c.caller z)) b.is (dims_alike g c.site.actuals d.dims (dims_of_actual c.caller t.seat.actual) t.dims))) in

@@ -1,6 +1,7 @@
 -- A called unit at its entry: its dummies have the cells of their actuals, or cells that hold the same, of the same types.
 use Rattle.std.proofs.Common.{◌≡◌, ℕ, zero, suc, ◌+◌, ◌<◌, ◌≤◌, Bool, true, false, ◌&&◌, List, [], ◌∷◌, length, Option, Some, slice_get, ◌⊎◌, inl, inr, refl, sym, ap, ◌∙◌, subst, arith}
 use Rattle.std.specs.List.{list_all}
+use Rattle.fort_syntax.specs.Names.{dims_of_data, dims_of}
 use Rattle.formula.specs.declared.value.Cell.{Cell}
 use Rattle.formula.specs.declared.value.Value.{Value}
 use Rattle.formula.specs.declared.value.Value.TheVariants.{Cells as CellList}
@@ -19,7 +20,6 @@ use Rattle.fort_model.specs.Correct.{held_in}
 use Rattle.fort_model.specs.Evaluate.{Scene}
 use Rattle.fort_model.specs.Fits.{IsVisible, HasShape, Fits, has_sort}
 use Rattle.fort_model.specs.Lists.{IsAmong}
-use Rattle.fort_model.specs.Names.{dims_in, dims_of}
 use Rattle.fort_model.specs.Passing.{Taken, Cells, Fresh, new_cells, passed_by, passed}
 use Rattle.fort_model.specs.Places.{dim_values}
 use Rattle.fort_model.specs.Processor.{Processor}
@@ -189,7 +189,7 @@ module _ (units : List Routine) (i j : ℕ) (c : Calls units i j) (of_caller : I
     -- what an operand stands for is held by what is taken for it
     pub bare_holds : (y : Name) → HasName c.caller y → now y ≡ held_in (dims_of c.caller y) st (env y)
     bare_holds y has =
-        let dims : has.its.dims ≡ dims_of c.caller y = ap dims_in (sym (found units i c.caller of_caller has.its has.among y has.name)) in
+        let dims : has.its.dims ≡ dims_of c.caller y = ap dims_of_data (sym (found units i c.caller of_caller has.its has.among y has.name)) in
         subst (λ (z : Name). now z ≡ held_in (dims_of c.caller y) st (env z)) has.name
         (subst (λ (ds : List Dim). now has.its.name ≡ held_in ds st (env has.its.name)) dims (named has.its has.among))
 

@@ -1,6 +1,7 @@
 -- The law of calls.
 use Rattle.std.proofs.Common.{◌≡◌, ℕ, zero, suc, ◌+◌, ◌<◌, ◌≤◌, Bool, true, false, ◌&&◌, inl, inr, pos, List, [], ◌∷◌, map, length, take, Option, Some, None, refl, sym, ap, ◌∙◌, subst}
 use Rattle.std.specs.List.{list_all}
+use Rattle.fort_syntax.specs.Names.{unit_at}
 use Rattle.formula.specs.declared.value.Cell.{Cell}
 use Rattle.formula.specs.declared.value.Cell.TheVariants as cell
 use Rattle.formula.specs.declared.value.Value.{Value}
@@ -20,7 +21,6 @@ use Rattle.fort_model.specs.Evaluate.{Scene}
 use Rattle.fort_model.specs.Events.{checks, takes}
 use Rattle.fort_model.specs.Fits.{IsVisible, IsApart, has_sort}
 use Rattle.fort_model.specs.Lists.{IsAmong}
-use Rattle.fort_model.specs.Names.{unit_at}
 use Rattle.fort_model.specs.Outcome.{Outcome, Ended, and_then}
 use Rattle.fort_model.specs.Passing.{Taken, passed, written_back, call}
 use Rattle.fort_model.specs.Places.{dim_values, stretch}

@@ -1,6 +1,7 @@
 -- What the names of a called unit stand for on a walk is what they hold.
 use Rattle.std.proofs.Common.{◌≡◌, ◌≢◌, ℕ, zero, suc, Bool, true, false, cond, List, [], ◌∷◌, map, Option, Some, None, slice_get, refl, sym, ap, ◌∙◌, subst}
 use Rattle.std.specs.Prelude.{codes}
+use Rattle.fort_syntax.specs.Names.{data_name, data_name_in, is_function, has_role, is_in_common, is_own_value, is_local, has_common}
 use Rattle.formula.specs.Atoms.{same_bytes}
 use Rattle.formula.specs.Tree.{Tree}
 use Rattle.formula.specs.declared.value.Cell.{Cell}
@@ -17,9 +18,8 @@ use Rattle.fort_syntax.specs.declared.unit.Unit.{Unit as Routine}
 use Rattle.fort_model.specs.Conditions.{sight}
 use Rattle.fort_model.specs.Correct.{held_in, held_by, held_as, names_hold, bounds_of}
 use Rattle.fort_model.specs.Lists.{IsAmong}
-use Rattle.fort_model.specs.Names.{same_name, data_name, data_name_in, is_function}
 use Rattle.fort_model.specs.Processor.{Processor}
-use Rattle.fort_model.specs.Program.{Program, has_role, is_in_common, is_own_value, is_local, has_common}
+use Rattle.fort_model.specs.Program.{Program}
 use Rattle.fort_model.specs.Seen.{Named}
 use Rattle.fort_model.specs.Senses.{of_values, note}
 use Rattle.fort_model.specs.Storage.{Storage, Environment}
@@ -93,7 +93,7 @@ module _ (fs : List Function) (values : Symbol → Value) (program : Program) (i
 
   -- what is no dummy
   abbrev rest : Named Value
-  rest x = cond (same_name g.name x) result (cond (has_common g x) (now x) Undefined)
+  rest x = cond (same_bytes g.name x) result (cond (has_common g x) (now x) Undefined)
 
   abbrev SeenIs : Name → Type 0
   SeenIs x = seen_by w g vs now result x ≡ names_hold g env st value x
@@ -134,16 +134,16 @@ module _ (fs : List Function) (values : Symbol → Value) (program : Program) (i
       is_common : (b : Bool) → is_in_common d.role ≡ b → has_common g d.name ≡ b
       is_common b e = ap (has_role is_in_common) is ∙ e
 
-      plain : (same_name g.name d.name ≡ false) → (b : Bool) → is_in_common d.role ≡ b → rest d.name ≡ cond b (now d.name) Undefined
+      plain : (same_bytes g.name d.name ≡ false) → (b : Bool) → is_in_common d.role ≡ b → rest d.name ≡ cond b (now d.name) Undefined
       plain t b e = ap (λ (z : Bool). cond z result (cond (has_common g d.name) (now d.name) Undefined)) t ∙ ap (λ (z : Bool). cond z (now d.name) Undefined) (is_common b e)
 
       not_dummy : (r : Role) → d.role ≡ r → (r ≡ Dummy → ⊥) → with_actuals w g.dummies vs rest d.name ≡ rest d.name
       not_dummy r e n = with_other w g.dummies vs rest d.name (no_dummy d m (λ z. n (sym e ∙ z)))
 
-      unlike : (x : Name) → g.name ≢ x → same_name g.name x ≡ false
+      unlike : (x : Name) → g.name ≢ x → same_bytes g.name x ≡ false
       unlike x n = pick (same_or_not g.name x)
         where
-          pick : SameOrNot g.name x → same_name g.name x ≡ false
+          pick : SameOrNot g.name x → same_bytes g.name x ≡ false
           pick (same e t) = absurd (n e)
           pick (other e t) = t
 

@@ -4,6 +4,7 @@ use Rattle.std.proofs.Math.IntN.{pos-*ℤ-pos}
 use Rattle.std.specs.List.{list_all}
 use Rattle.std.specs.Ordering.{int_eq}
 use Rattle.std.specs.Prelude.{option_map}
+use Rattle.fort_syntax.specs.Names.{data_name}
 use Rattle.formula.specs.declared.value.Cell.{Cell}
 use Rattle.formula.specs.declared.value.Cell.TheVariants as cell
 use Rattle.formula.specs.declared.value.Value.{Value}
@@ -22,7 +23,6 @@ use Rattle.fort_model.specs.Correct.{held_in}
 use Rattle.fort_model.specs.Events.{takes}
 use Rattle.fort_model.specs.Fits.{has_sort}
 use Rattle.fort_model.specs.Lists.{IsAmong}
-use Rattle.fort_model.specs.Names.{data_name}
 use Rattle.fort_model.specs.Places as run
 use Rattle.fort_model.specs.Places.{dim_values}
 use Rattle.fort_model.specs.Processor.{Processor}
@@ -31,7 +31,7 @@ use Rattle.fort_model.specs.Senses.{of_values}
 use Rattle.fort_model.specs.Storage.{Storage, Environment, load, contents}
 use Rattle.fort_model.specs.Symbols.{Symbol, LeastInteger, GreatestInteger}
 use Rattle.fort_model.specs.WalkPlaces as walk
-use Rattle.fort_model.specs.WalkPlaces.{fixed_size}
+use Rattle.fort_model.specs.WalkPlaces.{size_if_fixed}
 use Rattle.fort_laws.specs.CallLaw.{HoldsName}
 use Rattle.fort_laws.specs.Frame.{IsSoundUnit}
 use Rattle.fort_laws.specs.Matches.{AllTrue}
@@ -85,15 +85,15 @@ module _ (fs : List Function) (values : Symbol → Value) (p : Processor) (least
     grouped : (m a k : ℕ) → m * a * k ≡ m * (a * k)
     grouped m a k = grind arith
 
-    fixed_from : (ds : List Dim) (m n : ℕ) → fixed_size ds ≡ Some n → run.stretch_from (pos m) (dim_values env st ds) ≡ pos (m * n)
+    fixed_from : (ds : List Dim) (m n : ℕ) → size_if_fixed ds ≡ Some n → run.stretch_from (pos m) (dim_values env st ds) ≡ pos (m * n)
     fixed_from [] m n e = let one : 1 ≡ n = cc in let z : m ≡ m * 1 = grind arith in ap pos (z ∙ ap (λ (y : ℕ). m * y) one)
     fixed_from (Adjustable x ∷ ds) m n e = absurd (cc)
-    fixed_from (Fixed a ∷ ds) m n e = by_rest (fixed_size ds) refl (λ k q. fixed_from ds (m * a) k q)
+    fixed_from (Fixed a ∷ ds) m n e = by_rest (size_if_fixed ds) refl (λ k q. fixed_from ds (m * a) k q)
       where
         some_is : (k : ℕ) → Some (a * k) ≡ Some n → a * k ≡ n
         some_is k q = cc
 
-        by_rest : (o : Option ℕ) → fixed_size ds ≡ o → ((k : ℕ) → fixed_size ds ≡ Some k → run.stretch_from (pos (m * a)) (dim_values env st ds) ≡ pos (m * a * k))
+        by_rest : (o : Option ℕ) → size_if_fixed ds ≡ o → ((k : ℕ) → size_if_fixed ds ≡ Some k → run.stretch_from (pos (m * a)) (dim_values env st ds) ≡ pos (m * a * k))
             → run.stretch_from (pos m *ℤ pos a) (dim_values env st ds) ≡ pos (m * n)
         by_rest None q rec = let none : option_map (λ (y : ℕ). a * y) None ≡ Some n = ap (option_map (λ (y : ℕ). a * y)) (sym q) ∙ e in absurd (cc)
         by_rest (Some k) q rec =
@@ -111,9 +111,9 @@ module _ (fs : List Function) (values : Symbol → Value) (p : Processor) (least
         times_one z = search rules
 
     pub size_is : (ds : List Dim) → DimsStand ds → value.num (walk.size (of_values fs values) now ds) ≡ run.stretch (dim_values env st ds)
-    size_is ds h = by_size (fixed_size ds) refl
+    size_is ds h = by_size (size_if_fixed ds) refl
       where
-        by_size : (o : Option ℕ) → fixed_size ds ≡ o → value.num (walk.size_or (of_values fs values) (fixed_size ds) (walk.stretch (of_values fs values) now ds)) ≡ run.stretch (dim_values env st ds)
+        by_size : (o : Option ℕ) → size_if_fixed ds ≡ o → value.num (walk.size_or (of_values fs values) (size_if_fixed ds) (walk.stretch (of_values fs values) now ds)) ≡ run.stretch (dim_values env st ds)
         by_size None q = ap (λ (o : Option ℕ). value.num (walk.size_or (of_values fs values) o (walk.stretch (of_values fs values) now ds))) q ∙ stretch_is ds h
         by_size (Some n) q =
             ap (λ (o : Option ℕ). value.num (walk.size_or (of_values fs values) o (walk.stretch (of_values fs values) now ds))) q

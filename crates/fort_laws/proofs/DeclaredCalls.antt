@@ -2,8 +2,10 @@
 use Rattle.std.proofs.Common.{◌≡◌, ℕ, suc, ◌+◌, Bool, true, false, cond, not, ◌&&◌, ◌||◌, List, [], ◌∷◌, ◌++◌, length, Option, Some, None, is_some, slice_get, refl, sym, ap, ◌∙◌, subst, arith}
 use Rattle.std.specs.List.{list_all}
 use Rattle.std.specs.Cmp.Lexicographic.{same_text}
-use Rattle.fort_syntax.specs.Scopes.{is_among, has_twin, is_name, is_given_dims}
-use Rattle.fort_syntax.specs.WellFormed.{IsWellFormedUnit, dims_among, AreWellFormedUnits, names_of_unit, commons_of_unit, own_value_of_unit, agree_on_blocks}
+use Rattle.formula.specs.Atoms.{is_among, has_twin, is_name, same_bytes}
+use Rattle.fort_syntax.specs.Names.{first_unit, function, subroutine, is_function, dims_of}
+use Rattle.fort_syntax.specs.Scopes.{is_given_dims}
+use Rattle.fort_syntax.specs.WellFormed.{IsWellFormedUnit, AreWellFormedUnits, names_of_unit, commons_of_unit, own_value_of_unit, agree_on_blocks}
 use Rattle.fort_syntax.specs.TreePatterns as syntax
 use Rattle.fort_syntax.specs.declared.dialect.Dialect.{Dialect}
 use Rattle.fort_syntax.specs.declared.dialect.Sort.{Sort}
@@ -18,7 +20,6 @@ use Rattle.fort_model.specs.Arguments.{reference_sort, is_own_sort, reference_fi
 use Rattle.fort_model.specs.CallRules.{is_nobody, mismatches}
 use Rattle.fort_model.specs.Calls.{CallSite, Calls, callee_of, sites_of}
 use Rattle.fort_model.specs.Lists.{IsAmong}
-use Rattle.fort_model.specs.Names.{same_name, first_unit, function, subroutine, is_function}
 use Rattle.fort_model.specs.Program.{Program}
 use Rattle.fort_model.specs.Rules.{KeepsRules, calls_nobody}
 use Rattle.fort_laws.specs.CallLaw.{HasNames}
@@ -67,12 +68,12 @@ callee_found units site j h = by_kind site.reference refl
 
     by_kind : (t : Bool) → site.reference ≡ t → IsCalled units site j
     by_kind true e =
-        let r = first_found (λ g. is_function g && same_name g.name site.callee) units 0 j (ap (λ b. cond b (function units site.callee) (subroutine units site.callee)) (sym e) ∙ h) in
-        let b = split (is_function r.2) (same_name (r.2).name site.callee) r.4 in
+        let r = first_found (λ g. is_function g && same_bytes g.name site.callee) units 0 j (ap (λ b. cond b (function units site.callee) (subroutine units site.callee)) (sym e) ∙ h) in
+        let b = split (is_function r.2) (same_bytes (r.2).name site.callee) r.4 in
         record { unit = r.2; at = at_start units r.2 r.0 r.1 r.3; name = same_text (r.2).name site.callee (sym b.1); function = λ k. b.0 }
     by_kind false e =
-        let r = first_found (λ g. not (is_function g) && same_name g.name site.callee) units 0 j (ap (λ b. cond b (function units site.callee) (subroutine units site.callee)) (sym e) ∙ h) in
-        let b = split (not (is_function r.2)) (same_name (r.2).name site.callee) r.4 in
+        let r = first_found (λ g. not (is_function g) && same_bytes g.name site.callee) units 0 j (ap (λ b. cond b (function units site.callee) (subroutine units site.callee)) (sym e) ∙ h) in
+        let b = split (not (is_function r.2)) (same_bytes (r.2).name site.callee) r.4 in
         record { unit = r.2; at = at_start units r.2 r.0 r.1 r.3; name = same_text (r.2).name site.callee (sym b.1); function = λ k. absurd (clash site.reference k e) }
 
 called_name : (units : List Routine) (i j : ℕ) (c : Calls units i j) → c.callee.name ≡ c.site.callee
@@ -156,7 +157,7 @@ module _ (dialect : Dialect) (u : Routine) (w : IsWellFormedUnit dialect u) wher
     where
       by_name : SameOrNot x u.name → x ≡ u.name
       by_name (same e t) = e
-      by_name (other n t) = absurd (clash (same_name x u.name || false) h (ap (λ b. b || false) t))
+      by_name (other n t) = absurd (clash (same_bytes x u.name || false) h (ap (λ b. b || false) t))
 
   function_value : is_function u ≡ true → (d : DataName) × IsAmong d u.names × (d.name ≡ u.name) × (d.role ≡ OwnValue)
   function_value f = (
@@ -181,7 +182,7 @@ module _ (dialect : Dialect) (u : Routine) (w : IsWellFormedUnit dialect u) wher
       let own = own_alone u.sort d.name (unit.is_own_value dialect u w d m r) in
       let e : IsNamed u.names d.name = unit.has_data dialect u w d.name (has_own_name u.names d m) in
       let same_one : e.its ≡ d = one_data_name u.names e.its d (unit.no_twins dialect u w) e.among m e.name in
-      let scalar : is_given_dims (dims_among u.names d.name) ≡ false = ap (λ x. is_given_dims (dims_among u.names x)) own.0 ∙ (own_is_scalar dialect u w own.1).1 in (
+      let scalar : is_given_dims (dims_of u d.name) ≡ false = ap (λ x. is_given_dims (dims_of u x)) own.0 ∙ (own_is_scalar dialect u w own.1).1 in (
         own.0,
         types.same_type_as d.sort u.sort (unit.own_type dialect u w d m r),
         unit.no_dims d.dims (ap (λ (z : DataName). is_given_dims z.dims) (sym same_one) ∙ (ap is_given_dims (sym e.dims) ∙ scalar)),
@@ -236,4 +237,4 @@ module _ (dialect : Dialect) (p : Program) (wells : AreWellFormedUnits dialect p
 
 pub calls_agree : CallsAgree
 calls_agree dialect deck p w units keeps i j c =
-    agrees dialect p (subst (AreWellFormedUnits dialect) units w.0) (subst (λ us. list_all (λ u. list_all (agree_on_blocks u) us) us ≡ true) units w.1) keeps i j c
+    agrees dialect p (subst (AreWellFormedUnits dialect) units w.units) (subst (λ us. list_all (λ u. list_all (agree_on_blocks u) us) us ≡ true) units w.blocks) keeps i j c

@@ -3,8 +3,10 @@ use Rattle.std.proofs.Common.{◌≡◌, ℕ, zero, suc, Bool, true, false, not,
 use Rattle.std.specs.Prelude.{◌==◌}
 use Rattle.std.specs.List.{list_all}
 use Rattle.std.specs.Cmp.Lexicographic.{same_text}
+use Rattle.formula.specs.Atoms.{is_among, same_bytes}
+use Rattle.fort_syntax.specs.Names.{data_name, has_common, has_role, is_in_common, items_of, commons}
 use Rattle.fort_syntax.specs.NameRules.{member_of, same_member, same_members}
-use Rattle.fort_syntax.specs.Scopes.{Scope, is_among, same_dim, same_dims, same_option}
+use Rattle.fort_syntax.specs.Scopes.{same_dim, same_dims, same_option}
 use Rattle.fort_syntax.specs.Scopes as syntax
 use Rattle.fort_syntax.specs.Units.{name_of_block, names_of_items}
 use Rattle.fort_syntax.specs.WellFormed.{IsWellFormedUnit, AreWellFormedUnits, commons_of_unit, scope_of_unit, members_of_group, agree_groups, agree_on_blocks}
@@ -23,11 +25,11 @@ use Rattle.fort_syntax.specs.declared.unit.Unit.{Unit as Routine}
 use Rattle.fort_model.specs.CallRules.{same_block, declares, lacks_block}
 use Rattle.fort_model.specs.Calls.{Calls}
 use Rattle.fort_model.specs.Lists.{IsAmong}
-use Rattle.fort_model.specs.Names.{data_name}
-use Rattle.fort_model.specs.Program.{Program, has_common, has_role, is_in_common, items_of, commons}
+use Rattle.fort_model.specs.Program.{Program}
 use Rattle.fort_laws.specs.Declared.{IsDimension, IsDeclared, AreDeclared}
 use Rattle.fort_laws.specs.Frame.{HasName}
-use Rattle.fort_laws.specs.GoodDecks.{KeepsRule, WellFormedIsDeclared}
+use Rattle.fort_model.specs.Rules.{KeepsRule}
+use Rattle.fort_laws.specs.GoodDecks.{WellFormedIsDeclared}
 use Rattle.fort_laws.proofs.DeclaredNames.{IsNamed, named_among, among_named, only_once, no_twin_left, one_data_name, has_own_name, data_among, found_named}
 use Rattle.fort_laws.proofs.DeclaredUnits as unit
 use Rattle.fort_laws.proofs.DeclaredUses.{right_line, set_data, pass_data}
@@ -159,7 +161,7 @@ module _ (dialect : Dialect) (p : Program) (wells : AreWellFormedUnits dialect p
         h = some_passes (λ h. same_block h.block g.block) c.caller.blocks
             (not_not (declares c.caller g.block) (none_passes (λ g. not (declares c.caller g.block)) c.callee.blocks g (lacks_none p keeps i j c) m))
 
-        one_name : syntax.same_name (name_of_block g.block) (name_of_block (h.0).block) ≡ true
+        one_name : same_bytes (name_of_block g.block) (name_of_block (h.0).block) ≡ true
         one_name = same_is (name_of_block g.block) (name_of_block (h.0).block) (sym (same_blocks (h.0).block g.block h.2))
 
         agreed : agree_groups c.callee c.caller g h.0 ≡ true
@@ -169,7 +171,7 @@ module _ (dialect : Dialect) (p : Program) (wells : AreWellFormedUnits dialect p
             (all_among (agree_on_blocks c.callee) p.units c.caller (all_among (λ u. list_all (agree_on_blocks u) p.units) p.units c.callee agree (j, c.is_callee)) (i, c.is_caller)) m) h.1
 
         members : same_members (members_of_group c.callee g) (members_of_group c.caller h.0) ≡ true
-        members = one_holds (not (syntax.same_name (name_of_block g.block) (name_of_block (h.0).block))) _ agreed (ap not one_name)
+        members = one_holds (not (same_bytes (name_of_block g.block) (name_of_block (h.0).block))) _ agreed (ap not one_name)
 
     -- a COMMON entity of the called unit is one of the calling one
     pub record IsShared (d : DataName) : Type 0 where
@@ -241,5 +243,5 @@ module _ (dialect : Dialect) (p : Program) (wells : AreWellFormedUnits dialect p
 
 pub well_formed_is_declared : WellFormedIsDeclared
 well_formed_is_declared dialect deck p w same keeps =
-    are_declared dialect p (subst (AreWellFormedUnits dialect) same w.0)
-    (subst (λ us. list_all (λ u. list_all (agree_on_blocks u) us) us ≡ true) same w.1) keeps
+    are_declared dialect p (subst (AreWellFormedUnits dialect) same w.units)
+    (subst (λ us. list_all (λ u. list_all (agree_on_blocks u) us) us ≡ true) same w.blocks) keeps

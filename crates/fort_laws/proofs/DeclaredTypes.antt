@@ -2,14 +2,17 @@
 use Rattle.std.proofs.Common.{◌≡◌, ◌≤◌, ℕ, suc, ◌⊎◌, inl, inr, Bool, true, false, cond, not, ◌&&◌, ◌||◌, List, [], ◌∷◌, ◌++◌, map, length, Option, Some, None, nat_le, codes, refl, sym, ap, ◌∙◌, subst, arith, rules}
 use Rattle.std.specs.Prelude.{◌==◌}
 use Rattle.std.specs.List.{list_any, list_all}
+use Rattle.formula.specs.Atoms.{is_among, has_twin, same_bytes}
+use Rattle.fort_syntax.specs.TreePatterns.{listed, only}
+use Rattle.fort_syntax.specs.Names.{Intrinsic, Absolute, Modulo, Greatest, Least, Reference, intrinsic, applied_by, applied, dims_of}
 use mathlib.Core.Former.{Count}
-use Rattle.fort_syntax.specs.Scopes.{Scope, is_among, has_twin, do_meet, same_option, is_intrinsic_name, takes_so_many, is_given_dims, is_array, is_intrinsic}
+use Rattle.fort_syntax.specs.Scopes.{Scope, do_meet, same_option, is_intrinsic_name, takes_so_many, is_given_dims, is_array, is_intrinsic}
 use Rattle.fort_syntax.specs.TypeRules.{type_applied, type_of, gives_integer, are_fit_arguments, has_fit_operands}
 use Rattle.fort_syntax.specs.TreePatterns as syntax
 use Rattle.fort_syntax.specs.UseRules.{is_misused}
-use Rattle.fort_syntax.specs.Uses.{Use, Occurrence, occurrence, read, argument_of, actual, uses_in, uses_in_row, parts, parts_of_row}
+use Rattle.fort_syntax.specs.Uses.{Use, read, argument_of, uses_in, uses_in_row, parts, parts_of_row}
 use Rattle.fort_syntax.specs.Uses as use_as
-use Rattle.fort_syntax.specs.WellFormed.{IsWellFormedUnit, names_of_unit, functions_of_unit, sort_of_function, dims_among, scope_of_unit, is_known}
+use Rattle.fort_syntax.specs.WellFormed.{IsWellFormedUnit, names_of_unit, functions_of_unit, sort_of_function, scope_of_unit, is_known}
 use Rattle.fort_syntax.specs.declared.dialect.Dialect.{Dialect}
 use Rattle.fort_syntax.specs.declared.dialect.Sort.{Sort}
 use Rattle.fort_syntax.specs.declared.dialect.Sort.TheVariants.{Integer, Logical}
@@ -20,12 +23,10 @@ use Rattle.fort_syntax.specs.declared.stmt.Dim.{Dim}
 use Rattle.fort_syntax.specs.declared.unit.FunctionName.{FunctionName}
 use Rattle.fort_syntax.specs.declared.unit.Unit.{Unit as Routine}
 use Rattle.fort_model.specs.Arguments.{reference_sort}
-use Rattle.fort_model.specs.Calls.{CallSite, listed, own_site, sites_in, sites_in_row}
+use Rattle.fort_model.specs.Calls.{CallSite, own_site, sites_in, sites_in_row}
 use Rattle.fort_model.specs.Lists.{IsAmong}
-use Rattle.fort_model.specs.Names.{Intrinsic, Absolute, Modulo, Greatest, Least, Reference, intrinsic, applied_by, applied, same_name, dims_of}
-use Rattle.fort_model.specs.Trees.{only}
 use Rattle.fort_laws.specs.Typed.{AreDims, IsCount, row_length, IsScalar, IsArray, IsActual, IsApplied, IsTyped, AreInteger, AreActual}
-use Rattle.fort_laws.proofs.DeclaredNames.{IsNamed, do_not_meet, unnamed_sort, same_dims_told, named_data}
+use Rattle.fort_laws.proofs.DeclaredNames.{IsNamed, do_not_meet, unnamed_sort, named_data}
 use Rattle.fort_laws.proofs.DeclaredUnits as unit
 use Rattle.fort_laws.proofs.DeclaredUses.{AreRight, right_left, right_right, right_behind, right_first}
 use Rattle.fort_laws.proofs.FrameEnter.{SameOrNot, same, other, same_or_not}
@@ -52,7 +53,7 @@ one_type q r h = cc
 -- the type that a unit gives a function is told alike
 function_sort : (fs : List FunctionName) (f : Name) → reference_sort fs f ≡ sort_of_function fs f
 function_sort [] f = refl
-function_sort (g ∷ gs) f = ap (λ o. cond (same_name g.name f) (Some g.sort) o) (function_sort gs f)
+function_sort (g ∷ gs) f = ap (λ o. cond (same_bytes g.name f) (Some g.sort) o) (function_sort gs f)
 
 pub row_count : {m : Count} (args : Row_of-Expr m) → row_length args ≡ length (syntax.listed args)
 row_count end_of-Expr = refl
@@ -79,7 +80,7 @@ intrinsic_by false false false true h = (Least, refl, λ n t. some_at_least n t)
 intrinsic_by false false false false h = absurd (cc)
 
 intrinsic_named : (f : Name) → is_intrinsic_name f ≡ true → IsIntrinsicBy (intrinsic f) (takes_so_many f)
-intrinsic_named f h = intrinsic_by (same_name f (codes "IABS")) (same_name f (codes "MOD")) (same_name f (codes "MAX0")) (same_name f (codes "MIN0")) h
+intrinsic_named f h = intrinsic_by (same_bytes f (codes "IABS")) (same_bytes f (codes "MOD")) (same_bytes f (codes "MAX0")) (same_bytes f (codes "MIN0")) h
 
 not_intrinsic_by : (a b c d : Bool) → (a || (b || (c || (d || false)))) ≡ false → cond a (Some Absolute) (cond b (Some Modulo) (cond c (Some Greatest) (cond d (Some Least) None))) ≡ None
 not_intrinsic_by true b c d h = absurd (cc)
@@ -89,7 +90,7 @@ not_intrinsic_by false false false true h = absurd (cc)
 not_intrinsic_by false false false false h = refl
 
 not_intrinsic : (f : Name) → is_intrinsic_name f ≡ false → intrinsic f ≡ None
-not_intrinsic f h = not_intrinsic_by (same_name f (codes "IABS")) (same_name f (codes "MOD")) (same_name f (codes "MAX0")) (same_name f (codes "MIN0")) h
+not_intrinsic f h = not_intrinsic_by (same_bytes f (codes "IABS")) (same_bytes f (codes "MOD")) (same_bytes f (codes "MAX0")) (same_bytes f (codes "MIN0")) h
 
 no_intrinsic_name : (f : Name) → intrinsic f ≡ None → is_intrinsic_name f ≡ false
 no_intrinsic_name f k = known (is_intrinsic_name f) (λ y. absurd (unlike (sym k ∙ (intrinsic_named f y).1))) (λ y. y)
@@ -170,8 +171,8 @@ module _ (dialect : Dialect) (u : Routine) (w : IsWellFormedUnit dialect u) wher
   -- a name before a bracket that is no array and no intrinsic function is a function
   is_function : (f : Name) (n : ℕ) → is_known u f (use_as.applied n) ≡ true → is_array scope f ≡ false → is_intrinsic_name f ≡ false → is_among f (functions_of_unit u) ≡ true
   is_function f n k h t =
-      one_holds (is_array scope f || is_intrinsic scope f) (is_among f (functions_of_unit u)) k
-      (ap (λ b. b || is_intrinsic scope f) h ∙ ap (λ b. b && not (is_array scope f)) t)
+      one_holds (is_array scope f || (is_intrinsic_name f && not (is_among f (names_of_unit u)))) (is_among f (functions_of_unit u)) k
+      (ap (λ b. b || (is_intrinsic_name f && not (is_among f (names_of_unit u)))) h ∙ ap (λ b. b && not (is_among f (names_of_unit u))) t)
 
   -- what is applied as a reference is a function
   pub reference_is_function : (f : Name) (n : ℕ) → applied u f ≡ Reference → is_known u f (use_as.applied n) ≡ true → is_among f (functions_of_unit u) ≡ true
@@ -180,7 +181,7 @@ module _ (dialect : Dialect) (u : Routine) (w : IsWellFormedUnit dialect u) wher
       go : (ds : List Dim) (o : Option Intrinsic) → dims_of u f ≡ ds → intrinsic f ≡ o → applied_by ds o ≡ Reference → is_among f (functions_of_unit u) ≡ true
       go (d ∷ ds) o dims is e = absurd (cc)
       go [] (Some g) dims is e = absurd (cc)
-      go [] None dims is e = is_function f n k (ap is_given_dims (sym (same_dims_told u.names f) ∙ dims)) (no_intrinsic_name f is)
+      go [] None dims is e = is_function f n k (ap is_given_dims (dims)) (no_intrinsic_name f is)
 
   some_function : (fs : List FunctionName) (f : Name) → is_among f (map (λ g. g.name) fs) ≡ true → (q : Sort) × (reference_sort fs f ≡ Some q)
   some_function [] f h = absurd (cc)
@@ -190,7 +191,7 @@ module _ (dialect : Dialect) (u : Routine) (w : IsWellFormedUnit dialect u) wher
       by_name (same e t) a rec = (g.sort, ap (λ b. cond b (Some g.sort) (reference_sort fs f)) t)
       by_name (other n t) (same e t2) rec = absurd (n (sym e))
       by_name (other n t) (other m t2) rec =
-          let r = rec (one_holds (same_name f g.name) (is_among f (map (λ g. g.name) fs)) h t2) in
+          let r = rec (one_holds (same_bytes f g.name) (is_among f (map (λ g. g.name) fs)) h t2) in
           (r.0, ap (λ b. cond b (Some g.sort) (reference_sort fs f)) t ∙ r.1)
 
   -- each name before a bracket has a type
@@ -228,7 +229,7 @@ module _ (dialect : Dialect) (u : Routine) (w : IsWellFormedUnit dialect u) wher
       record { data_of = d.its; is = d.is; scalar = unit.no_dims d.its.dims (ap is_given_dims (sym d.dims) ∙ a); sort_is = one_type d.its.sort q (sym (d.sort u.functions) ∙ t) }
 
   -- an array has its dimensions, and the type that its name has
-  pub array_of : (q : Sort) (a : Name) (ds : List Dim) → is_array scope a ≡ true → dims_among u.names a ≡ ds → scope.sort a ≡ Some q → IsArray u q a ds
+  pub array_of : (q : Sort) (a : Name) (ds : List Dim) → is_array scope a ≡ true → dims_of u a ≡ ds → scope.sort a ≡ Some q → IsArray u q a ds
   array_of q a ds h e t =
       let d : IsNamed u.names a = unit.has_data dialect u w a (named_data u.names a h) in
       record {
@@ -252,21 +253,21 @@ module _ (dialect : Dialect) (u : Routine) (w : IsWellFormedUnit dialect u) wher
         n : ℕ
         n = length (syntax.listed args)
 
-        no_use : ((is_array scope f && not (n == length (dims_among u.names f))) ≡ false) × ((is_intrinsic scope f && not (takes_so_many f n)) ≡ false)
-        no_use = neither (is_array scope f && not (n == length (dims_among u.names f))) (is_intrinsic scope f && not (takes_so_many f n)) right.1
+        no_use : ((is_array scope f && not (n == length (dims_of u f))) ≡ false) × ((is_intrinsic scope f && not (takes_so_many f n)) ≡ false)
+        no_use = neither (is_array scope f && not (n == length (dims_of u f))) (is_intrinsic scope f && not (takes_so_many f n)) right.1
 
         go : (ds : List Dim) (o : Option Intrinsic) → dims_of u f ≡ ds → intrinsic f ≡ o → AreReferred u IsReference (own_site (applied_by ds o) f (listed args))
             → IsApplied u IsReference q f (applied_by ds o) (row_length args) (listed args) (AreInteger u IsReference args) (AreActual u IsReference args)
         go (d ∷ ds) o e k refer =
-            let dims_are : dims_among u.names f ≡ d ∷ ds = sym (same_dims_told u.names f) ∙ e in
+            let dims_are : dims_of u f ≡ d ∷ ds = e in
             let array : is_array scope f ≡ true = ap is_given_dims dims_are in
-            let many : n ≡ length (d ∷ ds) = same_number n (length (d ∷ ds)) (ap (λ zs. n == length zs) (sym dims_are) ∙ not_not (n == length (dims_among u.names f)) (not_both (is_array scope f) _ no_use.0 array)) in (
+            let many : n ≡ length (d ∷ ds) = same_number n (length (d ∷ ds)) (ap (λ zs. n == length zs) (sym dims_are) ∙ not_not (n == length (dims_of u f)) (not_both (is_array scope f) _ no_use.0 array)) in (
               array_of q f (d ∷ ds) array dims_are (sym (array_sort f array) ∙ t),
               row_count args ∙ many,
               integers (ap (λ b. b || is_intrinsic_name f) array) (integers_demanded f (syntax.listed args) fit (ap (λ b. b || is_intrinsic scope f) array)),
             )
         go [] (Some g) e k refer =
-            let scalar : is_array scope f ≡ false = ap is_given_dims (sym (same_dims_told u.names f) ∙ e) in
+            let scalar : is_array scope f ≡ false = ap is_given_dims (e) in
             let is : is_intrinsic_name f ≡ true = known (is_intrinsic_name f) (λ y. y) (λ y. absurd (unlike g (sym k ∙ not_intrinsic f y))) in
             let whole : is_intrinsic scope f ≡ true = ap (λ b. is_intrinsic_name f && not b) scalar ∙ ap (λ b. b && true) is in
             let of = intrinsic_named f is in
@@ -282,7 +283,7 @@ module _ (dialect : Dialect) (u : Routine) (w : IsWellFormedUnit dialect u) wher
             same_one : (a b : Intrinsic) → Some a ≡ Some b → a ≡ b
             same_one a b h = cc
         go [] None e k refer =
-            let scalar : is_array scope f ≡ false = ap is_given_dims (sym (same_dims_told u.names f) ∙ e) in
+            let scalar : is_array scope f ≡ false = ap is_given_dims (e) in
             let is_not : is_intrinsic_name f ≡ false = no_intrinsic_name f k in
             let type : reference_sort u.functions f ≡ Some q = sym (function_type f scalar is_not (is_function f n right.0 scalar is_not)) ∙ t in
             (refer (record { reference = true; callee = f; actuals = listed args }) q (0, refl) refl type, actuals)

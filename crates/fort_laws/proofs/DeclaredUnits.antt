@@ -1,8 +1,10 @@
 -- The names of a well-formed unit: their roles, dimensions and types.
 use Rattle.std.proofs.Common.{◌≡◌, ◌≤◌, ℕ, zero, suc, Bool, true, false, cond, not, ◌&&◌, ◌||◌, List, [], ◌∷◌, ◌++◌, map, flat_map, length, Some, is_some, nat_lt, refl, sym, ap, ◌∙◌, subst, rules}
 use Rattle.std.specs.List.{list_any, list_all}
+use Rattle.formula.specs.Atoms.{is_among, has_twin}
+use Rattle.fort_syntax.specs.Names.{commons, items_of, has_common, has_role, is_in_common}
 use Rattle.fort_syntax.specs.NameRules.{is_zero_dim, is_bad_shape, most_dims, fixed_size}
-use Rattle.fort_syntax.specs.Scopes.{is_among, has_twin, same_sort, same_option, is_given_dims, is_array, is_integer, is_integer_scalar}
+use Rattle.fort_syntax.specs.Scopes.{same_sort, same_option, is_given_dims, is_array, is_integer, is_integer_scalar}
 use Rattle.fort_syntax.specs.Units.{names_in_dims, names_of_items}
 use Rattle.fort_syntax.specs.WellFormed.{IsWellFormedUnit, names_of_unit, commons_of_unit, own_value_of_unit, role_in_unit, same_role, scope_of_unit, has_right_role, has_right_dims}
 use Rattle.fort_syntax.specs.declared.dialect.Dialect.{Dialect}
@@ -17,10 +19,9 @@ use Rattle.fort_syntax.specs.declared.unit.Role.{Role}
 use Rattle.fort_syntax.specs.declared.unit.Role.TheVariants.{Dummy, InCommon, OwnValue, Local}
 use Rattle.fort_syntax.specs.declared.unit.Unit.{Unit as Routine}
 use Rattle.fort_model.specs.Lists.{IsAmong}
-use Rattle.fort_model.specs.Program.{commons, items_of, has_common, has_role, is_in_common}
 use Rattle.fort_laws.specs.GoodDecks.{BlocksHoldCommons}
 use Rattle.fort_laws.specs.Typed.{IsScalar, AreDims}
-use Rattle.fort_laws.proofs.DeclaredNames.{IsNamed, named, named_among, among_named, names_in, has_own_name, among_joined_left, among_joined_right, no_twin_apart}
+use Rattle.fort_laws.proofs.DeclaredNames.{IsNamed, named, named_among, among_named, names_of_data, has_own_name, among_joined_left, among_joined_right, no_twin_apart}
 use Rattle.fort_laws.proofs.FrameSeats.{clash}
 use Rattle.fort_laws.proofs.Near.{known}
 use Rattle.fort_laws.proofs.RulesKept.{neither, none_passes, split}
@@ -109,7 +110,7 @@ module _ (dialect : Dialect) (u : Routine) (w : IsWellFormedUnit dialect u) wher
       split (not (has_twin (names_of_unit u))) (list_all (λ x. is_among x (names_of_unit u)) (u.dummies ++ commons_of_unit u ++ own_value_of_unit u))
       (split (not (has_twin (names_of_unit u)) && list_all (λ x. is_among x (names_of_unit u)) (u.dummies ++ commons_of_unit u ++ own_value_of_unit u)) (is_some u.sort || not (is_among u.name (names_of_unit u))) w.data_names).0
 
-  pub no_twins : has_twin (names_in u.names) ≡ false
+  pub no_twins : has_twin (names_of_data u.names) ≡ false
   no_twins = not_so (has_twin (names_of_unit u)) parts.0
 
   pub has_data : (x : Name) → is_among x (names_of_unit u) ≡ true → IsNamed u.names x

@@ -1,14 +1,18 @@
 -- The statements of a well-formed unit: their forms, and that the names that they set or pass are data names.
 use Rattle.std.proofs.Common.{◌≡◌, ℕ, zero, suc, ◌⊎◌, inl, inr, true, false, not, ◌&&◌, List, [], ◌∷◌, ◌++◌, flat_map, length, Option, Some, is_some, slice_get, refl, sym, ap, ◌∙◌, subst}
 use Rattle.std.specs.Cmp.Lexicographic.{same_text}
+use Rattle.formula.specs.Atoms.{is_among, same_bytes}
+use Rattle.fort_syntax.specs.Grammar.{is_carried}
+use Rattle.fort_syntax.specs.TreePatterns.{listed, only, carried, row_of}
+use Rattle.fort_syntax.specs.Names.{Intrinsic, Applied, Element, BuiltIn, Reference, intrinsic, applied_by, applied, dims_of}
 use mathlib.Core.Former.{Count}
-use Rattle.fort_syntax.specs.Scopes.{is_among, is_given_dims, is_array}
+use Rattle.fort_syntax.specs.Scopes.{is_given_dims, is_array}
 use Rattle.fort_syntax.specs.TypeRules.{is_well_typed}
 use Rattle.fort_syntax.specs.Units.{class_of, is_performing}
 use Rattle.fort_syntax.specs.TreePatterns as syntax
 use Rattle.fort_syntax.specs.UseRules.{is_misused, is_assigned}
 use Rattle.fort_syntax.specs.Uses.{Use, Occurrence, occurrence, read, assigned, assigned_element, counted, applied as before_bracket, argument_of, actual, called, uses_in, uses_in_row, uses_on_left, uses_of}
-use Rattle.fort_syntax.specs.WellFormed.{IsWellFormedUnit, names_of_unit, scope_of_unit, is_known, is_left_side, may_be_carried, has_right_form, is_right_statement}
+use Rattle.fort_syntax.specs.WellFormed.{IsWellFormedUnit, names_of_unit, scope_of_unit, is_known, is_left_side, has_right_form, is_right_statement}
 use Rattle.fort_syntax.specs.declared.dialect.Dialect.{Dialect}
 use Rattle.fort_syntax.specs.declared.expr.Expr.{Expr, Row_of-Expr, end_of-Expr, more_of-Expr}
 use Rattle.fort_syntax.specs.declared.expr.Expr.TheVariants.{Const, Truth, Var, Apply', Paren', Pos', Neg', Power', Bin', Rel', Not', And', Or'}
@@ -18,12 +22,10 @@ use Rattle.fort_syntax.specs.declared.stmt.Stmt.{Stmt}
 use Rattle.fort_syntax.specs.declared.stmt.Stmt.TheVariants.{Subroutine, Function, Declare, Dimension, Common, Assign, GoTo, Computed, ArithIf, LogicalIf', Do, Continue, Call, Return, End, BlockIf, ElseIf, Else, EndIf}
 use Rattle.fort_syntax.specs.declared.unit.Line.{Line}
 use Rattle.fort_syntax.specs.declared.unit.Unit.{Unit as Routine}
-use Rattle.fort_model.specs.Calls.{CallSite, listed, own_site, sites_in, sites_in_row, sites_of}
+use Rattle.fort_model.specs.Calls.{CallSite, own_site, sites_in, sites_in_row, sites_of}
 use Rattle.fort_model.specs.Lists.{IsAmong}
-use Rattle.fort_model.specs.Names.{Intrinsic, Applied, Element, BuiltIn, Reference, intrinsic, applied_by, applied, dims_of, same_name}
 use Rattle.fort_model.specs.Smashes.{set_name, set_by}
-use Rattle.fort_model.specs.Trees.{only, carried, row_of}
-use Rattle.fort_laws.proofs.DeclaredNames.{same_dims_told, named_data}
+use Rattle.fort_laws.proofs.DeclaredNames.{named_data}
 use Rattle.fort_laws.proofs.Kept.{among_left, among_right, listed_row}
 use Rattle.fort_laws.proofs.References.{among_either}
 use Rattle.fort_laws.proofs.RulesKept.{split}
@@ -195,7 +197,7 @@ module _ (u : Routine) (P : CallSite → Type 0)
   each_on_left (Apply' f shape args) t h =
       let array = (right_first u f (assigned_element (length (syntax.listed args))) (uses_in_row read args) h).0 in
       each_both P (own_site (applied u f) f (listed args)) (sites_in_row u args)
-      (each_own P (applied u f) f (listed args) (λ e. absurd (array_no_reference (dims_of u f) (intrinsic f) (ap is_given_dims (same_dims_told u.names f) ∙ array) e)))
+      (each_own P (applied u f) f (listed args) (λ e. absurd (array_no_reference (dims_of u f) (intrinsic f) (array) e)))
       (each_in_row read args (right_behind u _ (uses_in_row read args) h))
   each_on_left (Const n) t h = absurd (cc)
   each_on_left (Truth b) t h = absurd (cc)
@@ -223,7 +225,7 @@ module _ (u : Routine) (P : CallSite → Type 0)
   each_of (ArithIf e l m n) t h = each_in read e h
   each_of (LogicalIf' e shape (carried s)) t h =
       each_both P (sites_in u e) (sites_of u s)
-      (each_in read e (right_left u (uses_in read e) (uses_of s) h)) (each_of s (split (may_be_carried s) (has_right_form s) t).1 (right_right u (uses_in read e) (uses_of s) h))
+      (each_in read e (right_left u (uses_in read e) (uses_of s) h)) (each_of s (split (is_carried s) (has_right_form s) t).1 (right_right u (uses_in read e) (uses_of s) h))
   each_of (Call f args) t h = each_of_call f args h
   each_of (BlockIf e) t h = each_in read e h
   each_of (ElseIf e) t h = each_in read e h
@@ -266,8 +268,8 @@ assigned_scalar u x called h r = absurd (cc)
 
 pub own_is_scalar : (dialect : Dialect) (u : Routine) → IsWellFormedUnit dialect u → is_some u.sort ≡ true → (is_among u.name (names_of_unit u) ≡ true) × (is_array (scope_of_unit u) u.name ≡ false)
 own_is_scalar dialect u w f =
-    let some = some_passes (λ o. same_name o.name u.name && is_assigned o.«use») (flat_map (λ line. uses_of line.stmt) u.lines) (one_holds (not (is_some u.sort)) _ w.result (ap not f)) in
-    let b = split (same_name (some.0).name u.name) (is_assigned (some.0).«use») some.2 in
+    let some = some_passes (λ o. same_bytes o.name u.name && is_assigned o.«use») (flat_map (λ line. uses_of line.stmt) u.lines) (one_holds (not (is_some u.sort)) _ w.result (ap not f)) in
+    let b = split (same_bytes (some.0).name u.name) (is_assigned (some.0).«use») some.2 in
     let from = among_given (λ line. uses_of line.stmt) u.lines some.0 some.1 in
     let right = (right_line dialect u w from.0 from.1).uses some.0 from.2 in
     subst (λ x. (is_among x (names_of_unit u) ≡ true) × (is_array (scope_of_unit u) x ≡ false)) (same_text (some.0).name u.name (sym b.0)) (assigned_scalar u (some.0).name (some.0).«use» b.1 right)

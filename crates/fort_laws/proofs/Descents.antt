@@ -9,7 +9,8 @@ use Rattle.fort_syntax.specs.declared.unit.Line.{Line}
 use Rattle.fort_model.specs.Evaluate.{Scene}
 use Rattle.fort_model.specs.Events.{Event, Check, Take, checks}
 use Rattle.fort_model.specs.Paths.{Cut, NoCut, AtEnd, AtAssert, cut_in, cut_at, over_or, IsWay}
-use Rattle.fort_model.specs.Program.{Program, Assertion, Notes, notes_of, assertion_at}
+use Rattle.fort_notes.specs.Assertions.{Assertion, Notes}
+use Rattle.fort_model.specs.Program.{Program, notes_of, assertion_at}
 use Rattle.fort_model.specs.Seen.{Named}
 use Rattle.fort_model.specs.Senses.{note}
 use Rattle.fort_model.specs.Storage.{Storage}

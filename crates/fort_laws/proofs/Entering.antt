@@ -2,6 +2,8 @@
 use Rattle.std.proofs.Common.{◌≡◌, ℕ, zero, suc, ◌+◌, ◌-◌, ◌<◌, ◌≤◌, ◌⊎◌, inl, inr, Bool, true, false, cond, not, ℤ, pos, neg_ℤ, List, [], ◌∷◌, ◌++◌, sum, length, replicate, Option, Some, None, refl, sym, ap, ◌∙◌, subst, arith, get_or-append-add}
 use Rattle.std.specs.List.{list_all, list_any}
 use Rattle.std.specs.Prelude.{int_le}
+use Rattle.formula.specs.Atoms.{same_bytes}
+use Rattle.fort_syntax.specs.Names.{data_name, dims_of_data, is_own, has_role, commons}
 use Rattle.formula.specs.declared.function.BuiltIn.TheVariants.{Defined}
 use Rattle.formula.specs.declared.value.Cell.{Cell}
 use Rattle.formula.specs.declared.value.Cell.TheVariants as cell
@@ -22,10 +24,9 @@ use Rattle.fort_model.specs.Events.{takes}
 use Rattle.fort_model.specs.Fits.{IsApart, Fits, is_good_dim, is_positive, has_sort}
 use Rattle.fort_model.specs.Fitting.{FitsUnit, is_visible_role, no_entry}
 use Rattle.fort_model.specs.Lists.{IsAmong}
-use Rattle.fort_model.specs.Names.{same_name, data_name, dims_in, is_own}
 use Rattle.fort_model.specs.Places.{dim_values, stretch}
 use Rattle.fort_model.specs.Processor.{Processor, MeetsBound}
-use Rattle.fort_model.specs.Program.{Program, notes_of, has_role, commons}
+use Rattle.fort_model.specs.Program.{Program, notes_of}
 use Rattle.fort_model.specs.Run.{own_sizes}
 use Rattle.fort_model.specs.Storage.{Storage, Extent, Environment, load, contents}
 use Rattle.fort_model.specs.Symbols.{Symbol, LeastInteger, GreatestInteger, AtEntry, AtStart, ByCall}
@@ -93,7 +94,7 @@ dim_named x (Adjustable y) h = pick (same_or_not x y)
   where
     pick : SameOrNot x y → Adjustable y ≡ Adjustable x
     pick (same e t) = ap Adjustable (sym e)
-    pick (other n t) = absurd (clash (same_name x y) h t)
+    pick (other n t) = absurd (clash (same_bytes x y) h t)
 
 each_good : (env : Environment) (st : Storage) (ds : List Dim) (d : Dim) → list_all (is_good_dim env st) ds ≡ true → IsAmong d ds → is_good_dim env st d ≡ true
 each_good env st [] d h m = absurd (cc)
@@ -182,7 +183,7 @@ module _ (program : Program) (p : Processor) (i : ℕ) (u : Routine) (sound : Is
   own_named : (d : DataName) → IsAmong d u.names → is_own d.role ≡ true → at_entry w d.name ≡ held_in d.dims begun (own d.name)
   own_named d m o =
       let e : data_name u d.name ≡ Some d = found program.units i u sound d m d.name refl in
-      ap (λ (a : Option DataName). cond (has_role is_own a) (walk.blank_by w.sense (entry_symbol w) (dims_in a)) (entry_symbol w d.name)) e
+      ap (λ (a : Option DataName). cond (has_role is_own a) (walk.blank_by w.sense (entry_symbol w) (dims_of_data a)) (entry_symbol w d.name)) e
       ∙ (ap (λ (b : Bool). cond b (walk.blank_by w.sense (entry_symbol w) d.dims) (entry_symbol w d.name)) o
       ∙ own_blank d m o d.dims refl)
 

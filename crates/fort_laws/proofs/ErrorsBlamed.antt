@@ -15,7 +15,8 @@ use Rattle.fort_model.specs.Fitting.{FitsUnit}
 use Rattle.fort_model.specs.Outcome.{Outcome, Ended, Erred, Running, and_then}
 use Rattle.fort_model.specs.Paths.{Cut, NoCut, AtEnd, AtAssert, cut_in, cut_at, over_or, IsWay, IsWayIn, starts_at}
 use Rattle.fort_model.specs.Processor.{Processor}
-use Rattle.fort_model.specs.Program.{Program, Assertion, notes_of, assertion_at}
+use Rattle.fort_notes.specs.Assertions.{Assertion}
+use Rattle.fort_model.specs.Program.{Program, notes_of, assertion_at}
 use Rattle.fort_model.specs.Run.{run, leave}
 use Rattle.fort_model.specs.Seen.{Named, Answers}
 use Rattle.fort_model.specs.Senses.{of_values, note}

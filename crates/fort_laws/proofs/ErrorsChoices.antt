@@ -4,6 +4,8 @@ use Rattle.std.specs.Ordering.{int_eq}
 use Rattle.std.proofs.lemmas.Int.{ints}
 use Rattle.std.proofs.lemmas.List.{length-map}
 use Rattle.std.proofs.lemmas.Option.{slice_get_within}
+use Rattle.fort_syntax.specs.TreePatterns.{carried, row_of}
+use Rattle.fort_syntax.specs.Names.{subroutine}
 use Rattle.formula.specs.declared.function.BuiltIn.TheVariants.{Equal, Plus}
 use Rattle.formula.specs.declared.value.Value.{Value}
 use Rattle.formula.specs.declared.value.Value.TheVariants.{Int, Logical, Undefined, Cells}
@@ -15,12 +17,10 @@ use Rattle.fort_syntax.specs.declared.dialect.Dialect.TheVariants.{Common, Seven
 use Rattle.fort_syntax.specs.declared.stmt.Stmt.{Stmt}
 use Rattle.fort_syntax.specs.declared.stmt.Stmt.TheVariants.{Subroutine, Function as FunctionHead, Declare, Dimension, Common as CommonBlock, Assign, GoTo, Computed, ArithIf, LogicalIf', Do, Continue, Call, Return, End, BlockIf, ElseIf, Else, EndIf}
 use Rattle.fort_syntax.specs.declared.unit.Unit.{Unit as Routine}
-use Rattle.fort_model.specs.Trees.{carried, row_of}
 use Rattle.fort_model.specs.Conditions.{sight}
 use Rattle.fort_model.specs.Events.{Event, Take}
 use Rattle.fort_model.specs.Flow as flow
 use Rattle.fort_model.specs.Flow.{leads, leads_do, leads_computed, one_way, one_of, target, Loop, loops_at, loops_around, next_point, next_branch, through}
-use Rattle.fort_model.specs.Names.{subroutine}
 use Rattle.fort_model.specs.Program.{Program}
 use Rattle.fort_model.specs.Seen.{Named, Answers, Seen, See, ◌>>◌, see}
 use Rattle.fort_model.specs.Senses.{of_values, natural, make2, negated}

@@ -9,7 +9,8 @@ use Rattle.fort_syntax.specs.declared.condition.Kind.TheVariants.{AssertCheck, C
 use Rattle.fort_model.specs.Evaluate.{Scene}
 use Rattle.fort_model.specs.Events.{Event, Check, Take, checks}
 use Rattle.fort_model.specs.Paths.{Cut, NoCut, AtEnd, AtAssert}
-use Rattle.fort_model.specs.Program.{Program, Assertion, notes_of}
+use Rattle.fort_notes.specs.Assertions.{Assertion}
+use Rattle.fort_model.specs.Program.{Program, notes_of}
 use Rattle.fort_model.specs.Seen.{Named}
 use Rattle.fort_model.specs.Senses.{note}
 use Rattle.fort_model.specs.Symbols.{Symbol}

@@ -2,6 +2,7 @@
 use Rattle.std.proofs.Common.{◌≡◌, ℕ, suc, ◌<◌, ◌≤◌, Bool, true, false, cond, not, ◌&&◌, List, [], ◌∷◌, ◌++◌, refl, sym, ap, ◌∙◌, subst, arith, rules}
 use Rattle.std.specs.Prelude.{nat_le, ◌==◌}
 use Rattle.std.specs.List.{list_all}
+use Rattle.fort_syntax.specs.Conditions.{ConditionTree}
 use Rattle.formula.specs.declared.value.Value.{Value}
 use Rattle.formula.specs.Substitution.{substituted, row_substituted}
 use Rattle.formula.specs.Tree.{Tree, num, truth, symbol, old, apply, Row, none, more, row_of}
@@ -10,7 +11,7 @@ use Rattle.formula.specs.Worth.{Function, Valuation, used, worth, worth_by, wort
 use Rattle.fort_syntax.specs.declared.name.Name.{Name}
 use Rattle.fort_syntax.specs.declared.condition.Kind.{Kind}
 use Rattle.fort_syntax.specs.declared.unit.Unit.{Unit as Routine}
-use Rattle.fort_model.specs.Conditions.{Condition, sight, walked, checks_of, conditions_from, conditions_along, conditions_of_units, Site, sites_from, sites_along, sites_of_units, AreExactFor}
+use Rattle.fort_model.specs.Conditions.{sight, walked, checks_of, conditions_from, conditions_along, conditions_of_units, CheckSite, sites_from, sites_along, sites_of_units, AreExactFor}
 use Rattle.fort_model.specs.Events.{Event, Check, Take, Verdict, Fails, Off, verdict, verdict_from, reaches, fails_at, labels}
 use Rattle.fort_model.specs.Paths.{Path}
 use Rattle.fort_model.specs.Program.{Program}
@@ -226,7 +227,7 @@ module _ (fs : List Function) where
 
 -- ---- all of them
 
-append_exact : (fs : List Function) (cs : List Condition) (ss : List Site) (ds : List Condition) (ts : List Site)
+append_exact : (fs : List Function) (cs : List ConditionTree) (ss : List CheckSite) (ds : List ConditionTree) (ts : List CheckSite)
     → AreExactFor fs cs ss → AreExactFor fs ds ts → AreExactFor fs (cs ++ ds) (ss ++ ts)
 append_exact fs [] [] ds ts h k = k
 append_exact fs [] (x ∷ ss) ds ts h k = absurd h

@@ -1,12 +1,13 @@
 -- Where a walk along a path fails at a check, the condition of that check is false.
 use Rattle.std.proofs.Common.{◌≡◌, ℕ, zero, suc, ◌+◌, inl, inr, Bool, true, cond, List, [], ◌∷◌, ◌++◌, Some, slice_get, refl, sym, ap, ◌∙◌, subst, arith, rules}
 use Rattle.std.specs.Prelude.{◌==◌}
+use Rattle.fort_syntax.specs.Conditions.{ConditionTree}
 use Rattle.formula.specs.declared.value.Value.{Value}
 use Rattle.formula.specs.Worth.{Function, Valuation}
 use Rattle.fort_syntax.specs.declared.condition.Kind.{Kind}
 use Rattle.fort_syntax.specs.declared.name.Name.{Name}
 use Rattle.fort_syntax.specs.declared.unit.Unit.{Unit as Routine}
-use Rattle.fort_model.specs.Conditions.{Condition, walked, walked_by, checks_of, Site, sites_from, sites_along, sites_of_units, IsExactFor, AreExactFor, are_all_paths}
+use Rattle.fort_model.specs.Conditions.{walked, walked_by, checks_of, CheckSite, sites_from, sites_along, sites_of_units, IsExactFor, AreExactFor, are_all_paths}
 use Rattle.fort_model.specs.Events.{Event, Check, Take, Verdict, Fails, Off, verdict, verdict_from, fails_at, labels}
 use Rattle.fort_model.specs.Lists.{IsAmong}
 use Rattle.fort_model.specs.Paths.{Path, IsPath}
@@ -48,7 +49,7 @@ failing k kind card (Take v ∷ es) h =
 
 -- ---- sites
 
-abbrev site_of : Name → ℕ → ℕ → Kind × ℕ → (Valuation → List (Event Value)) → Site
+abbrev site_of : Name → ℕ → ℕ → Kind × ℕ → (Valuation → List (Event Value)) → CheckSite
 site_of unit path check label along = record { unit = unit; path = path; check = check; kind = label.0; card = label.1; walk = along }
 
 in_path : (unit : Name) (path k : ℕ) (ls : List (Kind × ℕ)) (along : Valuation → List (Event Value)) (j check : ℕ) (l : Kind × ℕ) → slice_get ls j ≡ Some l → check ≡ k + j
@@ -61,13 +62,13 @@ in_path unit path k (x ∷ ls) along zero check l at is =
 in_path unit path k (x ∷ ls) along (suc j) check l at is = let r = in_path unit path (suc k) ls along j check l at (omega arith) in (suc r.0, r.1)
 
 -- a site of a path, whatever the number of the path
-abbrev HasSite : Name → ℕ → Kind × ℕ → (Valuation → List (Event Value)) → List Site → Type 0
+abbrev HasSite : Name → ℕ → Kind × ℕ → (Valuation → List (Event Value)) → List CheckSite → Type 0
 HasSite unit check l along sites = (path : ℕ) × IsAmong (site_of unit path check l along) sites
 
-site_left : (unit : Name) (check : ℕ) (l : Kind × ℕ) (along : Valuation → List (Event Value)) (xs ys : List Site) → HasSite unit check l along xs → HasSite unit check l along (xs ++ ys)
+site_left : (unit : Name) (check : ℕ) (l : Kind × ℕ) (along : Valuation → List (Event Value)) (xs ys : List CheckSite) → HasSite unit check l along xs → HasSite unit check l along (xs ++ ys)
 site_left unit check l along xs ys h = (h.0, among_left (site_of unit h.0 check l along) xs ys h.1)
 
-site_right : (unit : Name) (check : ℕ) (l : Kind × ℕ) (along : Valuation → List (Event Value)) (xs ys : List Site) → HasSite unit check l along ys → HasSite unit check l along (xs ++ ys)
+site_right : (unit : Name) (check : ℕ) (l : Kind × ℕ) (along : Valuation → List (Event Value)) (xs ys : List CheckSite) → HasSite unit check l along ys → HasSite unit check l along (xs ++ ys)
 site_right unit check l along xs ys h = (h.0, among_right (site_of unit h.0 check l along) xs ys h.1)
 
 in_unit : (p : Program) (i : ℕ) (u : Routine) (n : ℕ) (paths : List Path) (k : ℕ) (path : Path) → slice_get paths k ≡ Some path → (j : ℕ) (l : Kind × ℕ) → slice_get (checks_of p i u path) j ≡ Some l
@@ -99,7 +100,7 @@ in_program p j (v ∷ us) (own ∷ all) (suc k) u paths at n is path from m l la
     (in_program p (suc j) us all k u paths.1 at n (omega arith) path from m l label)
 
 -- the condition of a site
-exact_at : (fs : List Function) (list : List Condition) (sites : List Site) → AreExactFor fs list sites → (n : ℕ) (site : Site) → slice_get sites n ≡ Some site → (c : Condition) × IsAmong c list × IsExactFor fs c site
+exact_at : (fs : List Function) (list : List ConditionTree) (sites : List CheckSite) → AreExactFor fs list sites → (n : ℕ) (site : CheckSite) → slice_get sites n ≡ Some site → (c : ConditionTree) × IsAmong c list × IsExactFor fs c site
 exact_at fs [] [] exact n site at = absurd cc
 exact_at fs [] (s ∷ sites) exact n site at = absurd exact
 exact_at fs (c ∷ cs) [] exact n site at = absurd exact
@@ -117,8 +118,8 @@ fails_here j v e =
     ap (λ (x : Verdict). fails_at x (suc j)) e ∙ (ap (λ (n : ℕ). suc n == suc j) none ∙ itself (suc j))
 
 -- the condition of a check at which a walk fails
-false_by : (fs : List Function) (list : List Condition) (unit : Name) (values : Symbol → Value) (kind : Kind) (card : ℕ) (spell : Spell values) (along : Valuation → List (Event Value)) (path j : ℕ)
-    → verdict (along spell.words) ≡ Fails (suc (0 + j)) → (c : Condition) → IsAmong c list → IsExactFor fs c (site_of unit path (suc j) (kind, card) along) → FalseCondition fs list unit values kind card
+false_by : (fs : List Function) (list : List ConditionTree) (unit : Name) (values : Symbol → Value) (kind : Kind) (card : ℕ) (spell : Spell values) (along : Valuation → List (Event Value)) (path j : ℕ)
+    → verdict (along spell.words) ≡ Fails (suc (0 + j)) → (c : ConditionTree) → IsAmong c list → IsExactFor fs c (site_of unit path (suc j) (kind, card) along) → FalseCondition fs list unit values kind card
 false_by fs list unit values kind card spell along path j v c among exact = record {
   condition = c;
   among = among;

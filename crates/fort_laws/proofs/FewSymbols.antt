@@ -11,7 +11,8 @@ use Rattle.fort_syntax.specs.declared.unit.Unit.{Unit as Routine}
 use Rattle.fort_model.specs.Evaluate.{Scene}
 use Rattle.fort_model.specs.Events.{Event, checks, takes}
 use Rattle.fort_model.specs.Paths.{AtAssert, cut_in, cut_at, IsWay, starts_at}
-use Rattle.fort_model.specs.Program.{Program, Assertion, notes_of, is_smashed, assertion_in, assertion_at}
+use Rattle.fort_notes.specs.Assertions.{Assertion}
+use Rattle.fort_model.specs.Program.{Program, notes_of, is_smashed, assertion_in, assertion_at}
 use Rattle.fort_model.specs.Seen.{Named, Answers, symbols_of_calls}
 use Rattle.fort_model.specs.Senses.{of_values, note}
 use Rattle.fort_model.specs.Symbols.{Symbol, LeastInteger, GreatestInteger, AtEntry, AtStart, ByCall}

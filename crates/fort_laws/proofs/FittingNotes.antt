@@ -2,6 +2,7 @@
 use Rattle.std.proofs.Common.{◌≡◌, Bool, true, false, ◌||◌, cond, List, [], ◌∷◌, ℕ, map, refl, sym, ap, ◌∙◌}
 use Rattle.std.specs.List.{list_all}
 use Rattle.std.specs.Prelude.{codes}
+use Rattle.fort_syntax.specs.Names.{data_name, has_role}
 use Rattle.formula.specs.Atoms.{same_bytes}
 use Rattle.formula.specs.Tree.{Tree, num, truth, symbol, old, apply, Row, none, more}
 use Rattle.formula.specs.declared.value.Value.{Value}
@@ -12,9 +13,7 @@ use Rattle.fort_syntax.specs.declared.unit.Role.{Role}
 use Rattle.fort_syntax.specs.declared.unit.Unit.{Unit as Routine}
 use Rattle.fort_model.specs.Correct.{bounds_of}
 use Rattle.fort_model.specs.Fitting.{names_pass, row_names_pass, may_name}
-use Rattle.fort_model.specs.Names.{data_name}
 use Rattle.fort_model.specs.Processor.{Processor}
-use Rattle.fort_model.specs.Program.{has_role}
 use Rattle.fort_model.specs.Seen.{Named}
 use Rattle.fort_model.specs.Senses.{of_values, note, with_bounds}
 use Rattle.fort_model.specs.Symbols.{Symbol, LeastInteger, GreatestInteger}

@@ -2,9 +2,11 @@
 use Rattle.std.proofs.Common.{◌≡◌, ℕ, zero, suc, ◌+◌, inl, inr, Bool, true, false, cond, not, ◌&&◌, ◌||◌, List, [], ◌∷◌, map, length, Option, Some, None, slice_get, nat_lt, refl, sym, ap, ◌∙◌, subst, arith}
 use Rattle.std.specs.Prelude.{◌==◌}
 use Rattle.std.specs.List.{list_any, list_all}
+use Rattle.fort_syntax.specs.Grammar.{is_carried}
+use Rattle.fort_syntax.specs.TreePatterns.{carried}
 use Rattle.fort_syntax.specs.UseRules.{has_label}
 use Rattle.fort_syntax.specs.Uses.{used_labels}
-use Rattle.fort_syntax.specs.WellFormed.{IsWellFormedUnit, is_right_statement, may_be_carried, has_right_form}
+use Rattle.fort_syntax.specs.WellFormed.{IsWellFormedUnit, is_right_statement, has_right_form}
 use Rattle.fort_syntax.specs.declared.dialect.Dialect.{Dialect}
 use Rattle.fort_syntax.specs.declared.dialect.Dialect.TheVariants.{Common as CommonDialect, SeventySeven}
 use Rattle.fort_syntax.specs.declared.expr.Expr.{Expr}
@@ -19,7 +21,6 @@ use Rattle.fort_model.specs.Lists.{IsAmong}
 use Rattle.fort_model.specs.Program.{Program}
 use Rattle.fort_model.specs.Ranges.{last_of_do, is_bad_last, is_bad_line, ends_badly, has_bad_last}
 use Rattle.fort_model.specs.Rules.{KeepsRules, ends_flow, off_end}
-use Rattle.fort_model.specs.Trees.{carried}
 use Rattle.fort_laws.specs.GoodDecks.{EndsAreReturns}
 use Rattle.fort_laws.specs.Ways.{IsReturn}
 use Rattle.fort_laws.proofs.BlocksClose.{IsAt, IsFork, fork_ends}
@@ -261,7 +262,7 @@ module _ (dialect : Dialect) (p : Program) (i : ℕ) (u : Routine) (is : slice_g
   labelled_to labels label cs q h m e = subst Inside (only_way (target u.lines label) q cs e) (h label m)
 
   -- what a logical IF carries
-  carried_leads : (pc : ℕ) (s : Stmt) → may_be_carried s ≡ true → Inside (suc pc) → Labelled (used_labels s) → Leads pc s
+  carried_leads : (pc : ℕ) (s : Stmt) → is_carried s ≡ true → Inside (suc pc) → Labelled (used_labels s) → Leads pc s
   carried_leads pc (Subroutine f dummies) t on labels cs q e n = absurd (cc)
   carried_leads pc (Function sort f dummies) t on labels cs q e n = absurd (cc)
   carried_leads pc (Declare sort items) t on labels cs q e n = absurd (cc)
@@ -282,7 +283,7 @@ module _ (dialect : Dialect) (p : Program) (i : ℕ) (u : Routine) (is : slice_g
   carried_leads pc Else t on labels cs q e n = absurd (cc)
   carried_leads pc EndIf t on labels cs q e n = absurd (cc)
 
-  condition_leads : (pc : ℕ) (s : Stmt) → may_be_carried s ≡ true → Inside (suc pc) → Labelled (used_labels s) → (c : Expr) → Leads pc (LogicalIf' c _ (carried s))
+  condition_leads : (pc : ℕ) (s : Stmt) → is_carried s ≡ true → Inside (suc pc) → Labelled (used_labels s) → (c : Expr) → Leads pc (LogicalIf' c _ (carried s))
   condition_leads pc s t on labels c [] q e n = absurd (cc)
   condition_leads pc s t on labels c (zero ∷ cs) q e n = absurd (cc)
   condition_leads pc s t on labels c (suc zero ∷ cs) q e n = carried_leads pc s t on labels cs q e n
@@ -299,7 +300,7 @@ module _ (dialect : Dialect) (p : Program) (i : ℕ) (u : Routine) (is : slice_g
   statement_leads pc (GoTo label) h cs q e n = outside q (labelled_to (label ∷ []) label cs q h.labels (0, refl) e) n
   statement_leads pc (Computed ls x) h cs q e n = outside q (computed_inside p.dialect pc ls cs x q h.on h.labels e) n
   statement_leads pc (ArithIf c k l m) h cs q e n = outside q (one_labelled (k ∷ l ∷ m ∷ []) cs q h.labels e) n
-  statement_leads pc (LogicalIf' c shape (carried s)) h cs q e n = condition_leads pc s (split (may_be_carried s) (has_right_form s) h.form).0 (h.on refl) h.labels c cs q e n
+  statement_leads pc (LogicalIf' c shape (carried s)) h cs q e n = condition_leads pc s (split (is_carried s) (has_right_form s) h.form).0 (h.on refl) h.labels c cs q e n
   statement_leads pc (Do label x first last step) h cs q e n = outside q (do_inside p.dialect pc label cs q (h.on refl) h.last e) n
   statement_leads pc Continue h cs q e n = outside q (behind_inside pc cs q (h.on refl) e) n
   statement_leads pc (Call f args) h cs q e n = outside q (behind_inside pc cs q (h.on refl) e) n

@@ -1,12 +1,12 @@
 -- A call changes only cells of names that the calling unit smashes, where runs of the called unit change only its own.
 use Rattle.std.proofs.Common.{◌≡◌, ℕ, ◌+◌, ◌-◌, ◌<◌, ◌≤◌, ◌⊎◌, inl, inr, Bool, true, false, List, length, take, Option, Some, None, slice_get, refl, sym, ap, ◌∙◌, subst, arith, length-take-le, get_or-take, ext_get_or}
+use Rattle.fort_syntax.specs.Names.{unit_at}
 use Rattle.formula.specs.declared.value.Cell.{Cell}
 use Rattle.formula.specs.declared.value.Cell.TheVariants.{Undefined}
 use Rattle.fort_syntax.specs.declared.unit.DataName.{DataName}
 use Rattle.fort_syntax.specs.declared.unit.Unit.{Unit as Routine}
 use Rattle.fort_model.specs.Calls.{Calls, callee_of}
 use Rattle.fort_model.specs.Fits.{IsIn, IsVisible}
-use Rattle.fort_model.specs.Names.{unit_at}
 use Rattle.fort_model.specs.Outcome.{Outcome, Ended, Erred, Running, and_then}
 use Rattle.fort_model.specs.Passing.{new_cells, Taken, Cells, Fresh, Passed, ByCopy, passed_by, passed, written_back, call}
 use Rattle.fort_model.specs.Processor.{Processor}

@@ -1,12 +1,12 @@
 -- What is claimed of runs to a depth, and of the calls that they make.
 use Rattle.std.proofs.Common.{◌≡◌, ℕ, Bool, List, Some, slice_get}
+use Rattle.fort_syntax.specs.Names.{unit_at}
 use Rattle.fort_syntax.specs.declared.unit.DataName.{DataName}
 use Rattle.fort_syntax.specs.declared.unit.Line.{Line}
 use Rattle.fort_syntax.specs.declared.unit.Unit.{Unit as Routine}
 use Rattle.fort_model.specs.Calls.{CallSite, sites_of, callee_of}
 use Rattle.fort_model.specs.Fits.{IsVisible, IsApart, HasShape}
 use Rattle.fort_model.specs.Lists.{IsAmong}
-use Rattle.fort_model.specs.Names.{unit_at}
 use Rattle.fort_model.specs.Passing.{Taken, passed, call}
 use Rattle.fort_model.specs.Processor.{Processor}
 use Rattle.fort_model.specs.Run.{run_within}

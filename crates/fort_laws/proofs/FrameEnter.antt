@@ -3,6 +3,8 @@ use Rattle.std.proofs.Common.{◌≡◌, ◌≢◌, ℕ, zero, suc, ◌+◌, ◌
 use Rattle.std.proofs.lemmas.List.{get_or_append_left}
 use Rattle.std.specs.Cmp.Lexicographic.{same_text, other_text}
 use Rattle.std.specs.List.{fold, list_all}
+use Rattle.formula.specs.Atoms.{same_bytes}
+use Rattle.fort_syntax.specs.Names.{is_own, own_in, own_names}
 use Rattle.formula.specs.declared.value.Cell.TheVariants.{Undefined}
 use Rattle.fort_syntax.specs.declared.name.Name.{Name}
 use Rattle.fort_syntax.specs.declared.stmt.Dim.{Dim}
@@ -14,7 +16,6 @@ use Rattle.fort_syntax.specs.declared.unit.Unit.{Unit as Routine}
 use Rattle.fort_model.specs.Cells.{num}
 use Rattle.fort_model.specs.Fits.{IsIn, IsVisible, IsApart, HasShape, is_good_dim, is_positive}
 use Rattle.fort_model.specs.Lists.{IsAmong}
-use Rattle.fort_model.specs.Names.{same_name, is_own, own_in, own_names}
 use Rattle.fort_model.specs.Places.{dim_value, dim_values, stretch, size_of}
 use Rattle.fort_model.specs.Run.{own_sizes}
 use Rattle.fort_model.specs.Smashes.{Smashes}
@@ -25,13 +26,13 @@ use Rattle.fort_laws.proofs.FrameParts.{good_dims, size_of_stretch, IsOpen, Fram
 -- ---- equal names
 
 pub data SameOrNot (x y : Name) : Type 0 where
-  same : x ≡ y → same_name x y ≡ true → SameOrNot x y
-  other : x ≢ y → same_name x y ≡ false → SameOrNot x y
+  same : x ≡ y → same_bytes x y ≡ true → SameOrNot x y
+  other : x ≢ y → same_bytes x y ≡ false → SameOrNot x y
 
 pub same_or_not : (x y : Name) → SameOrNot x y
-same_or_not x y = by_test (same_name x y) refl
+same_or_not x y = by_test (same_bytes x y) refl
   where
-    by_test : (t : Bool) → same_name x y ≡ t → SameOrNot x y
+    by_test : (t : Bool) → same_bytes x y ≡ t → SameOrNot x y
     by_test true e = same (same_text x y (sym e)) e
     by_test false e = other (other_text x y (sym e)) e
 
@@ -48,10 +49,10 @@ module _ (size : DataName → ℕ) (env : Environment) where
   abbrev pub placed_at : List DataName → ℕ → Environment
   placed_at ds next x = with_extents (map (λ d. d.name) ds) (side_by_side (map size ds) next) env x
 
-  head_same : (d : DataName) (ds : List DataName) (next : ℕ) (x : Name) → same_name d.name x ≡ true → placed_at (d ∷ ds) next x ≡ record { first = next; size = size d }
+  head_same : (d : DataName) (ds : List DataName) (next : ℕ) (x : Name) → same_bytes d.name x ≡ true → placed_at (d ∷ ds) next x ≡ record { first = next; size = size d }
   head_same d ds next x e = ap (λ (t : Bool). cond t (record { first = next; size = size d }) (placed_at ds (next + size d) x)) e
 
-  head_other : (d : DataName) (ds : List DataName) (next : ℕ) (x : Name) → same_name d.name x ≡ false → placed_at (d ∷ ds) next x ≡ placed_at ds (next + size d) x
+  head_other : (d : DataName) (ds : List DataName) (next : ℕ) (x : Name) → same_bytes d.name x ≡ false → placed_at (d ∷ ds) next x ≡ placed_at ds (next + size d) x
   head_other d ds next x e = ap (λ (t : Bool). cond t (record { first = next; size = size d }) (placed_at ds (next + size d) x)) e
 
   -- a name among some

@@ -1,5 +1,7 @@
 -- Evaluating an expression changes no cell, where no FUNCTION smashes what its caller sees.
 use Rattle.std.proofs.Common.{◌≡◌, ℕ, ◌+◌, Bool, true, false, cond, suc, ◌&&◌, ℤ, List, [], ◌∷◌, length, Option, Some, None, slice_get, refl, sym, ap, ◌∙◌, subst, arith, ext_get_or}
+use Rattle.fort_syntax.specs.Names.{Element, applied, first_unit, is_function, function, subroutine, unit_at}
+use Rattle.formula.specs.Atoms.{same_bytes}
 use Rattle.formula.specs.declared.value.Cell.{Cell}
 use Rattle.formula.specs.declared.value.Cell.TheVariants.{Undefined}
 use Rattle.fort_syntax.specs.declared.expr.Expr.{Expr}
@@ -7,7 +9,6 @@ use Rattle.fort_syntax.specs.declared.unit.Unit.{Unit as Routine}
 use Rattle.fort_model.specs.Calls.{CallSite, Calls, sites_in, callee_of}
 use Rattle.fort_model.specs.Evaluate.{evaluate}
 use Rattle.fort_model.specs.Lists.{IsAmong}
-use Rattle.fort_model.specs.Names.{Element, applied, same_name, first_unit, is_function, function, subroutine, unit_at}
 use Rattle.fort_model.specs.Places.{dim_values}
 use Rattle.fort_syntax.specs.declared.name.Name.{Name}
 use Rattle.fort_syntax.specs.declared.stmt.Dim.{Dim}
@@ -48,9 +49,9 @@ left_true false b e = absurd (cc)
 
 function_is : (units : List Routine) (f : Name) (j : ℕ) (g : Routine) → function units f ≡ Some j → slice_get units j ≡ Some g → is_function g ≡ true
 function_is units f j g h e =
-    let r = first_is (λ u. is_function u && same_name u.name f) units 0 j h in
+    let r = first_is (λ u. is_function u && same_bytes u.name f) units 0 j h in
     let at : j ≡ r.0 = let q = r.1 in omega arith in
-    left_true (is_function g) (same_name g.name f) (r.2 g (ap (slice_get units) (sym at) ∙ e))
+    left_true (is_function g) (same_bytes g.name f) (r.2 g (ap (slice_get units) (sym at) ∙ e))
 
 -- storage after, where it is that before
 abbrev pub IsStill : Storage → Outcome Cell → Type 0

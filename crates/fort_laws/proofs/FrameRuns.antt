@@ -1,5 +1,6 @@
 -- A unit changes only cells of names that it smashes, where its calls do.
 use Rattle.std.proofs.Common.{◌≡◌, ℕ, zero, suc, cond, ℤ, pos, List, [], ◌∷◌, length, Option, Some, None, slice_get, refl, sym, ap, ◌∙◌, subst, arith}
+use Rattle.fort_syntax.specs.Names.{Applied, Element, Intrinsic, applied, applied_by, data_name_in, dims_of_data, dims_of, intrinsic, unit_at}
 use Rattle.formula.specs.declared.value.Cell.{Cell}
 use Rattle.fort_syntax.specs.declared.name.Name.{Name}
 use Rattle.fort_syntax.specs.declared.stmt.Dim.{Dim}
@@ -9,7 +10,6 @@ use Rattle.fort_syntax.specs.declared.unit.Unit.{Unit as Routine}
 use Rattle.fort_model.specs.Calls.{CallSite, callee_of}
 use Rattle.fort_model.specs.Fits.{IsIn, IsVisible, IsApart, HasShape}
 use Rattle.fort_model.specs.Lists.{IsAmong}
-use Rattle.fort_model.specs.Names.{Applied, Element, Intrinsic, applied, applied_by, data_name_in, dims_in, dims_of, intrinsic, unit_at}
 use Rattle.fort_model.specs.Outcome.{Outcome, Ended, Erred, Running, and_then, Act}
 use Rattle.fort_model.specs.Passing.{Taken, passed, call}
 use Rattle.fort_model.specs.Perform.{perform}
@@ -27,14 +27,14 @@ use Rattle.fort_laws.proofs.FrameParts.{ArePositive, IsOpen, Framed, Late, frame
 use Rattle.fort_laws.proofs.Kept.{AreIn, element_at, Comes, Keeps, does_stuck, keeps_give, keeps_step, keeps_then, keeps_before, keeps_perform}
 
 -- the data name that is an array before a bracket
-named_in : (ds : List DataName) (f : Name) (d : Dim) (dims : List Dim) → dims_in (data_name_in ds f) ≡ d ∷ dims → (e : DataName) × IsAmong e ds × (e.name ≡ f) × (e.dims ≡ d ∷ dims)
+named_in : (ds : List DataName) (f : Name) (d : Dim) (dims : List Dim) → dims_of_data (data_name_in ds f) ≡ d ∷ dims → (e : DataName) × IsAmong e ds × (e.name ≡ f) × (e.dims ≡ d ∷ dims)
 named_in [] f d dims h = absurd (cc)
 named_in (e ∷ ds) f d dims h = by_name (same_or_not e.name f) (named_in ds f d dims)
   where
-    by_name : SameOrNot e.name f → (dims_in (data_name_in ds f) ≡ d ∷ dims → (g : DataName) × IsAmong g ds × (g.name ≡ f) × (g.dims ≡ d ∷ dims)) → (g : DataName) × IsAmong g (e ∷ ds) × (g.name ≡ f) × (g.dims ≡ d ∷ dims)
-    by_name (same q t) rec = (e, (0, refl), q, sym (ap (λ b. dims_in (cond b (Some e) (data_name_in ds f))) t) ∙ h)
+    by_name : SameOrNot e.name f → (dims_of_data (data_name_in ds f) ≡ d ∷ dims → (g : DataName) × IsAmong g ds × (g.name ≡ f) × (g.dims ≡ d ∷ dims)) → (g : DataName) × IsAmong g (e ∷ ds) × (g.name ≡ f) × (g.dims ≡ d ∷ dims)
+    by_name (same q t) rec = (e, (0, refl), q, sym (ap (λ b. dims_of_data (cond b (Some e) (data_name_in ds f))) t) ∙ h)
     by_name (other q t) rec =
-        let r = rec (sym (ap (λ b. dims_in (cond b (Some e) (data_name_in ds f))) t) ∙ h) in
+        let r = rec (sym (ap (λ b. dims_of_data (cond b (Some e) (data_name_in ds f))) t) ∙ h) in
         (r.0, (suc r.1.0, r.1.1), r.2, r.3)
 
 abbrev dims_of_applied : Applied → List Dim

@@ -2,6 +2,8 @@
 use Rattle.std.proofs.Common.{◌≡◌, ◌≢◌, ℕ, zero, suc, ◌+◌, ◌<◌, ◌≤◌, ◌⊎◌, inl, inr, Bool, true, false, cond, ◌&&◌, ◌||◌, ℤ, pos, List, [], ◌∷◌, ◌++◌, length, Some, slice_get, refl, sym, ap, ◌∙◌, subst, arith, rules, length-append, get_or-append-add}
 use Rattle.std.proofs.lemmas.List.{get_or_append_left}
 use Rattle.std.specs.List.{list_all}
+use Rattle.formula.specs.Atoms.{same_bytes}
+use Rattle.fort_syntax.specs.Names.{data_name_in, data_name, dims_of_data, dims_of, is_own, has_common, has_role, is_in_common}
 use Rattle.formula.specs.declared.value.Cell.TheVariants.{Int, Undefined}
 use Rattle.fort_syntax.specs.declared.name.Name.{Name}
 use Rattle.fort_syntax.specs.declared.expr.Expr.{Expr}
@@ -17,10 +19,8 @@ use Rattle.fort_model.specs.Calls.{Calls}
 use Rattle.fort_model.specs.Cells.{num}
 use Rattle.fort_model.specs.Fits.{IsIn, IsVisible, IsApart, HasShape, is_good_dim, is_positive}
 use Rattle.fort_model.specs.Lists.{IsAmong}
-use Rattle.fort_model.specs.Names.{same_name, data_name_in, data_name, dims_in, dims_of, is_own}
 use Rattle.fort_model.specs.Passing.{Taken, Cells, Fresh, Passed, ByCopy, ByValue, passed_by, passed, seats, new_cells}
 use Rattle.fort_model.specs.Places.{dim_value, dim_values, stretch}
-use Rattle.fort_model.specs.Program.{has_common, has_role, is_in_common}
 use Rattle.fort_model.specs.Smashes.{Smashes, passes, shares}
 use Rattle.fort_model.specs.Storage.{Storage, Extent, Environment, load, with_extents}
 use Rattle.fort_laws.specs.Actuals.{IsPart, IsTakenAs, AreTakenAs}
@@ -35,21 +35,21 @@ use Rattle.fort_laws.proofs.StorageLaws.{width, widths, seat, seat_at, widths_ap
 pub clash : (b : Bool) → b ≡ true → b ≡ false → ⊥
 clash b t f = cc
 
-pub same_self : (x : Name) → same_name x x ≡ true
+pub same_self : (x : Name) → same_bytes x x ≡ true
 same_self x = pick (same_or_not x x)
   where
-    pick : SameOrNot x x → same_name x x ≡ true
+    pick : SameOrNot x x → same_bytes x x ≡ true
     pick (same e t) = t
     pick (other n t) = absurd (n refl)
 
-pub same_is : (x y : Name) → x ≡ y → same_name x y ≡ true
-same_is x y e = subst (λ (z : Name). same_name x z ≡ true) e (same_self x)
+pub same_is : (x y : Name) → x ≡ y → same_bytes x y ≡ true
+same_is x y e = subst (λ (z : Name). same_bytes x z ≡ true) e (same_self x)
 
 pub found_in : (ds : List DataName) (d : DataName) → ((e : DataName) → IsAmong e ds → e.name ≡ d.name → e ≡ d) → IsAmong d ds → data_name_in ds d.name ≡ Some d
 found_in [] d one m = absurd (cc)
 found_in (e ∷ ds) d one m = by_name (same_or_not e.name d.name) m (λ r. found_in ds d (λ f k q. one f (suc k.0, k.1) q) r)
   where
-    at_head : (t : Bool) → same_name e.name d.name ≡ t → data_name_in (e ∷ ds) d.name ≡ cond t (Some e) (data_name_in ds d.name)
+    at_head : (t : Bool) → same_bytes e.name d.name ≡ t → data_name_in (e ∷ ds) d.name ≡ cond t (Some e) (data_name_in ds d.name)
     at_head t q = ap (λ (b : Bool). cond b (Some e) (data_name_in ds d.name)) q
 
     by_name : SameOrNot e.name d.name → IsAmong d (e ∷ ds) → (IsAmong d ds → data_name_in ds d.name ≡ Some d) → data_name_in (e ∷ ds) d.name ≡ Some d
@@ -133,7 +133,7 @@ old_cells u env (Apply' f shape args) e named fit =
     record {
       its = fit.its;
       among = fit.among;
-      mentioned = either (same_name f fit.its.name) (row_mentions args fit.its.name) (same_is f fit.its.name (sym fit.name));
+      mentioned = either (same_bytes f fit.its.name) (row_mentions args fit.its.name) (same_is f fit.its.name (sym fit.name));
       low = subst (λ (z : Name). (env z).first ≤ e.first) (sym fit.name) fit.low;
       high = subst (λ (z : Name). e.first + e.size ≤ (env z).first + (env z).size) (sym fit.name) fit.high;
     }
@@ -554,7 +554,7 @@ module _ (units : List Routine) (i j : ℕ) (c : Calls units i j) (of_caller : I
 
   whole_shape : (y : Name) (x : Taken) → HasName c.caller y → x ≡ Cells (env y) → ActualShape (Var y) x
   whole_shape y x has q =
-      let dims : has.its.dims ≡ dims_of c.caller y = ap dims_in (sym (found units i c.caller of_caller has.its has.among y has.name)) in
+      let dims : has.its.dims ≡ dims_of c.caller y = ap dims_of_data (sym (found units i c.caller of_caller has.its has.among y has.name)) in
       let shape : HasShape env st has.its = placed.shapes has.its has.among in
       record {
         size = ap (λ (t : Taken). pos (taken_size t)) q ∙ (ap (λ (w : Name). pos (env w).size) (sym has.name) ∙ (shape.size ∙ ap (λ (ds : List Dim). stretch (dim_values env st ds)) dims));

@@ -1,5 +1,8 @@
 -- Typed statements are good: what they write may be written, where smashed names lie apart.
 use Rattle.std.proofs.Common.{◌≡◌, ℕ, suc, Bool, true, false, List, [], ◌∷◌, Some, slice_get, refl, sym, ◌∙◌, subst}
+use Rattle.formula.specs.Atoms.{same_bytes}
+use Rattle.fort_syntax.specs.Names.{is_function}
+use Rattle.fort_syntax.specs.TreePatterns.{carried}
 use Rattle.fort_syntax.specs.declared.name.Name.{Name}
 use Rattle.fort_syntax.specs.declared.dialect.Sort.{Sort}
 use Rattle.fort_syntax.specs.declared.expr.Expr.{Expr}
@@ -14,10 +17,8 @@ use Rattle.fort_syntax.specs.declared.unit.Unit.{Unit as Routine}
 use Rattle.fort_model.specs.Fits.{IsIn}
 use Rattle.fort_model.specs.Flow.{target, Loop, loops_at, loops_around}
 use Rattle.fort_model.specs.Lists.{IsAmong}
-use Rattle.fort_model.specs.Names.{same_name, is_function}
 use Rattle.fort_model.specs.Smashes.{Smashes, sets, set_by, set_name}
 use Rattle.fort_model.specs.Storage.{Environment}
-use Rattle.fort_model.specs.Trees.{carried}
 use Rattle.fort_laws.specs.CallLaw.{LieApart}
 use Rattle.fort_laws.specs.Frame.{HasName, IsSoundUnit}
 use Rattle.fort_laws.specs.GoodStatements.{DimsAreOther, MayBeWritten, AreGoodLoops, IsLeft, HasLabels, HasResult, IsGood}
@@ -35,15 +36,15 @@ module _ (units : List Routine) (i : ℕ) (u : Routine) (sound : IsSoundUnit uni
     apart = λ y d e n k a b.
         let m = data_name_is u.names y d e in
         apart has.its d has.among m.0 (subst (λ (z : Name). Smashes units i z) (sym has.name) s)
-        (λ q. clash (same_name x y) (same_is x y (sym has.name ∙ (q ∙ m.1))) n) k
+        (λ q. clash (same_bytes x y) (same_is x y (sym has.name ∙ (q ∙ m.1))) n) k
         (subst (λ (z : Name). IsIn k (env z)) (sym has.name) a) (subst (λ (z : Name). IsIn k (env z)) (sym m.1) b);
     no_dim = λ y d e. no_dims d (data_name_is u.names y d e).0 d.dims (λ z k. k);
   }
     where
-      other_name : (z : Name) → (x ≡ z → ⊥) → same_name x z ≡ false
+      other_name : (z : Name) → (x ≡ z → ⊥) → same_bytes x z ≡ false
       other_name z n = pick (same_or_not x z)
         where
-          pick : SameOrNot x z → same_name x z ≡ false
+          pick : SameOrNot x z → same_bytes x z ≡ false
           pick (same q t) = absurd (n q)
           pick (other q t) = t
 

@@ -1,5 +1,7 @@
 -- Parts of runs that keep a property of storage, where parts of statements without calls do, and calls do.
 use Rattle.std.proofs.Common.{◌≡◌, ℕ, zero, suc, ◌+◌, Bool, true, false, cond, ℤ, pos, ◌-ℤ◌, List, [], ◌∷◌, ◌++◌, length, Option, Some, None, slice_get, nat_lt, refl, sym, ap, subst}
+use Rattle.fort_syntax.specs.TreePatterns.{only, carried, row_of, listed}
+use Rattle.fort_syntax.specs.Names.{Intrinsic, Absolute, Modulo, Greatest, Least, Applied, Element, BuiltIn, Reference, applied, unit_at}
 use mathlib.Core.Former.{Count}
 use Rattle.formula.specs.Values.{count, is_between}
 use Rattle.formula.specs.declared.value.Cell.{Cell}
@@ -19,11 +21,9 @@ use Rattle.fort_syntax.specs.declared.stmt.Param.TheVariants.{Fixed, Named}
 use Rattle.fort_syntax.specs.declared.stmt.Stmt.{Stmt}
 use Rattle.fort_syntax.specs.declared.stmt.Stmt.TheVariants.{Subroutine, Function, Declare, Dimension, Common as CommonBlock, Assign, GoTo, Computed, ArithIf, LogicalIf', Do, Continue, Call, Return, End, BlockIf, ElseIf, Else, EndIf}
 use Rattle.fort_model.specs.Lists.{IsAmong}
-use Rattle.fort_model.specs.Trees.{only, carried, row_of}
-use Rattle.fort_model.specs.Names.{Intrinsic, Absolute, Modulo, Greatest, Least, Applied, Element, BuiltIn, Reference, applied, unit_at}
 use Rattle.fort_model.specs.Sites.{calls_in}
 use Rattle.fort_model.specs.Flow.{target, Loop, loops_at, around}
-use Rattle.fort_model.specs.Calls.{CallSite, listed, own_site, sites_in, sites_in_row, sites_of, callee_of}
+use Rattle.fort_model.specs.Calls.{CallSite, own_site, sites_in, sites_in_row, sites_of, callee_of}
 use Rattle.fort_model.specs.Cells.{num, is_defined}
 use Rattle.fort_model.specs.Storage.{Storage, Extent, load, store}
 use Rattle.fort_model.specs.Places.{dim_values, place}

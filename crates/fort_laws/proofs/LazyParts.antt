@@ -1,5 +1,6 @@
 -- The parts of statements without calls, on a processor and on the lazy one.
 use Rattle.std.proofs.Common.{◌≡◌, ℕ, zero, suc, Bool, cond, ℤ, List, [], ◌∷◌, Option, Some, None, refl, subst}
+use Rattle.fort_syntax.specs.Names.{Intrinsic, Absolute, Modulo, Greatest, Least}
 use Rattle.formula.specs.declared.value.Cell.{Cell}
 use Rattle.fort_syntax.specs.declared.name.Name.{Name}
 use Rattle.fort_syntax.specs.declared.condition.Kind.TheVariants.{LoopCheck}
@@ -11,7 +12,6 @@ use Rattle.fort_syntax.specs.declared.stmt.Param.{Param}
 use Rattle.fort_syntax.specs.declared.stmt.Param.TheVariants.{Fixed, Named}
 use Rattle.fort_model.specs.Evaluate.{Scene, ranged, operate, power_on, intrinsic_value}
 use Rattle.fort_model.specs.Flow.{Loop}
-use Rattle.fort_model.specs.Names.{Intrinsic, Absolute, Modulo, Greatest, Least}
 use Rattle.fort_model.specs.Outcome.{Act}
 use Rattle.fort_model.specs.Perform.{write_cell, parameter, step_value, tests, go_on, begin, select}
 use Rattle.fort_model.specs.Processor.{Processor}

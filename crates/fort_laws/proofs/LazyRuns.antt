@@ -1,5 +1,6 @@
 -- Where a run of a strict processor ends, that of the lazy one does.
 use Rattle.std.proofs.Common.{◌≡◌, ℕ, zero, suc, ◌+◌, ◌-◌, Bool, true, false, List, length, Option, Some, None, slice_get, take, refl, sym, ap, ◌∙◌, subst, arith}
+use Rattle.fort_syntax.specs.Names.{unit_at}
 use Rattle.formula.specs.declared.value.Cell.{Cell}
 use Rattle.fort_syntax.specs.declared.unit.DataName.{DataName}
 use Rattle.fort_syntax.specs.declared.unit.Line.{Line}
@@ -9,7 +10,6 @@ use Rattle.fort_model.specs.Evaluate.{Scene}
 use Rattle.fort_model.specs.Fits.{IsVisible, IsApart, HasShape}
 use Rattle.fort_model.specs.Flow.{leads}
 use Rattle.fort_model.specs.Lists.{IsAmong}
-use Rattle.fort_model.specs.Names.{unit_at}
 use Rattle.fort_model.specs.Outcome.{Ended, Act, ◌>>=◌, ◌>>◌, give, stuck, held, put}
 use Rattle.fort_model.specs.Passing.{Taken, Passed, passed, written_back, call}
 use Rattle.fort_model.specs.Perform.{perform}

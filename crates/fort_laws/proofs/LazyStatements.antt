@@ -1,5 +1,7 @@
 -- Statements on a strict processor and on the lazy one, where the lazy one's calls follow the strict one's.
 use Rattle.std.proofs.Common.{◌≡◌, ℕ, suc, ◌+◌, Bool, true, false, cond, not, ◌&&◌, ◌||◌, ℤ, List, [], ◌∷◌, ◌++◌, length, refl, subst}
+use Rattle.fort_syntax.specs.TreePatterns.{listed, only, carried, row_of}
+use Rattle.fort_syntax.specs.Names.{Applied, Element, BuiltIn, Reference, applied, unit_at}
 use mathlib.Core.Former.{Count}
 use Rattle.formula.specs.declared.value.Cell.{Cell}
 use Rattle.formula.specs.declared.value.Cell.TheVariants.{Logical}
@@ -10,19 +12,17 @@ use Rattle.fort_syntax.specs.declared.stmt.Dim.{Dim}
 use Rattle.fort_syntax.specs.declared.stmt.Param.TheVariants.{Fixed, Named}
 use Rattle.fort_syntax.specs.declared.stmt.Stmt.{Stmt}
 use Rattle.fort_syntax.specs.declared.stmt.Stmt.TheVariants.{Subroutine, Function, Declare, Dimension, Common as CommonBlock, Assign, GoTo, Computed, ArithIf, LogicalIf', Do, Continue, Call, Return, End, BlockIf, ElseIf, Else, EndIf}
-use Rattle.fort_model.specs.Calls.{CallSite, listed, own_site, sites_in, sites_in_row, sites_of, callee_of}
+use Rattle.fort_model.specs.Calls.{CallSite, own_site, sites_in, sites_in_row, sites_of, callee_of}
 use Rattle.fort_model.specs.Cells.{num, holds}
 use Rattle.fort_model.specs.Evaluate.{Scene, valued, fresh, call_at, apply, taken, values, actuals, evaluate}
 use Rattle.fort_model.specs.Flow.{target}
 use Rattle.fort_model.specs.Lists.{IsAmong}
-use Rattle.fort_model.specs.Names.{Applied, Element, BuiltIn, Reference, applied, unit_at}
 use Rattle.fort_model.specs.Outcome.{Act, ◌>>=◌, give, step, stuck}
 use Rattle.fort_model.specs.Passing.{Taken, Fresh, passed, Caller, call}
 use Rattle.fort_model.specs.Perform.{perform}
 use Rattle.fort_model.specs.Places.{dim_values}
 use Rattle.fort_model.specs.Sites.{calls_in}
 use Rattle.fort_model.specs.Storage.{Storage, Extent}
-use Rattle.fort_model.specs.Trees.{only, carried, row_of}
 use Rattle.fort_laws.specs.Actuals.{IsTakenAs, AreTakenAs}
 use Rattle.fort_laws.proofs.Kept.{among_left, among_right, AreIn, listed_row, element_at, does_taken, does_actuals, keeps_valued, keeps_step}
 use Rattle.fort_laws.proofs.LazyFollows.{FollowsAt, FollowsAll, follows_on, follows_cond, all_then, all_before, all_give, sure, IsSame, Any, Leaves, follows_then, follows_without}

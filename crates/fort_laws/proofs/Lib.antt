@@ -1,7 +1,9 @@
+pub mod AlongPaths
 pub mod BlocksClose
 pub mod BothParts
 pub mod BothSenses
 pub mod BothWalks
+pub mod ByUnits
 pub mod CallAfter
 pub mod CallBack
 pub mod CallEntry
@@ -21,15 +23,15 @@ pub mod DeclaredUnits
 pub mod DeclaredUses
 pub mod Descents
 pub mod Entering
-pub mod ErrorsOnArrival
-pub mod ErrorsOnWays
-pub mod ErrorsParting
 pub mod ErrorsAtEntry
 pub mod ErrorsBlamed
 pub mod ErrorsChoices
 pub mod ErrorsLater
 pub mod ErrorsOfUnits
 pub mod ErrorsOfWalks
+pub mod ErrorsOnArrival
+pub mod ErrorsOnWays
+pub mod ErrorsParting
 pub mod Exact
 pub mod Falling
 pub mod FalseConditions
@@ -58,6 +60,8 @@ pub mod MatchedStatements
 pub mod MatchedTests
 pub mod Matching
 pub mod Near
+pub mod Numerals
+pub mod OnePath
 pub mod PlaceBounds
 pub mod Ranks
 pub mod References
@@ -82,6 +86,7 @@ pub mod UnitCalls
 pub mod ValidPaths
 pub mod WalkKeeps
 pub mod WitnessDown
+pub mod WitnessFacts
 pub mod WitnessLists
 pub mod WitnessNotes
 pub mod WitnessRotate

@@ -2,6 +2,8 @@
 -- errs where the walk's first false check is.
 use Rattle.std.proofs.Common.{◌≡◌, ℕ, zero, suc, ◌+◌, ◌<◌, ◌≤◌, ◌⊎◌, inl, inr, Bool, true, false, cond, not, ◌&&◌, ◌||◌, ℤ, pos, ◌-ℤ◌, List, [], ◌∷◌, length, Some, refl, sym, ap, ◌∙◌, subst, arith}
 use Rattle.std.specs.Prelude.{nat_lt, pred, neg_ℤ}
+use Rattle.fort_syntax.specs.TreePatterns.{listed, only}
+use Rattle.fort_syntax.specs.Names.{Applied, Element, BuiltIn, Reference, Intrinsic, Absolute, Modulo, Greatest, Least, applied, function, unit_at}
 use mathlib.Core.Former.{Count}
 use Rattle.formula.specs.declared.function.BuiltIn.TheVariants as f
 use Rattle.formula.specs.declared.value.Cell.{Cell}
@@ -18,14 +20,12 @@ use Rattle.fort_syntax.specs.declared.expr.Expr.{Expr, Row_of-Expr, end_of-Expr,
 use Rattle.fort_syntax.specs.declared.expr.Expr.TheVariants.{Const, Truth as TruthConstant, Var, Apply', Paren', Pos', Neg', Power', Bin', Rel', Not', And', Or'}
 use Rattle.fort_syntax.specs.declared.stmt.Dim.{Dim}
 use Rattle.fort_model.specs.Arguments.{data_sort, reference_sort, applied_sort, sort_of_expr}
-use Rattle.fort_model.specs.Calls.{listed}
 use Rattle.fort_model.specs.Cells.{num, holds as run_holds, compares}
 use Rattle.fort_model.specs.Conditions.{sight}
 use Rattle.fort_model.specs.Correct.{held_in}
 use Rattle.fort_model.specs.Evaluate as run
 use Rattle.fort_model.specs.Evaluate.{Scene}
 use Rattle.fort_model.specs.Fits.{has_sort}
-use Rattle.fort_model.specs.Names.{Applied, Element, BuiltIn, Reference, Intrinsic, Absolute, Modulo, Greatest, Least, applied, function, unit_at}
 use Rattle.fort_model.specs.Outcome.{Act, give}
 use Rattle.fort_model.specs.Passing.{Taken, Cells, Fresh, Caller, call, passed}
 use Rattle.fort_model.specs.Places.{dim_values, place, stretch}
@@ -33,11 +33,10 @@ use Rattle.fort_model.specs.Processor.{Processor, MeetsBound}
 use Rattle.fort_model.specs.Program.{Program}
 use Rattle.fort_model.specs.Seen.{Named, See, ◌>>=◌, see}
 use Rattle.fort_model.specs.Senses as sense
-use Rattle.fort_model.specs.Senses.{Sense, of_values}
+use Rattle.fort_model.specs.Senses.{of_values}
 use Rattle.fort_model.specs.Sites.{calls_in}
 use Rattle.fort_model.specs.Storage.{Storage, Extent, load, contents}
 use Rattle.fort_model.specs.Symbols.{Symbol, LeastInteger, GreatestInteger}
-use Rattle.fort_model.specs.Trees.{only}
 use Rattle.fort_model.specs.WalkCalls.{Sight, Operand, Bare, Part, Computed}
 use Rattle.fort_model.specs.WalkExpr as walk
 use Rattle.fort_model.specs.WalkPlaces as places

@@ -3,6 +3,8 @@
 use Rattle.std.proofs.Common.{◌≡◌, ℕ, zero, suc, ◌+◌, ◌<◌, Bool, true, false, cond, not, ◌&&◌, ℤ, pos, negsuc, ◌+ℤ◌, ◌-ℤ◌, List, [], ◌∷◌, map, length, Option, Some, slice_get, refl, sym, ap, ◌∙◌, subst, arith, rules}
 use Rattle.std.proofs.lemmas.Int.{ints}
 use Rattle.std.specs.Prelude.{int_le, int_lt, ◌==◌}
+use Rattle.fort_syntax.specs.Names.{Applied, is_function, subroutine, unit_at}
+use Rattle.fort_syntax.specs.TreePatterns.{carried, row_of}
 use mathlib.Core.Former.{Count}
 use Rattle.formula.specs.declared.function.BuiltIn.TheVariants as f
 use Rattle.formula.specs.declared.value.Cell.{Cell}
@@ -30,7 +32,6 @@ use Rattle.fort_model.specs.Conditions.{sight}
 use Rattle.fort_model.specs.Evaluate as run
 use Rattle.fort_model.specs.Evaluate.{Scene}
 use Rattle.fort_model.specs.Flow.{leads, target, loops_at, loops_around, behind, next_point, passed_over, leads_do, leads_computed, one_of, next_branch}
-use Rattle.fort_model.specs.Names.{Applied, is_function, subroutine, unit_at}
 use Rattle.fort_model.specs.Outcome.{Act, Ended, give, check, step}
 use Rattle.fort_model.specs.Passing.{Taken, Caller, call, passed}
 use Rattle.fort_model.specs.Perform as perform
@@ -38,11 +39,10 @@ use Rattle.fort_model.specs.Processor.{MeetsBound}
 use Rattle.fort_model.specs.Program.{Program}
 use Rattle.fort_model.specs.Seen.{Named, See, ◌>>=◌, ◌>>◌, see}
 use Rattle.fort_model.specs.Senses as sense
-use Rattle.fort_model.specs.Senses.{Sense, of_values}
+use Rattle.fort_model.specs.Senses.{of_values}
 use Rattle.fort_model.specs.Sites.{calls_in}
 use Rattle.fort_model.specs.Storage.{Storage, load, store}
 use Rattle.fort_model.specs.Symbols.{Symbol, LeastInteger, GreatestInteger}
-use Rattle.fort_model.specs.Trees.{carried, row_of}
 use Rattle.fort_model.specs.WalkCalls as walk_call
 use Rattle.fort_model.specs.WalkCalls.{Sight, Operand}
 use Rattle.fort_model.specs.WalkExpr as walk

@@ -1,14 +1,14 @@
 -- The calls in expressions are references to FUNCTIONs.
 use Rattle.std.proofs.Common.{◌≡◌, zero, suc, ◌⊎◌, inl, inr, true, List, [], ◌∷◌, ◌++◌}
+use Rattle.fort_syntax.specs.TreePatterns.{listed, only}
+use Rattle.fort_syntax.specs.Names.{Applied, Element, BuiltIn, Reference, applied}
 use mathlib.Core.Former.{Count}
 use Rattle.fort_syntax.specs.declared.name.Name.{Name}
 use Rattle.fort_syntax.specs.declared.expr.Expr.{Expr, Row_of-Expr, end_of-Expr, more_of-Expr}
 use Rattle.fort_syntax.specs.declared.expr.Expr.TheVariants.{Const, Truth, Var, Apply', Paren', Pos', Neg', Power', Bin', Rel', Not', And', Or'}
 use Rattle.fort_syntax.specs.declared.unit.Unit.{Unit as Routine}
-use Rattle.fort_model.specs.Calls.{CallSite, own_site, listed, sites_in, sites_in_row}
+use Rattle.fort_model.specs.Calls.{CallSite, own_site, sites_in, sites_in_row}
 use Rattle.fort_model.specs.Lists.{IsAmong}
-use Rattle.fort_model.specs.Names.{Applied, Element, BuiltIn, Reference, applied}
-use Rattle.fort_model.specs.Trees.{only}
 
 pub among_either : {A : Type 0} (a : A) (xs ys : List A) → IsAmong a (xs ++ ys) → IsAmong a xs ⊎ IsAmong a ys
 among_either a [] ys m = inr m

@@ -2,6 +2,7 @@
 use Rattle.std.proofs.Common.{◌≡◌, ℕ, suc, ◌+◌, Bool, true, false, cond, not, List, [], ◌∷◌, length, take, Option, Some, None, slice_get, refl, sym, ap, ◌∙◌, subst, arith, get_or-take}
 use Rattle.std.specs.List.{list_all}
 use Rattle.std.specs.Prelude.{is_some}
+use Rattle.fort_syntax.specs.Names.{data_name, is_function, is_own, has_role, is_local}
 use Rattle.formula.specs.declared.value.Cell.{Cell}
 use Rattle.formula.specs.declared.value.Cell.TheVariants as cell
 use Rattle.formula.specs.declared.value.Value.{Value}
@@ -20,10 +21,9 @@ use Rattle.fort_model.specs.Events.{checks}
 use Rattle.fort_model.specs.Fits.{IsVisible, IsApart, Fits, has_sort}
 use Rattle.fort_model.specs.Fitting.{FitsUnit, is_visible_role, is_bound, has_entry}
 use Rattle.fort_model.specs.Lists.{IsAmong}
-use Rattle.fort_model.specs.Names.{data_name, is_function, is_own}
 use Rattle.fort_model.specs.Outcome.{Outcome, Ended, and_then}
 use Rattle.fort_model.specs.Processor.{Processor}
-use Rattle.fort_model.specs.Program.{Program, notes_of, has_role, is_local}
+use Rattle.fort_model.specs.Program.{Program, notes_of}
 use Rattle.fort_model.specs.Run.{run, own_value, leave}
 use Rattle.fort_model.specs.Storage.{Storage, Environment, load}
 use Rattle.fort_model.specs.Walk.{at_entry}

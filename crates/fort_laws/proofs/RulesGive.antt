@@ -7,7 +7,8 @@ use Rattle.fort_syntax.specs.declared.unit.Unit.{Unit as Routine}
 use Rattle.fort_model.specs.Calls.{Reaches, directly, through}
 use Rattle.fort_model.specs.Lists.{IsAmong}
 use Rattle.fort_model.specs.Paths.{AtAssert, cut_at, Edge, Uncut, one, more}
-use Rattle.fort_model.specs.Program.{Program, Assertion, notes_of, assertion_at}
+use Rattle.fort_notes.specs.Assertions.{Assertion}
+use Rattle.fort_model.specs.Program.{Program, notes_of, assertion_at}
 use Rattle.fort_model.specs.Rules.{KeepsRules, is_bad_clock, bad_clocks, all_clocks, off_end}
 use Rattle.fort_laws.specs.Ways.{IsCutUp}
 use Rattle.fort_laws.proofs.FewSymbols.{numbered, assert_is}

@@ -11,17 +11,18 @@ use Rattle.fort_syntax.specs.declared.unit.DataName.{DataName}
 use Rattle.fort_syntax.specs.declared.unit.Line.{Line}
 use Rattle.fort_syntax.specs.declared.unit.Unit.{Unit as Routine}
 use Rattle.fort_model.specs.Arguments.{mentions, actual_for, gives_dim, dim_agrees, dims_agree, all_fit, fits_dummy, actuals_fit, reference_fits, same_sort_as, sort_of_expr, dims_of_actual}
-use Rattle.fort_model.specs.CallRules.{in_unit, of_unit, some_smashed, stands_elsewhere, bare_elsewhere, is_bare, is_bare_common, smashed_commons, passes_no_name, passes_twice, passes_common, some_call, mismatches}
+use Rattle.fort_model.specs.CallRules.{in_unit, of_unit, some_smashed, stands_elsewhere, bare_elsewhere, is_bare_name, is_bare_common, smashed_commons, passes_no_name, passes_twice, passes_common, some_call, mismatches}
 use Rattle.fort_model.specs.Calls.{CallSite, Calls, callee_of, sites_of}
 use Rattle.fort_model.specs.Lists.{IsAmong}
-use Rattle.fort_model.specs.Names.{is_function, is_own, same_name, data_name}
-use Rattle.fort_model.specs.Program.{Program, has_common, commons, is_smashed}
+use Rattle.fort_model.specs.Program.{Program, is_smashed}
 use Rattle.fort_model.specs.Rules.{KeepsRules, cards_of_lines, at_lines, function_smashes, dim_smashed}
 use Rattle.fort_model.specs.Smashes.{Smashes, HoldsSmashed}
 use Rattle.fort_syntax.specs.declared.stmt.Dim.{Dim}
 use Rattle.fort_syntax.specs.declared.stmt.Dim.TheVariants.{Fixed, Named}
 use Rattle.fort_model.specs.Walk.{is_dim, is_some_dim}
 use Rattle.std.specs.Cmp.Lexicographic.{same_text}
+use Rattle.fort_syntax.specs.Names.{is_function, is_own, data_name, has_common, commons}
+use Rattle.formula.specs.Atoms.{same_bytes}
 use Rattle.fort_laws.specs.Declared.{IsDimension, IsDeclared, AreDeclared, RulesMakeSound}
 use Rattle.fort_laws.specs.Frame.{PassesSmashedAlone, SharesBlocks, FunctionsSmashNothing, RulesPassSmashedAlone, IsDim, DimAgrees, DimsAgree, HasActual, IsSoundUnit, AreSound}
 use Rattle.fort_laws.proofs.FrameEnter.{SameOrNot, same, other, same_or_not}
@@ -102,7 +103,7 @@ smashed_passes smashed test n (y ∷ ys) (f ∷ fs) (suc k) d e h a s b =
     let at : n + suc k ≡ suc n + k = omega arith in
     ap (λ (m : ℕ). test m e) at ∙ smashed_passes smashed test (suc n) ys fs k d e (neither (smashed y && test n f) (some_smashed smashed test (suc n) ys fs) h).1 a s b
 
-bare_of : (e : Expr) → not (is_bare e) ≡ false → (x : Name) × (e ≡ Var x)
+bare_of : (e : Expr) → not (is_bare_name e) ≡ false → (x : Name) × (e ≡ Var x)
 bare_of (Var x) h = (x, refl)
 bare_of (Const n) h = absurd (cc)
 bare_of (Truth b) h = absurd (cc)
@@ -154,7 +155,7 @@ module _ (p : Program) (keeps : KeepsRules p) (table : HoldsSmashed p) (shares :
 
     passes_alone : PassesSmashedAlone c
     passes_alone = record {
-      bare = λ n d e a s b. bare_of e (smashed_passes (is_smashed p j) (λ n e. not (is_bare e)) 0 c.callee.dummies c.site.actuals n d e no_name a (listed j d s) b);
+      bare = λ n d e a s b. bare_of e (smashed_passes (is_smashed p j) (λ n e. not (is_bare_name e)) 0 c.callee.dummies c.site.actuals n d e no_name a (listed j d s) b);
       once = λ m n d x e unlike a s b q.
           elsewhere (0 + n) x 0 c.site.actuals m e (smashed_passes (is_smashed p j) (bare_elsewhere c.site.actuals) 0 c.callee.dummies c.site.actuals n d (Var x) twice a (listed j d s) b) q (λ z. unlike (omega arith));
       not_shared = λ n d x a s b caller callee.
@@ -195,7 +196,7 @@ found_actual [] es x e h = absurd (cc)
 found_actual (y ∷ ys) [] x e h = absurd (cc)
 found_actual (y ∷ ys) (f ∷ fs) x e h = by_name (same_or_not y x) (found_actual ys fs x e)
   where
-    at_head : (t : Bool) → same_name y x ≡ t → cond t (Some f) (actual_for ys fs x) ≡ Some e
+    at_head : (t : Bool) → same_bytes y x ≡ t → cond t (Some f) (actual_for ys fs x) ≡ Some e
     at_head t q = ap (λ (b : Bool). cond b (Some f) (actual_for ys fs x)) (sym q) ∙ h
 
     by_name : SameOrNot y x → (actual_for ys fs x ≡ Some e → (n : ℕ) × (slice_get ys n ≡ Some x) × (slice_get fs n ≡ Some e)) → (n : ℕ) × (slice_get (y ∷ ys) n ≡ Some x) × (slice_get (f ∷ fs) n ≡ Some e)

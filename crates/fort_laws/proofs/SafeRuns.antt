@@ -1,5 +1,7 @@
 -- Runs from which no walk fails come to the next cut point.
 use Rattle.std.proofs.Common.{◌≡◌, ℕ, zero, suc, Bool, true, false, ◌+◌, inl, inr, List, [], ◌∷◌, ◌++◌, map, Option, Some, None, slice_get, refl, sym, ap, ◌∙◌, subst, arith}
+use Rattle.fort_syntax.specs.TreePatterns.{carried}
+use Rattle.fort_syntax.specs.Names.{is_function}
 use Rattle.formula.specs.declared.value.Value.{Value}
 use Rattle.formula.specs.declared.value.Value.TheVariants.{Undefined}
 use Rattle.formula.specs.Tree.{Tree}
@@ -16,16 +18,15 @@ use Rattle.fort_syntax.specs.declared.stmt.Stmt.{Stmt}
 use Rattle.fort_syntax.specs.declared.stmt.Stmt.TheVariants.{Subroutine, Function as FunctionHead, Declare, Dimension, Common as CommonBlock, Assign, GoTo, Computed, ArithIf, LogicalIf', Do, Continue, Call, Return, End, BlockIf, ElseIf, Else, EndIf}
 use Rattle.fort_syntax.specs.declared.unit.Line.{Line}
 use Rattle.fort_syntax.specs.declared.unit.Unit.{Unit as Routine}
-use Rattle.fort_model.specs.Trees.{carried}
 use Rattle.fort_model.specs.Conditions.{sight}
 use Rattle.fort_model.specs.Evaluate.{Scene}
 use Rattle.fort_model.specs.Events.{Event, Check, Take, checks}
 use Rattle.fort_model.specs.Flow.{leads}
-use Rattle.fort_model.specs.Names.{is_function}
 use Rattle.fort_model.specs.Outcome.{Outcome, Ended, Act, and_then, step}
 use Rattle.fort_model.specs.Paths.{Cut, NoCut, AtEnd, AtAssert, cut_of, cut_in, cut_at, Edge, IsWay, over_or}
 use Rattle.fort_model.specs.Perform.{perform}
-use Rattle.fort_model.specs.Program.{Program, Assertion, Notes, notes_of, assertion_at}
+use Rattle.fort_notes.specs.Assertions.{Assertion, Notes}
+use Rattle.fort_model.specs.Program.{Program, notes_of, assertion_at}
 use Rattle.fort_model.specs.Run.{run, go_to, at_line}
 use Rattle.fort_model.specs.Seen.{Named, Answers}
 use Rattle.fort_model.specs.Senses.{of_values, note}

@@ -1,8 +1,9 @@
 -- Programs whose conditions are valid are right on strict processors.
 use Rattle.std.proofs.Common.{◌≡◌, ℕ, ◌+◌, false, List, Some, slice_get}
+use Rattle.fort_syntax.specs.Conditions.{ConditionTree}
 use Rattle.fort_syntax.specs.declared.unit.Unit.{Unit as Routine}
 use Rattle.fort_model.specs.Calls.{Calls}
-use Rattle.fort_model.specs.Conditions.{Condition, IsExact, AreValid}
+use Rattle.fort_model.specs.Conditions.{IsExact, AreValid}
 use Rattle.fort_model.specs.Processor.{Processor, MeetsBound}
 use Rattle.fort_model.specs.Program.{Program, notes_of}
 use Rattle.fort_model.specs.Rules.{KeepsRules}
@@ -19,7 +20,7 @@ use Rattle.fort_laws.proofs.RulesKept.{rules_make_sound, rules_pass_smashed_alon
 use Rattle.fort_laws.proofs.ValidPaths.{valid_conditions_make_paths_safe}
 
 module _ (program : Program) (keeps : KeepsRules program) (table : HoldsSmashed program) (declared : AreDeclared program.units) (calls : (i j : ℕ) (c : Calls program.units i j) → CallIsDeclared c)
-    (ready : (i : ℕ) (u : Routine) → slice_get program.units i ≡ Some u → IsReady program i u) (list : List Condition) (exact : IsExact program list) (valid : AreValid program.functions list)
+    (ready : (i : ℕ) (u : Routine) → slice_get program.units i ≡ Some u → IsReady program i u) (list : List ConditionTree) (exact : IsExact program list) (valid : AreValid program.functions list)
     (p : Processor) (strict : p.lazy ≡ false) (dialects : p.dialect ≡ program.dialect) (bounded : MeetsBound p program.bound) where
   -- units in the order of their calls
   right_by : (i : ℕ) → Ranked program.units i → (u : Routine) → slice_get program.units i ≡ Some u → IsRight p program i u

@@ -2,12 +2,17 @@
 use Rattle.std.proofs.Common.{◌≡◌, ℕ, suc, Bool, true, false, cond, not, ◌&&◌, ◌||◌, List, [], ◌∷◌, ◌++◌, flat_map, length, Option, Some, None, slice_get, nat_lt, refl, sym, ap, ◌∙◌, subst}
 use Rattle.std.specs.Prelude.{◌==◌}
 use Rattle.std.specs.List.{list_all}
-use Rattle.fort_syntax.specs.Scopes.{Scope, is_among, is_given_dims, is_array, is_intrinsic, is_integer_scalar, same_option}
+use Rattle.formula.specs.Atoms.{is_among}
+use Rattle.fort_syntax.specs.Cards.{is_given}
+use Rattle.fort_syntax.specs.Grammar.{is_carried}
+use Rattle.fort_syntax.specs.TreePatterns.{listed, carried, row_of}
+use Rattle.fort_syntax.specs.Names.{intrinsic, applied, applied_by, dims_of, is_function}
+use Rattle.fort_syntax.specs.Scopes.{Scope, is_given_dims, is_array, is_intrinsic, is_integer_scalar, same_option}
 use Rattle.fort_syntax.specs.TreePatterns as syntax
 use Rattle.fort_syntax.specs.TypeRules.{type_of, gives_logical, is_fit_param, is_fit_step, has_fit_places, has_fit_operands}
 use Rattle.fort_syntax.specs.Units.{class_of, is_performing}
 use Rattle.fort_syntax.specs.Uses.{occurrence, read, assigned, assigned_element, counted, actual, called, uses_in, uses_in_row, uses_on_left, uses_of_param, uses_of_step, uses_of, parts, parts_of_row, all_parts}
-use Rattle.fort_syntax.specs.WellFormed.{IsWellFormedUnit, names_of_unit, dims_among, scope_of_unit, is_left_side, is_given, may_be_carried, has_right_form}
+use Rattle.fort_syntax.specs.WellFormed.{IsWellFormedUnit, names_of_unit, scope_of_unit, is_left_side, has_right_form}
 use Rattle.fort_syntax.specs.declared.dialect.Dialect.{Dialect}
 use Rattle.fort_syntax.specs.declared.dialect.Sort.{Sort}
 use Rattle.fort_syntax.specs.declared.dialect.Sort.TheVariants.{Integer, Logical}
@@ -21,12 +26,10 @@ use Rattle.fort_syntax.specs.declared.stmt.Stmt.{Stmt}
 use Rattle.fort_syntax.specs.declared.stmt.Stmt.TheVariants.{Subroutine, Function, Declare, Dimension, Common, Assign, GoTo, Computed, ArithIf, LogicalIf', Do, Continue, Call, Return, End, BlockIf, ElseIf, Else, EndIf}
 use Rattle.fort_syntax.specs.declared.unit.Line.{Line}
 use Rattle.fort_syntax.specs.declared.unit.Unit.{Unit as Routine}
-use Rattle.fort_model.specs.Calls.{CallSite, own_site, listed, sites_in, sites_in_row, sites_of}
+use Rattle.fort_model.specs.Calls.{CallSite, own_site, sites_in, sites_in_row, sites_of}
 use Rattle.fort_model.specs.Flow.{target, Loop, loop_of, loops_from, loops_at, around}
 use Rattle.fort_model.specs.Lists.{IsAmong}
-use Rattle.fort_model.specs.Names.{intrinsic, applied, applied_by, dims_of, is_function}
 use Rattle.fort_model.specs.Program.{Program}
-use Rattle.fort_model.specs.Trees.{carried, row_of}
 use Rattle.fort_laws.specs.Called.{IsReferenceTo, IsCallTo}
 use Rattle.fort_laws.specs.GoodDecks.{StatementsAreTyped}
 use Rattle.fort_laws.specs.GoodStatements.{IsParameter, IsStep}
@@ -34,7 +37,7 @@ use Rattle.fort_laws.specs.TypedStatements.{AreTypedLoops, IsTypedElement, IsTyp
 use Rattle.fort_laws.specs.Typed.{IsScalar, IsTyped, AreInteger}
 use Rattle.fort_laws.specs.Ways.{IsExecutable}
 use Rattle.fort_laws.proofs.DeclaredCalls.{called_in_text, referred_in_text}
-use Rattle.fort_laws.proofs.DeclaredNames.{IsNamed, same_dims_told, named_data}
+use Rattle.fort_laws.proofs.DeclaredNames.{IsNamed, named_data}
 use Rattle.fort_laws.proofs.DeclaredTypes as types
 use Rattle.fort_laws.proofs.DeclaredTypes.{AreReferred, AreFit, fit_left, fit_right}
 use Rattle.fort_laws.proofs.DeclaredUnits as unit
@@ -47,7 +50,7 @@ use Rattle.fort_laws.proofs.Tests.{all_among}
 -- ---- forms
 
 -- what a logical IF may carry is executable
-carried_performs : (s : Stmt) → may_be_carried s ≡ true → is_performing (class_of s) ≡ true
+carried_performs : (s : Stmt) → is_carried s ≡ true → is_performing (class_of s) ≡ true
 carried_performs (Assign left right) h = refl
 carried_performs (GoTo label) h = refl
 carried_performs (Computed labels x) h = refl
@@ -127,7 +130,7 @@ module _ (dialect : Dialect) (p : Program) (i : ℕ) (u : Routine) (is : slice_g
   -- the statement that a logical IF carries
   fit_carried : (e : Expr) (s : Stmt) → IsFitLine (LogicalIf' e _ (carried s)) → IsFitLine s
   fit_carried e s h =
-      let form = split (may_be_carried s) (has_right_form s) h.form in
+      let form = split (is_carried s) (has_right_form s) h.form in
       record {
         performs = carried_performs s form.0;
         form = form.1;
@@ -249,9 +252,9 @@ module _ (dialect : Dialect) (p : Program) (i : ℕ) (u : Routine) (is : slice_g
     left_side (Not' shape a) t h fit refer = absurd (cc)
     left_side (And' q a r b) t h fit refer = absurd (cc)
     left_side (Or' q a r b) t h fit refer = absurd (cc)
-    left_side (Apply' f shape args) t h fit refer = (d.its.sort, type_is, element (dims_among u.names f) refl)
+    left_side (Apply' f shape args) t h fit refer = (d.its.sort, type_is, element (dims_of u f) refl)
       where
-        r : (is_array scope f ≡ true) × (not (is_array scope f && (length (syntax.listed args) == length (dims_among u.names f))) ≡ false)
+        r : (is_array scope f ≡ true) × (not (is_array scope f && (length (syntax.listed args) == length (dims_of u f))) ≡ false)
         r = right_first u f (assigned_element (length (syntax.listed args))) (uses_in_row read args) h
 
         data_is : is_among f (names_of_unit u) ≡ true
@@ -263,8 +266,8 @@ module _ (dialect : Dialect) (p : Program) (i : ℕ) (u : Routine) (is : slice_g
         type_is : type_of scope (Apply' f shape args) ≡ Some d.its.sort
         type_is = types.array_sort dialect u w f r.0 ∙ d.sort u.functions
 
-        many : length (syntax.listed args) ≡ length (dims_among u.names f)
-        many = types.same_number _ _ (split (is_array scope f) (length (syntax.listed args) == length (dims_among u.names f)) (not_not _ r.1)).1
+        many : length (syntax.listed args) ≡ length (dims_of u f)
+        many = types.same_number _ _ (split (is_array scope f) (length (syntax.listed args) == length (dims_of u f)) (not_not _ r.1)).1
 
         subscripts : AreInteger u IsReference args
         subscripts =
@@ -272,10 +275,10 @@ module _ (dialect : Dialect) (p : Program) (i : ℕ) (u : Routine) (is : slice_g
             (types.referred_right dialect u w IsReference (own_site (applied u f) f (listed args)) (sites_in_row u args) refer)
             (types.integers_demanded dialect u w f (syntax.listed args) (fit (Apply' f shape args) (0, refl)) (ap (λ b. b || is_intrinsic scope f) r.0))
 
-        element : (ds : List Dim) → dims_among u.names f ≡ ds → IsTypedElement u IsReference IsCall d.its.sort f args
+        element : (ds : List Dim) → dims_of u f ≡ ds → IsTypedElement u IsReference IsCall d.its.sort f args
         element [] e = absurd (clash (is_array scope f) r.0 (ap is_given_dims e))
         element (b ∷ bs) e =
-            let dims_are : dims_of u f ≡ b ∷ bs = same_dims_told u.names f ∙ e in
+            let dims_are : dims_of u f ≡ b ∷ bs = e in
             record {
               dim = b;
               dims = bs;

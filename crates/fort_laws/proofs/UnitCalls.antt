@@ -1,6 +1,7 @@
 -- The calls of a unit match, where the units that they are of are right.
 use Rattle.std.proofs.Common.{◌≡◌, ℕ, true, cond, Bool, List, Option, Some, sym, ap, ◌∙◌, subst}
 use Rattle.std.specs.Prelude.{is_some}
+use Rattle.fort_syntax.specs.Names.{function, subroutine, unit_at}
 use Rattle.formula.specs.declared.value.Cell.{Cell}
 use Rattle.formula.specs.declared.value.Cell.TheVariants as cell
 use Rattle.formula.specs.declared.value.Value.{Value}
@@ -14,7 +15,6 @@ use Rattle.fort_model.specs.Calls.{Calls, callee_of}
 use Rattle.fort_model.specs.Cells.{is_defined}
 use Rattle.fort_model.specs.Conditions.{sight}
 use Rattle.fort_model.specs.Fits.{has_sort}
-use Rattle.fort_model.specs.Names.{function, subroutine, unit_at}
 use Rattle.fort_model.specs.Outcome.{Act}
 use Rattle.fort_model.specs.Passing.{Taken, call, passed}
 use Rattle.fort_model.specs.Processor.{Processor}

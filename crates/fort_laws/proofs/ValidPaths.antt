@@ -1,13 +1,14 @@
 -- Where an exact list of conditions is valid, no walk along a path fails at a check.
 use Rattle.std.proofs.Common.{◌≡◌, ℕ, zero, suc, ◌+◌, ◌<◌, ◌≤◌, inl, inr, Bool, true, false, cond, not, IsTrue, List, [], ◌∷◌, ◌++◌, length, Some, slice_get, refl, sym, ap, ◌∙◌, subst, arith, rules}
 use Rattle.std.specs.Prelude.{◌==◌}
+use Rattle.fort_syntax.specs.Conditions.{ConditionTree}
 use Rattle.formula.specs.declared.value.Value.{Value}
 use Rattle.formula.specs.Worth.{Function, Valuation, nothing_known, is_false_under}
 use Rattle.formula.proofs.OnSheet.{assignments_suffice}
 use Rattle.fort_syntax.specs.declared.condition.Kind.{Kind}
 use Rattle.fort_syntax.specs.declared.name.Name.{Name}
 use Rattle.fort_syntax.specs.declared.unit.Unit.{Unit as Routine}
-use Rattle.fort_model.specs.Conditions.{Condition, walked, walked_by, checks_of, Site, sites_from, sites_along, sites_of_units, AreExactFor, AreValid, are_all_paths}
+use Rattle.fort_model.specs.Conditions.{walked, walked_by, checks_of, CheckSite, sites_from, sites_along, sites_of_units, AreExactFor, AreValid, are_all_paths}
 use Rattle.fort_model.specs.Events.{Event, Check, Take, Verdict, Fails, Off, verdict, verdict_from, fails_at, labels}
 use Rattle.fort_model.specs.Lists.{IsAmong}
 use Rattle.fort_model.specs.Paths.{Path, IsPath}
@@ -25,10 +26,10 @@ use Rattle.fort_laws.proofs.SpelledSymbols.{words_tell_symbols}
 -- ---- checks at which no walk fails
 
 -- whatever words stand for, the walk of a site does not fail at its check
-abbrev IsHeld : Site → Type 0
+abbrev IsHeld : CheckSite → Type 0
 IsHeld site = (words : Valuation) → fails_at (verdict (site.walk words)) site.check ≡ false
 
-abbrev AreHeld : List Site → Type 0
+abbrev AreHeld : List CheckSite → Type 0
 AreHeld [] = Unit {0}
 AreHeld (site ∷ sites) = IsHeld site × AreHeld sites
 
@@ -36,7 +37,7 @@ not_true : (b : Bool) → IsTrue (not b) → b ≡ false
 not_true false h = refl
 not_true true h = let bad : false ≡ true = h in absurd cc
 
-valid_held : (fs : List Function) (list : List Condition) (sites : List Site) → AreExactFor fs list sites → AreValid fs list → AreHeld sites
+valid_held : (fs : List Function) (list : List ConditionTree) (sites : List CheckSite) → AreExactFor fs list sites → AreValid fs list → AreHeld sites
 valid_held fs [] [] exact valid = tt
 valid_held fs [] (site ∷ sites) exact valid = absurd exact
 valid_held fs (c ∷ cs) [] exact valid = absurd exact
@@ -45,11 +46,11 @@ valid_held fs (c ∷ cs) (site ∷ sites) exact valid = (
   valid_held fs cs sites exact.1 valid.1,
 )
 
-held_front : (xs ys : List Site) → AreHeld (xs ++ ys) → AreHeld xs
+held_front : (xs ys : List CheckSite) → AreHeld (xs ++ ys) → AreHeld xs
 held_front [] ys h = tt
 held_front (x ∷ xs) ys h = (h.0, held_front xs ys h.1)
 
-held_back : (xs ys : List Site) → AreHeld (xs ++ ys) → AreHeld ys
+held_back : (xs ys : List CheckSite) → AreHeld (xs ++ ys) → AreHeld ys
 held_back [] ys h = h
 held_back (x ∷ xs) ys h = held_back xs ys h.1
 

@@ -2,6 +2,9 @@
 use Rattle.std.proofs.Common.{◌≡◌, ℕ, zero, suc, ◌⊎◌, inl, inr, Bool, true, false, cond, ◌&&◌, ◌||◌, List, [], ◌∷◌, ◌++◌, Option, Some, None, slice_get, refl, sym, ap, ◌∙◌, subst, arith}
 use Rattle.std.specs.Prelude.{◌==◌, nat_lt}
 use Rattle.std.specs.List.{list_any, filter}
+use Rattle.fort_syntax.specs.TreePatterns.{listed, only, carried, row_of}
+use Rattle.fort_syntax.specs.Names.{Applied, Element, BuiltIn, Reference, applied, subroutine, has_common, commons}
+use Rattle.formula.specs.Atoms.{same_bytes, is_among}
 use mathlib.Core.Former.{Count}
 use Rattle.fort_syntax.specs.declared.name.Name.{Name}
 use Rattle.fort_syntax.specs.declared.dialect.Dialect.{Dialect}
@@ -12,14 +15,12 @@ use Rattle.fort_syntax.specs.declared.stmt.Stmt.{Stmt}
 use Rattle.fort_syntax.specs.declared.stmt.Stmt.TheVariants.{Subroutine, Function as FunctionHead, Declare, Dimension, Common as CommonBlock, Assign, GoTo, Computed as ComputedGoTo, ArithIf, LogicalIf', Do, Continue, Call, Return, End, BlockIf, ElseIf, Else, EndIf}
 use Rattle.fort_syntax.specs.declared.unit.Line.{Line}
 use Rattle.fort_syntax.specs.declared.unit.Unit.{Unit as Routine}
-use Rattle.fort_model.specs.Calls.{CallSite, Calls, listed, sites_in, sites_of}
+use Rattle.fort_model.specs.Calls.{CallSite, Calls, sites_in, sites_of}
 use Rattle.fort_model.specs.Flow.{Loop, loops_at, around, loops_around}
 use Rattle.fort_model.specs.Lists.{IsAmong}
-use Rattle.fort_model.specs.Names.{Applied, Element, BuiltIn, Reference, applied, same_name, subroutine}
-use Rattle.fort_model.specs.Program.{is_among, is_smashed, has_common, commons}
+use Rattle.fort_model.specs.Program.{is_smashed}
 use Rattle.fort_model.specs.Seen.{Named, Answers, See}
 use Rattle.fort_model.specs.Smashes.{Smashes, sets, passes, shares, HoldsSmashed, set_name, set_by}
-use Rattle.fort_model.specs.Trees.{only, carried, row_of}
 use Rattle.fort_model.specs.WalkCalls.{Sight, Operand, Bare, Part, Computed, smashed_actuals, smashed_commons, hits, call, call_in}
 use Rattle.fort_model.specs.WalkExpr.{apply, operand, operands, values}
 use Rattle.fort_model.specs.WalkStmt.{with_name, assign, tests, behind, passed_over, entered, begin, select, selected, performed}
@@ -52,19 +53,19 @@ both : (a b : Bool) → (a && b) ≡ true → (a ≡ true) × (b ≡ true)
 both true b h = (refl, h)
 both false b h = absurd (grind arith)
 
-in_filter : (test : Name → Bool) (zs : List Name) (y : Name) → is_among (filter test zs) y ≡ true → IsAmong y zs × (test y ≡ true)
+in_filter : (test : Name → Bool) (zs : List Name) (y : Name) → is_among y (filter test zs) ≡ true → IsAmong y zs × (test y ≡ true)
 in_filter test [] y h = absurd (grind arith)
 in_filter test (z ∷ zs) y h = by_test (test z) refl h (λ k. later (in_filter test zs y k))
   where
     later : IsAmong y zs × (test y ≡ true) → IsAmong y (z ∷ zs) × (test y ≡ true)
     later k = ((suc k.0.0, k.0.1), k.1)
 
-    by_name : test z ≡ true → SameOrNot y z → (same_name y z || is_among (filter test zs) y) ≡ true → (is_among (filter test zs) y ≡ true → IsAmong y (z ∷ zs) × (test y ≡ true))
+    by_name : test z ≡ true → SameOrNot y z → (same_bytes y z || is_among y (filter test zs)) ≡ true → (is_among y (filter test zs) ≡ true → IsAmong y (z ∷ zs) × (test y ≡ true))
         → IsAmong y (z ∷ zs) × (test y ≡ true)
     by_name e (same q t) k on = ((0, ap Some (sym q)), ap test q ∙ e)
-    by_name e (other n t) k on = on (ap (λ b. b || is_among (filter test zs) y) (sym t) ∙ k)
+    by_name e (other n t) k on = on (ap (λ b. b || is_among y (filter test zs)) (sym t) ∙ k)
 
-    by_test : (b : Bool) → test z ≡ b → is_among (cond b (z ∷ filter test zs) (filter test zs)) y ≡ true → (is_among (filter test zs) y ≡ true → IsAmong y (z ∷ zs) × (test y ≡ true))
+    by_test : (b : Bool) → test z ≡ b → is_among y (cond b (z ∷ filter test zs) (filter test zs)) ≡ true → (is_among y (filter test zs) ≡ true → IsAmong y (z ∷ zs) × (test y ≡ true))
         → IsAmong y (z ∷ zs) × (test y ≡ true)
     by_test false e k on = on k
     by_test true e k on = by_name e (same_or_not y z) k on
@@ -171,7 +172,7 @@ module _ {V : Type 0} (w : Sight V) (y : Name) where
   further : (smashed : Name → Bool) (d : Name) (ds : List Name) (x : Operand V) (xs : List (Operand V)) → Hit smashed ds xs → Hit smashed (d ∷ ds) (x ∷ xs)
   further smashed d ds x xs h = record { at = suc h.at; dummy = h.dummy; its = h.its; is_dummy = h.is_dummy; is_smashed = h.is_smashed; is_bare = h.is_bare }
 
-  hit : (smashed : Name → Bool) (ds : List Name) (xs : List (Operand V)) → is_among (smashed_actuals w smashed ds xs) y ≡ true → Hit smashed ds xs
+  hit : (smashed : Name → Bool) (ds : List Name) (xs : List (Operand V)) → is_among y (smashed_actuals w smashed ds xs) ≡ true → Hit smashed ds xs
   hit smashed [] xs h = absurd (grind arith)
   hit smashed (d ∷ ds) [] h = absurd (grind arith)
   hit smashed (d ∷ ds) (Part v ∷ xs) h = further smashed d ds (Part v) xs (hit smashed ds xs h)
@@ -181,11 +182,11 @@ module _ {V : Type 0} (w : Sight V) (y : Name) where
       rest : List Name
       rest = smashed_actuals w smashed ds xs
 
-      by_name : smashed d ≡ true → SameOrNot y x → (same_name y x || is_among rest y) ≡ true → (is_among rest y ≡ true → Hit smashed (d ∷ ds) (Bare x v ∷ xs)) → Hit smashed (d ∷ ds) (Bare x v ∷ xs)
+      by_name : smashed d ≡ true → SameOrNot y x → (same_bytes y x || is_among y rest) ≡ true → (is_among y rest ≡ true → Hit smashed (d ∷ ds) (Bare x v ∷ xs)) → Hit smashed (d ∷ ds) (Bare x v ∷ xs)
       by_name e (same q t) k on = record { at = 0; dummy = d; its = v; is_dummy = refl; is_smashed = e; is_bare = ap (λ (z : Name). Some (Bare z v)) (sym q) }
-      by_name e (other n t) k on = on (ap (λ b. b || is_among rest y) (sym t) ∙ k)
+      by_name e (other n t) k on = on (ap (λ b. b || is_among y rest) (sym t) ∙ k)
 
-      by_test : (b : Bool) → smashed d ≡ b → is_among (cond b (x ∷ rest) rest) y ≡ true → (is_among rest y ≡ true → Hit smashed (d ∷ ds) (Bare x v ∷ xs)) → Hit smashed (d ∷ ds) (Bare x v ∷ xs)
+      by_test : (b : Bool) → smashed d ≡ b → is_among y (cond b (x ∷ rest) rest) ≡ true → (is_among y rest ≡ true → Hit smashed (d ∷ ds) (Bare x v ∷ xs)) → Hit smashed (d ∷ ds) (Bare x v ∷ xs)
       by_test false e k on = on k
       by_test true e k on = by_name e (same_or_not y x) k on
 
@@ -209,10 +210,10 @@ module _ {V : Type 0} (w : Sight V) (y : Name) where
         is_of = is_of;
       }
 
-      not_hit : (xs : List (Operand V)) → AreBare xs args → is_among (hits w j g xs) y ≡ false
-      not_hit xs bare = known (is_among (hits w j g xs) y) (λ t. absurd (by_part (any_append (same_name y) (smashed_actuals w (is_smashed w.program j) g.dummies xs) (smashed_commons w (is_smashed w.program j) g) t))) (λ f. f)
+      not_hit : (xs : List (Operand V)) → AreBare xs args → is_among y (hits w j g xs) ≡ false
+      not_hit xs bare = known (is_among y (hits w j g xs)) (λ t. absurd (by_part (any_append (same_bytes y) (smashed_actuals w (is_smashed w.program j) g.dummies xs) (smashed_commons w (is_smashed w.program j) g) t))) (λ f. f)
         where
-          by_part : (is_among (smashed_actuals w (is_smashed w.program j) g.dummies xs) y ≡ true) ⊎ (is_among (smashed_commons w (is_smashed w.program j) g) y ≡ true) → ⊥
+          by_part : (is_among y (smashed_actuals w (is_smashed w.program j) g.dummies xs) ≡ true) ⊎ (is_among y (smashed_commons w (is_smashed w.program j) g) ≡ true) → ⊥
           by_part (inl t) =
               let h = hit (is_smashed w.program j) g.dummies xs t in
               not_smashed (passes called h.at h.is_dummy (bare h.at y h.its h.is_bare) ((table j h.dummy).0 h.is_smashed))

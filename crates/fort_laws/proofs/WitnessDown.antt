@@ -1,6 +1,7 @@
 -- A program with a loop meets all that soundness wants.
 use Rattle.std.proofs.Common.{◌≡◌, ℕ, zero, suc, true, ◌&&◌, ℤ, pos, neg_ℤ, ◌-ℤ◌, List, [], ◌∷◌, Some, slice_get, refl, sym, ap, ◌∙◌, subst, arith}
 use Rattle.std.specs.Prelude.{int_le, codes}
+use Rattle.fort_syntax.specs.SmallDecks.{bin, N}
 use Rattle.formula.specs.declared.function.BuiltIn.TheVariants.{And, Not}
 use Rattle.formula.specs.declared.value.Value.{Value}
 use Rattle.formula.specs.declared.value.Value.TheVariants.{Int}
@@ -15,12 +16,12 @@ use Rattle.fort_syntax.specs.declared.stmt.Stmt.TheVariants.{Assign}
 use Rattle.fort_model.specs.CheckRows.{from_assert, less, difference}
 use Rattle.fort_model.specs.ConditionRows.{start, is_defined, is_equal, is_integer}
 use Rattle.fort_model.specs.Conditions.{AreAllPaths, conditions_of}
-use Rattle.fort_model.specs.Decks.{bin, line}
+use Rattle.fort_model.specs.Decks.{line}
 use Rattle.fort_model.specs.Fitting.{FitsAssertion, HasFittingNotes}
 use Rattle.fort_model.specs.Lists.{IsAmong}
 use Rattle.fort_model.specs.Paths.{Path, ArePathsInOrder, IsPath, IsWay, is_path_from}
-use Rattle.fort_model.specs.Program.{Assertion, Notes, notes_of}
-use Rattle.fort_model.specs.Rows.{N}
+use Rattle.fort_notes.specs.Assertions.{Assertion, Notes}
+use Rattle.fort_model.specs.Program.{notes_of}
 use Rattle.fort_model.specs.Rules.{KeepsRules}
 use Rattle.fort_model.specs.Smashes.{Smashes, HoldsSmashed, sets}
 use Rattle.fort_model.specs.WalkRows.{term, number, at_most, LEAST, GREATEST, the_path}
@@ -35,7 +36,7 @@ use Rattle.fort_laws.proofs.WitnessSmashes.{table_is_right}
 use Rattle.fort_laws.proofs.WitnessWorths.{IsTrueBy, Follows, AllFollow, all_valid, stands, IsInteger, integer, zero_is, still_natural, still_below, above_least, less_by_one}
 
 unit_well_formed : IsWellFormedUnit Common down
-unit_well_formed = record { names = refl; held = refl; data_names = refl; roles = refl; functions = refl; dimensions = refl; blocks = refl; statements = refl; order = refl; result = refl }
+unit_well_formed = record { names = refl; held = refl; data_names = refl; roles = refl; functions = refl; dimensions = refl; blocks = refl; statements = refl; order = refl; cards = refl; result = refl }
 
 abbrev notes : Notes
 notes = notes_of down_program 0
@@ -195,7 +196,7 @@ loop_meets_premises = (
   record {
     deck = record { units = down ∷ []; notes = [] };
     same_units = refl;
-    well_formed = (unit_well_formed also tt) also refl;
+    well_formed = record { units = unit_well_formed also tt; blocks = refl; order = refl; notes = refl; places = refl };
     notes = fitting;
     rules = keeps;
     smashed = table;

@@ -1,6 +1,7 @@
 -- A program of two units with two calls meets all that soundness wants.
 use Rattle.std.proofs.Common.{◌≡◌, ℕ, zero, suc, false, List, [], ◌∷◌, Some, slice_get, refl, sym, ap, ◌∙◌, subst, arith}
 use Rattle.std.specs.Prelude.{codes}
+use Rattle.fort_syntax.specs.SmallDecks.{I, J, K}
 use Rattle.formula.specs.Tree.{Tree}
 use Rattle.formula.specs.Values as value
 use Rattle.formula.specs.Worth.{Valuation}
@@ -17,7 +18,7 @@ use Rattle.fort_model.specs.Decks.{line}
 use Rattle.fort_model.specs.Fitting.{HasFittingNotes}
 use Rattle.fort_model.specs.Lists.{IsAmong}
 use Rattle.fort_model.specs.Paths.{ArePathsInOrder, Path, IsPath, IsWay, is_path_from}
-use Rattle.fort_model.specs.Rows.{I, J, K, swap, rotate}
+use Rattle.fort_model.specs.Rows.{swap, rotate}
 use Rattle.fort_model.specs.Rules.{KeepsRules}
 use Rattle.fort_model.specs.Smashes.{Smashes, HoldsSmashed, sets, passes}
 use Rattle.fort_model.specs.Symbols.{AtEntry, word_of}
@@ -31,14 +32,14 @@ use Rattle.fort_laws.proofs.WitnessRules.{LeadsDown, rules_are_kept, leads_lower
 use Rattle.fort_laws.proofs.WitnessSmashes.{table_is_right}
 use Rattle.fort_laws.proofs.WitnessWorths.{IsTrueBy, Follows, AllFollow, all_valid, stands, are_same, same_as_itself}
 
-abbrev units : List Routine
+abbrev pub units : List Routine
 units = swap ∷ rotate ∷ []
 
 swap_well_formed : IsWellFormedUnit Common swap
-swap_well_formed = record { names = refl; held = refl; data_names = refl; roles = refl; functions = refl; dimensions = refl; blocks = refl; statements = refl; order = refl; result = refl }
+swap_well_formed = record { names = refl; held = refl; data_names = refl; roles = refl; functions = refl; dimensions = refl; blocks = refl; statements = refl; order = refl; cards = refl; result = refl }
 
 rotate_well_formed : IsWellFormedUnit Common rotate
-rotate_well_formed = record { names = refl; held = refl; data_names = refl; roles = refl; functions = refl; dimensions = refl; blocks = refl; statements = refl; order = refl; result = refl }
+rotate_well_formed = record { names = refl; held = refl; data_names = refl; roles = refl; functions = refl; dimensions = refl; blocks = refl; statements = refl; order = refl; cards = refl; result = refl }
 
 fitting : HasFittingNotes rotate_program
 fitting = notes_fit rotate_program refl (
@@ -99,7 +100,7 @@ sets_j = sets swap (line 6 (Assign (Var J) (Var K))) refl (2, refl) (0, refl)
 sets_k : Smashes units 0 K
 sets_k = sets swap (line 4 (Assign (Var K) (Var I))) refl (0, refl) (0, refl)
 
-table : HoldsSmashed rotate_program
+pub table : HoldsSmashed rotate_program
 table = table_is_right rotate_program (refl also refl also tt) (
     (sets_i also sets_j also sets_k also tt)
     also (passes first_call 0 refl refl sets_i also passes first_call 1 refl refl sets_j also passes second_call 1 refl refl sets_j also tt) also tt)
@@ -198,7 +199,7 @@ rot_meets_premises = (
   record {
     deck = record { units = units; notes = [] };
     same_units = refl;
-    well_formed = (swap_well_formed also rotate_well_formed also tt) also refl;
+    well_formed = record { units = swap_well_formed also rotate_well_formed also tt; blocks = refl; order = refl; notes = refl; places = refl };
     notes = fitting;
     rules = keeps;
     smashed = table;

@@ -12,7 +12,8 @@ use Rattle.fort_model.specs.Calls.{Calls, Reaches, directly, through, callee_of,
 use Rattle.fort_model.specs.Flow.{one_way, leads}
 use Rattle.fort_model.specs.Lists.{IsAmong}
 use Rattle.fort_model.specs.Paths.{NoCut, cut_at, Uncut, one, more}
-use Rattle.fort_model.specs.Program.{Program, Notes, notes_of}
+use Rattle.fort_notes.specs.Assertions.{Notes}
+use Rattle.fort_model.specs.Program.{Program, notes_of}
 use Rattle.fort_model.specs.Rules.{KeepsRules, cards_breaking}
 use Rattle.fort_laws.proofs.Small.{both_parts}
 use Rattle.fort_laws.proofs.WitnessLists.{AtEach, at_each, all_pass, nothing_among}
@@ -70,7 +71,7 @@ module _ (p : Program) (clean : AtEach p.units (λ i u. is_clean p i u ≡ true)
       empty [] h m = nothing_among card m
       empty (c ∷ cards) h m = absurd (cc)
 
-  calls_fall : {i j : ℕ} → Calls p.units i j → j < i
+  pub calls_fall : {i j : ℕ} → Calls p.units i j → j < i
   calls_fall {i = i} {j = j} c =
       let line = all_pass (λ line. list_all (λ site. is_before i (callee_of p.units site)) (sites_of c.caller line.stmt)) c.caller.lines (parts i c.caller c.is_caller).1 c.is_line.0 c.line c.is_line.1 in
       let site = all_pass (λ site. is_before i (callee_of p.units site)) (sites_of c.caller c.line.stmt) line c.is_site.0 c.site c.is_site.1 in

@@ -5,14 +5,16 @@ use Rattle.std.proofs.lemmas.Int.{ints}
 use Rattle.std.specs.Prelude.{nat_le}
 use Rattle.std.specs.List.{list_all}
 use Rattle.std.specs.Cmp.Lexicographic.{same_text}
+use Rattle.formula.specs.Atoms.{same_bytes}
+use Rattle.fort_syntax.specs.Names.{is_own}
+use Rattle.fort_syntax.specs.SmallDecks.{I, J, K, N}
 use Rattle.fort_syntax.specs.declared.dialect.Dialect.TheVariants.{Common}
 use Rattle.fort_syntax.specs.declared.unit.DataName.{DataName}
 use Rattle.fort_syntax.specs.declared.unit.Unit.{Unit as Routine}
 use Rattle.fort_model.specs.Decks.{processor, by_reference, laid_out, int}
 use Rattle.fort_model.specs.Fits.{IsIn, IsVisible, IsApart, HasShape, Fits, has_sort}
-use Rattle.fort_model.specs.Names.{same_name, is_own}
 use Rattle.fort_model.specs.Processor.{Processor, MeetsBound}
-use Rattle.fort_model.specs.Rows.{I, J, K, N, swap, rotate}
+use Rattle.fort_model.specs.Rows.{swap, rotate}
 use Rattle.fort_model.specs.Storage.{Storage, Environment, Extent, contents}
 use Rattle.fort_laws.specs.Witnesses.{down}
 use Rattle.fort_laws.specs.WitnessRuns.{LoopMayRun, RotMayRun}
@@ -26,7 +28,7 @@ abbrev are_disjoint : Extent → Extent → Bool
 are_disjoint a b = nat_le (a.first + a.size) b.first || nat_le (b.first + b.size) a.first
 
 abbrev are_apart : Environment → DataName → DataName → Bool
-are_apart env d e = is_own d.role || (is_own e.role || (same_name d.name e.name || are_disjoint (env d.name) (env e.name)))
+are_apart env d e = is_own d.role || (is_own e.role || (same_bytes d.name e.name || are_disjoint (env d.name) (env e.name)))
 
 abbrev all_apart : Routine → Environment → Bool
 all_apart u env = list_all (λ d. list_all (are_apart env d) u.names) u.names
@@ -42,12 +44,12 @@ not_in_both a b k h x y =
 
 lies_apart : (units : List Routine) (i : ℕ) (u : Routine) (env : Environment) → all_apart u env ≡ true → IsApart units i u env
 lies_apart units i u env h d e dv ev smashed unlike k x y =
-    not_in_both (env d.name) (env e.name) k (third (is_own d.role) (is_own e.role) (same_name d.name e.name) _ dv.not_own ev.not_own differ test) x y
+    not_in_both (env d.name) (env e.name) k (third (is_own d.role) (is_own e.role) (same_bytes d.name e.name) _ dv.not_own ev.not_own differ test) x y
   where
     test : are_apart env d e ≡ true
     test = all_pass (are_apart env d) u.names (all_pass (λ d. list_all (are_apart env d) u.names) u.names h dv.among.0 d dv.among.1) ev.among.0 e ev.among.1
 
-    differ : same_name d.name e.name ≡ true → ⊥
+    differ : same_bytes d.name e.name ≡ true → ⊥
     differ t = unlike (same_text d.name e.name (sym t))
 
     third : (a b c t : Bool) → a ≡ false → b ≡ false → (c ≡ true → ⊥) → (a || (b || (c || t))) ≡ true → t ≡ true

@@ -2,6 +2,8 @@
 use Rattle.std.proofs.Common.{◌≡◌, ℕ, zero, suc, Bool, true, false, cond, not, ◌&&◌, List, [], ◌∷◌, ◌++◌, Option, Some, None, slice_get, refl, sym, ap, ◌∙◌, subst}
 use Rattle.std.specs.Cmp.Lexicographic.{same_text}
 use Rattle.std.specs.List.{list_all, list_any}
+use Rattle.formula.specs.Atoms.{same_bytes}
+use Rattle.fort_syntax.specs.Names.{data_name_in, has_role, is_in_common}
 use Rattle.fort_syntax.specs.declared.expr.Expr.{Expr}
 use Rattle.fort_syntax.specs.declared.expr.Expr.TheVariants.{Var}
 use Rattle.fort_syntax.specs.declared.name.Name.{Name}
@@ -10,8 +12,7 @@ use Rattle.fort_syntax.specs.declared.unit.Line.{Line}
 use Rattle.fort_syntax.specs.declared.unit.Unit.{Unit as Routine}
 use Rattle.fort_model.specs.CallRules.{in_unit, of_unit, bare_name, bare_names}
 use Rattle.fort_model.specs.Calls.{CallSite, Calls, callee_of, sites_of}
-use Rattle.fort_model.specs.Names.{same_name, data_name_in}
-use Rattle.fort_model.specs.Program.{Program, names_in, is_smashed, has_role, is_in_common}
+use Rattle.fort_model.specs.Program.{Program, names_if_any, is_smashed}
 use Rattle.fort_model.specs.Smashes.{Smashes, sets, passes, shares, HoldsSmashed, set_by}
 use Rattle.fort_laws.proofs.Near.{known}
 use Rattle.fort_laws.proofs.Small.{both_parts, some_passes}
@@ -25,7 +26,7 @@ no_common : (ds : List DataName) (x : Name) → list_all is_no_common ds ≡ tru
 no_common [] x h e = absurd (cc)
 no_common (d ∷ ds) x h e =
     let b = both_parts (is_no_common d) (list_all is_no_common ds) h in
-    known (same_name d.name x)
+    known (same_bytes d.name x)
     (λ t. clash (is_in_common d.role) b.0 (sym (ap (λ (z : Bool). has_role is_in_common (cond z (Some d) (data_name_in ds x))) t) ∙ e))
     (λ f. no_common ds x b.1 (sym (ap (λ (z : Bool). has_role is_in_common (cond z (Some d) (data_name_in ds x))) f) ∙ e))
   where
@@ -86,9 +87,9 @@ module _ (p : Program) where
     pub table_is_right : AtEach p.smashes (λ i xs. AtEach xs (λ k x. Smashes p.units i x)) → HoldsSmashed p
     table_is_right named i x = (λ t. by_names (slice_get p.smashes i) refl t, in_table i x)
       where
-        by_names : (o : Option (List Name)) → slice_get p.smashes i ≡ o → list_any (same_name x) (names_in o) ≡ true → Smashes p.units i x
+        by_names : (o : Option (List Name)) → slice_get p.smashes i ≡ o → list_any (same_bytes x) (names_if_any o) ≡ true → Smashes p.units i x
         by_names None e h = absurd (cc)
         by_names (Some xs) e h =
-            let s = some_passes (same_name x) xs h in
+            let s = some_passes (same_bytes x) xs h in
             let its = at_each xs (λ k y. Smashes p.units i y) (at_each p.smashes (λ i xs. AtEach xs (λ k y. Smashes p.units i y)) named i xs e) s.1.0 s.0 s.1.1 in
             subst (λ (y : Name). Smashes p.units i y) (sym (same_text x s.0 (sym s.2))) its

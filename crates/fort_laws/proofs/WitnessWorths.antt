@@ -4,6 +4,7 @@ use Rattle.std.proofs.lemmas.Int.{ints}
 use Rattle.std.specs.Prelude.{int_le, int_lt}
 use Rattle.std.specs.Ordering.{int_eq}
 use Rattle.std.specs.List.{list_all}
+use Rattle.fort_syntax.specs.Conditions.{ConditionTree}
 use Rattle.formula.specs.declared.value.Cell.{Cell}
 use Rattle.formula.specs.declared.value.Cell.TheVariants as cell
 use Rattle.formula.specs.declared.value.Value.{Value}
@@ -11,7 +12,7 @@ use Rattle.formula.specs.declared.value.Value.TheVariants.{Int, Logical, Undefin
 use Rattle.formula.specs.Tree.{Tree}
 use Rattle.formula.specs.Values.{is_defined, is_between, is_cell, is_integer_cell, same_cell, same_cells, same_value}
 use Rattle.formula.specs.Worth.{Valuation, nothing_known, assigned, is_true_under, IsValid}
-use Rattle.fort_model.specs.Conditions.{Condition, AreValid}
+use Rattle.fort_model.specs.Conditions.{AreValid}
 use Rattle.fort_laws.proofs.Near.{known}
 use Rattle.fort_laws.proofs.Small.{both_parts, both_hold}
 use Rattle.fort_laws.proofs.WitnessLists.{all_pass}
@@ -44,11 +45,11 @@ valid hyps goal f assignment =
     good true b e = ap (λ (z : Bool). not (not z)) e
     good false b e = refl
 
-abbrev pub AllFollow : List Condition → Type 0
+abbrev pub AllFollow : List ConditionTree → Type 0
 AllFollow [] = Unit {0}
 AllFollow (c ∷ cs) = Follows c.hyps c.goal × AllFollow cs
 
-pub all_valid : (cs : List Condition) → AllFollow cs → AreValid [] cs
+pub all_valid : (cs : List ConditionTree) → AllFollow cs → AreValid [] cs
 all_valid [] h = tt
 all_valid (c ∷ cs) h = (valid c.hyps c.goal h.0, all_valid cs h.1)
 

@@ -1,6 +1,8 @@
 -- Where named values stand for cells, and a cell of a name is written, the name's new value stands for its cells.
 use Rattle.std.proofs.Common.{◌≡◌, ◌≢◌, ℕ, zero, suc, ◌+◌, ◌<◌, ◌≤◌, Bool, true, false, cond, ◌&&◌, ℤ, pos, List, [], ◌∷◌, length, Some, slice_set, eqb, ◌⊎◌, inl, inr, refl, sym, ap, ◌∙◌, subst, arith, get_or-set_same, get_or-set_other}
 use Rattle.std.specs.List.{list_all}
+use Rattle.formula.specs.Atoms.{same_bytes}
+use Rattle.fort_syntax.specs.Names.{data_name}
 use Rattle.formula.specs.declared.value.Cell.{Cell}
 use Rattle.formula.specs.declared.value.Cell.TheVariants as cell
 use Rattle.formula.specs.declared.value.Value.{Value}
@@ -14,7 +16,6 @@ use Rattle.fort_syntax.specs.declared.unit.Unit.{Unit as Routine}
 use Rattle.fort_model.specs.Cells.{num}
 use Rattle.fort_model.specs.Correct.{held_in}
 use Rattle.fort_model.specs.Fits.{is_good_dim, is_positive}
-use Rattle.fort_model.specs.Names.{same_name, data_name}
 use Rattle.fort_model.specs.Places.{dim_values, stretch}
 use Rattle.fort_model.specs.Processor.{Processor}
 use Rattle.fort_model.specs.Seen.{Named}
@@ -64,7 +65,7 @@ module _ (p : Processor) (u : Routine) (env : Environment) where
     after = store st ((env x).first + k) c
 
     -- a cell of another name is as it was
-    other_cell : (y : Name) (d : DataName) → data_name u y ≡ Some d → same_name x y ≡ false → (j : ℕ) → j < (env y).size → load after ((env y).first + j) ≡ load st ((env y).first + j)
+    other_cell : (y : Name) (d : DataName) → data_name u y ≡ Some d → same_bytes x y ≡ false → (j : ℕ) → j < (env y).size → load after ((env y).first + j) ≡ load st ((env y).first + j)
     other_cell y d e n j h =
         load_store_other st ((env x).first + k) ((env y).first + j) c
         (λ p. may.apart y d e n ((env x).first + k) (omega arith, omega arith) (omega (arith, p), omega (arith, p)))
@@ -97,7 +98,7 @@ module _ (p : Processor) (u : Routine) (env : Environment) where
         at_least_one : (n : ℕ) → pos n ≡ pos 1 → 1 ≤ n
         at_least_one n q = grind arith
 
-    held_same : (ds : List Dim) (y : Name) (d : DataName) → data_name u y ≡ Some d → same_name x y ≡ false → d.dims ≡ ds → held_in ds after (env y) ≡ held_in ds st (env y)
+    held_same : (ds : List Dim) (y : Name) (d : DataName) → data_name u y ≡ Some d → same_bytes x y ≡ false → d.dims ≡ ds → held_in ds after (env y) ≡ held_in ds st (env y)
     held_same [] y d e n l = ap of_cell (at_first (other_cell y d e n 0 (one_cell y d e l)))
       where
         at_first : load after ((env y).first + 0) ≡ load st ((env y).first + 0) → load after (env y).first ≡ load st (env y).first

@@ -1,5 +1,6 @@
 -- Which check a run that errs is blamed on.
 use Rattle.std.specs.Prelude.{ℕ, ◌≡◌, ◌⊎◌, true, List, Some, slice_get}
+use Rattle.fort_syntax.specs.Conditions.{ConditionTree}
 use Rattle.formula.specs.declared.value.Cell.TheVariants as cell
 use Rattle.formula.specs.declared.value.Value.{Value}
 use Rattle.formula.specs.Worth.{Function, nothing_known, is_false_under}
@@ -7,7 +8,7 @@ use Rattle.fort_syntax.specs.declared.condition.Kind.{Kind}
 use Rattle.fort_syntax.specs.declared.condition.Kind.TheVariants.{InputCheck, AssertCheck, ClockCheck, FallCheck}
 use Rattle.fort_syntax.specs.declared.name.Name.{Name}
 use Rattle.fort_syntax.specs.declared.unit.Unit.{Unit as Routine}
-use Rattle.fort_model.specs.Conditions.{Condition, IsExact, sight}
+use Rattle.fort_model.specs.Conditions.{IsExact, sight}
 use Rattle.fort_model.specs.Correct.{IsMet, names_hold}
 use Rattle.fort_model.specs.Fits.{IsApart, Fits}
 use Rattle.fort_model.specs.Fitting.{FitsUnit}
@@ -66,8 +67,8 @@ ErringRunsAreBlamed =
 
 -- A condition of a unit, of some kind at a card, stands in a list, and is false where words give symbols their values: its hypotheses
 -- are all true, and its goal is not.
-pub record FalseCondition (fs : List Function) (list : List Condition) (unit : Name) (values : Symbol → Value) (kind : Kind) (card : ℕ) : Type 0 where
-  pub condition : Condition
+pub record FalseCondition (fs : List Function) (list : List ConditionTree) (unit : Name) (values : Symbol → Value) (kind : Kind) (card : ℕ) : Type 0 where
+  pub condition : ConditionTree
   pub among : IsAmong condition list
   pub unit_is : condition.unit ≡ unit
   pub kind_is : condition.kind ≡ kind
@@ -78,7 +79,7 @@ pub record FalseCondition (fs : List Function) (list : List Condition) (unit : N
 -- where the walk along a path has a check as its first false event, an exact list has a condition of that check that is false
 abbrev pub FailingPathsHaveFalseConditions : Type 0
 FailingPathsHaveFalseConditions =
-    (program : Program) (list : List Condition) → IsExact program list → (i : ℕ) (u : Routine) → slice_get program.units i ≡ Some u
+    (program : Program) (list : List ConditionTree) → IsExact program list → (i : ℕ) (u : Routine) → slice_get program.units i ≡ Some u
     → (values : Symbol → Value) (path : Path) → IsPath program.dialect u (notes_of program i) path → (kind : Kind) (card : ℕ)
     → FirstFails kind card (walk (sight (of_values program.functions values) program i u) path)
     → FalseCondition program.functions list u.name values kind card

@@ -1,5 +1,6 @@
 -- The law of calls: a called unit that ends well makes the walk and the run of a call match.
 use Rattle.std.specs.Prelude.{ℕ, ◌+◌, ◌<◌, ◌≡◌, ◌≢◌, true, false, List, [], Some, slice_get}
+use Rattle.fort_syntax.specs.Names.{is_function, unit_at}
 use Rattle.formula.specs.declared.value.Cell.{Cell}
 use Rattle.formula.specs.declared.value.Cell.TheVariants as cell
 use Rattle.formula.specs.declared.value.Value.{Value}
@@ -18,7 +19,6 @@ use Rattle.fort_model.specs.Correct.{IsMet, names_hold}
 use Rattle.fort_model.specs.Evaluate.{Scene}
 use Rattle.fort_model.specs.Fits.{IsIn, IsVisible, IsApart, Fits, has_sort}
 use Rattle.fort_model.specs.Lists.{IsAmong}
-use Rattle.fort_model.specs.Names.{is_function, unit_at}
 use Rattle.fort_model.specs.Outcome.{Ended}
 use Rattle.fort_model.specs.Passing.{Taken, call, passed}
 use Rattle.fort_model.specs.Processor.{Processor}

@@ -1,8 +1,9 @@
 -- Soundness: valid conditions make programs totally correct.
 use Rattle.std.specs.Prelude.{ℕ, ◌≡◌, List, Some, slice_get}
+use Rattle.fort_syntax.specs.Conditions.{ConditionTree}
 use Rattle.fort_syntax.specs.declared.unit.Unit.{Unit as Routine}
 use Rattle.fort_model.specs.Calls.{Calls}
-use Rattle.fort_model.specs.Conditions.{Condition, IsExact, AreValid}
+use Rattle.fort_model.specs.Conditions.{IsExact, AreValid}
 use Rattle.fort_model.specs.Correct.{IsTotallyCorrect}
 use Rattle.fort_model.specs.Program.{Program}
 use Rattle.fort_model.specs.Rules.{KeepsRules}
@@ -15,5 +16,5 @@ use Rattle.fort_laws.specs.StrictPrograms.{CallIsDeclared, IsReady}
 abbrev pub ProgramsAreCorrect : Type 0
 ProgramsAreCorrect =
     (program : Program) → KeepsRules program → HoldsSmashed program → AreDeclared program.units → ((i j : ℕ) (c : Calls program.units i j) → CallIsDeclared c)
-    → ((i : ℕ) (u : Routine) → slice_get program.units i ≡ Some u → IsReady program i u) → (list : List Condition) → IsExact program list → AreValid program.functions list
+    → ((i : ℕ) (u : Routine) → slice_get program.units i ≡ Some u → IsReady program i u) → (list : List ConditionTree) → IsExact program list → AreValid program.functions list
     → IsTotallyCorrect program

@@ -1,5 +1,6 @@
 -- What a run leaves as it was: a unit changes only cells of names that it smashes.
 use Rattle.std.specs.Prelude.{◌≡◌, ◌≢◌, ◌<◌, ◌≤◌, ℕ, true, false, List, [], ◌∷◌, length, Some, slice_get}
+use Rattle.fort_syntax.specs.Names.{is_function, has_common, commons}
 use Rattle.formula.specs.declared.value.Cell.{Cell}
 use Rattle.fort_syntax.specs.declared.name.Name.{Name}
 use Rattle.fort_syntax.specs.declared.expr.Expr.{Expr}
@@ -15,10 +16,9 @@ use Rattle.fort_model.specs.Calls.{CallSite, Calls, sites_in, sites_of}
 use Rattle.fort_model.specs.Evaluate.{evaluate}
 use Rattle.fort_model.specs.Fits.{IsVisible, IsIn, IsApart, HasShape}
 use Rattle.fort_model.specs.Lists.{IsAmong}
-use Rattle.fort_model.specs.Names.{is_function}
 use Rattle.fort_model.specs.Outcome.{Outcome, Ended, Erred, Running}
 use Rattle.fort_model.specs.Processor.{Processor}
-use Rattle.fort_model.specs.Program.{Program, has_common, commons}
+use Rattle.fort_model.specs.Program.{Program}
 use Rattle.fort_model.specs.Rules.{KeepsRules}
 use Rattle.fort_model.specs.Run.{run, run_within}
 use Rattle.fort_model.specs.Smashes.{Smashes, HoldsSmashed, set_by}

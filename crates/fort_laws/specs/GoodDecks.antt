@@ -1,18 +1,18 @@
 -- What well-formed decks that keep the rules give: all that soundness takes of their units.
 use Rattle.std.specs.Prelude.{ℕ, ◌≡◌, List, Some, slice_get}
+use Rattle.fort_syntax.specs.Conditions.{ConditionTree}
 use Rattle.fort_syntax.specs.WellFormed.{IsWellFormedUnit, IsWellFormed}
 use Rattle.fort_syntax.specs.declared.deck.Deck.{Deck}
 use Rattle.fort_syntax.specs.declared.dialect.Dialect.{Dialect}
-use Rattle.fort_syntax.specs.declared.rule.Rule.{Rule}
 use Rattle.fort_syntax.specs.declared.rule.Rule.TheVariants.{BlockMissing}
 use Rattle.fort_syntax.specs.declared.unit.Line.{Line}
 use Rattle.fort_syntax.specs.declared.unit.Unit.{Unit as Routine}
 use Rattle.fort_model.specs.Calls.{Calls}
-use Rattle.fort_model.specs.Conditions.{Condition, IsExact, AreValid}
+use Rattle.fort_model.specs.Conditions.{IsExact, AreValid}
 use Rattle.fort_model.specs.Correct.{IsTotallyCorrect}
 use Rattle.fort_model.specs.Fitting.{HasFittingNotes}
 use Rattle.fort_model.specs.Program.{Program}
-use Rattle.fort_model.specs.Rules.{IsBroken, KeepsRules}
+use Rattle.fort_model.specs.Rules.{KeepsRule, KeepsRules}
 use Rattle.fort_model.specs.Smashes.{HoldsSmashed}
 use Rattle.fort_laws.specs.Called.{IsReferenceTo, IsCallTo}
 use Rattle.fort_laws.specs.Declared.{AreDeclared}
@@ -26,10 +26,6 @@ use Rattle.fort_laws.specs.WholeRuns.{BlocksAreCommon}
 -- what stands in the COMMON blocks of a well-formed unit are COMMON entities
 abbrev pub BlocksHoldCommons : Type 0
 BlocksHoldCommons = (dialect : Dialect) (u : Routine) → IsWellFormedUnit dialect u → BlocksAreCommon u
-
--- a program keeps a rule
-abbrev pub KeepsRule : Program → Rule → Type 0
-KeepsRule p rule = (i card : ℕ) → IsBroken p rule i card → ⊥
 
 -- the units of a well-formed deck are as declarations make them, where no calling unit lacks a block of the unit that it calls
 abbrev pub WellFormedIsDeclared : Type 0
@@ -63,4 +59,4 @@ EndsAreReturns =
 abbrev pub DecksAreCorrect : Type 0
 DecksAreCorrect =
     (dialect : Dialect) (deck : Deck) (p : Program) → IsWellFormed dialect deck → deck.units ≡ p.units → KeepsRules p → HoldsSmashed p → HasFittingNotes p
-    → (list : List Condition) → IsExact p list → AreValid p.functions list → IsTotallyCorrect p
+    → (list : List ConditionTree) → IsExact p list → AreValid p.functions list → IsTotallyCorrect p

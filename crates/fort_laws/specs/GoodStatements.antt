@@ -3,6 +3,9 @@
 use Rattle.std.specs.Prelude.{ℕ, ◌+◌, ◌≤◌, ◌≡◌, Bool, true, false, List, [], ◌∷◌, length, Option, Some, None}
 use mathlib.Core.Former.{Count}
 use Rattle.std.specs.List.{list_all}
+use Rattle.fort_syntax.specs.Names.{Element, applied, data_name, dims_of, is_function, subroutine, unit_at}
+use Rattle.formula.specs.Atoms.{same_bytes}
+use Rattle.fort_syntax.specs.TreePatterns.{carried, row_of}
 use Rattle.formula.specs.declared.value.Value.{Value}
 use Rattle.formula.specs.declared.value.Value.TheVariants.{Int}
 use Rattle.formula.specs.Worth.{Function}
@@ -23,7 +26,6 @@ use Rattle.fort_model.specs.Conditions.{sight}
 use Rattle.fort_model.specs.Evaluate.{Scene}
 use Rattle.fort_model.specs.Fits.{IsIn, is_good_dim}
 use Rattle.fort_model.specs.Flow.{leads, target, Loop, loops_at, loops_around}
-use Rattle.fort_model.specs.Names.{Element, applied, data_name, dims_of, is_function, same_name, subroutine, unit_at}
 use Rattle.fort_model.specs.Passing.{Taken, Caller, call, passed}
 use Rattle.fort_model.specs.Perform.{perform}
 use Rattle.fort_model.specs.Processor.{Processor, MeetsBound}
@@ -32,7 +34,6 @@ use Rattle.fort_model.specs.Seen.{Named}
 use Rattle.fort_model.specs.Senses.{of_values}
 use Rattle.fort_model.specs.Storage.{Storage, Environment}
 use Rattle.fort_model.specs.Symbols.{Symbol, LeastInteger, GreatestInteger}
-use Rattle.fort_model.specs.Trees.{carried, row_of}
 use Rattle.fort_model.specs.WalkCalls as walk
 use Rattle.fort_model.specs.WalkCalls.{Operand}
 use Rattle.fort_model.specs.WalkStmt.{performed}
@@ -49,11 +50,11 @@ module _ (u : Routine) (env : Environment) where
   abbrev pub DimsAreOther : Name → List Dim → Type 0
   DimsAreOther x [] = Unit {0}
   DimsAreOther x (Fixed n ∷ ds) = DimsAreOther x ds
-  DimsAreOther x (Adjustable z ∷ ds) = (same_name x z ≡ false) × DimsAreOther x ds
+  DimsAreOther x (Adjustable z ∷ ds) = (same_bytes x z ≡ false) × DimsAreOther x ds
 
   -- a name of the unit may be written: no cell of it is one of another name, and it is no dimension
   pub record MayBeWritten (x : Name) : Type 0 where
-    pub apart : (y : Name) (d : DataName) → data_name u y ≡ Some d → same_name x y ≡ false → (k : ℕ) → IsIn k (env x) → IsIn k (env y) → ⊥
+    pub apart : (y : Name) (d : DataName) → data_name u y ≡ Some d → same_bytes x y ≡ false → (k : ℕ) → IsIn k (env x) → IsIn k (env y) → ⊥
     pub no_dim : (y : Name) (d : DataName) → data_name u y ≡ Some d → DimsAreOther x d.dims
 
   -- each adjustable dimension of a name is a scalar of the unit

@@ -1,5 +1,6 @@
 -- Runs from one cut point to the next, where no walk on can fail.
 use Rattle.std.specs.Prelude.{ℕ, ◌+◌, ◌≡◌, true, false, List, [], Option, Some, slice_get}
+use Rattle.fort_syntax.specs.Names.{is_function}
 use Rattle.formula.specs.declared.value.Value.{Value}
 use Rattle.formula.specs.declared.value.Value.TheVariants.{Int}
 use Rattle.formula.specs.Values.{is_defined}
@@ -10,11 +11,11 @@ use Rattle.fort_syntax.specs.declared.unit.Line.{Line}
 use Rattle.fort_model.specs.Conditions.{sight}
 use Rattle.fort_model.specs.Evaluate.{Scene}
 use Rattle.fort_model.specs.Events.{Event}
-use Rattle.fort_model.specs.Names.{is_function}
 use Rattle.fort_model.specs.Outcome.{Ended}
 use Rattle.fort_model.specs.Paths.{AtEnd, AtAssert, cut_at, IsWay}
 use Rattle.fort_model.specs.Processor.{MeetsBound}
-use Rattle.fort_model.specs.Program.{Program, Assertion, notes_of, is_smashed}
+use Rattle.fort_notes.specs.Assertions.{Assertion}
+use Rattle.fort_model.specs.Program.{Program, notes_of, is_smashed}
 use Rattle.fort_model.specs.Run.{run}
 use Rattle.fort_model.specs.Seen.{Named, Answers}
 use Rattle.fort_model.specs.Senses.{of_values}

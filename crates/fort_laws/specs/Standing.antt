@@ -1,5 +1,6 @@
 -- Where named values stand for the cells of a unit's names, and what expressions then come to.
 use Rattle.std.specs.Prelude.{ℕ, ◌+◌, ◌<◌, ◌≡◌, true, false, pos, List, Some}
+use Rattle.fort_syntax.specs.Names.{data_name, function, unit_at}
 use Rattle.formula.specs.declared.value.Cell.{Cell}
 use Rattle.formula.specs.declared.value.Cell.TheVariants as cell
 use Rattle.formula.specs.declared.value.Value.{Value}
@@ -16,7 +17,6 @@ use Rattle.fort_model.specs.Conditions.{sight}
 use Rattle.fort_model.specs.Correct.{held_in}
 use Rattle.fort_model.specs.Evaluate as run
 use Rattle.fort_model.specs.Evaluate.{Scene}
-use Rattle.fort_model.specs.Names.{data_name, function, unit_at}
 use Rattle.fort_model.specs.Passing.{Taken, Cells, Fresh, Caller, call, passed}
 use Rattle.fort_model.specs.Places.{dim_values, stretch}
 use Rattle.fort_model.specs.Processor.{Processor, MeetsBound}
@@ -26,7 +26,7 @@ use Rattle.fort_model.specs.Senses.{of_values}
 use Rattle.fort_model.specs.Storage.{Storage, Environment, load}
 use Rattle.fort_model.specs.Symbols.{Symbol, LeastInteger, GreatestInteger}
 use Rattle.fort_model.specs.WalkCalls as walk_call
-use Rattle.fort_model.specs.WalkCalls.{Sight, Operand, Bare, Part, Computed}
+use Rattle.fort_model.specs.WalkCalls.{Operand, Bare, Part, Computed}
 use Rattle.fort_model.specs.WalkExpr as walk
 use Rattle.fort_laws.specs.Actuals.{ArePassed}
 use Rattle.fort_laws.specs.Called.{IsReferenceTo}

@@ -1,12 +1,13 @@
 -- Soundness on strict processors: valid conditions make programs right.
 use Rattle.std.specs.Prelude.{ℕ, ◌≡◌, ◌≢◌, false, List, Some, slice_get}
+use Rattle.fort_syntax.specs.Conditions.{ConditionTree}
 use Rattle.formula.specs.declared.value.Cell.TheVariants as cell
 use Rattle.fort_syntax.specs.declared.unit.DataName.{DataName}
 use Rattle.fort_syntax.specs.declared.unit.Line.{Line}
 use Rattle.fort_syntax.specs.declared.unit.Role.TheVariants.{InCommon}
 use Rattle.fort_syntax.specs.declared.unit.Unit.{Unit as Routine}
 use Rattle.fort_model.specs.Calls.{Calls}
-use Rattle.fort_model.specs.Conditions.{Condition, IsExact, AreValid}
+use Rattle.fort_model.specs.Conditions.{IsExact, AreValid}
 use Rattle.fort_model.specs.Correct.{IsMet, names_hold, EndsWell}
 use Rattle.fort_model.specs.Fits.{IsApart, Fits}
 use Rattle.fort_model.specs.Fitting.{FitsUnit}
@@ -44,7 +45,7 @@ pub record IsReady (program : Program) (i : ℕ) (u : Routine) : Type 0 where
 abbrev pub StrictProgramsAreCorrect : Type 0
 StrictProgramsAreCorrect =
     (program : Program) → KeepsRules program → HoldsSmashed program → AreDeclared program.units → ((i j : ℕ) (c : Calls program.units i j) → CallIsDeclared c)
-    → ((i : ℕ) (u : Routine) → slice_get program.units i ≡ Some u → IsReady program i u) → (list : List Condition) → IsExact program list → AreValid program.functions list
+    → ((i : ℕ) (u : Routine) → slice_get program.units i ≡ Some u → IsReady program i u) → (list : List ConditionTree) → IsExact program list → AreValid program.functions list
     → (p : Processor) (i : ℕ) (u : Routine) (env : Environment) (st : Storage)
     → p.lazy ≡ false → p.dialect ≡ program.dialect → MeetsBound p program.bound → slice_get program.units i ≡ Some u
     → IsApart program.units i u env → Fits p u env st

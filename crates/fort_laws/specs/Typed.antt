@@ -1,5 +1,7 @@
 -- Expressions whose parts have the types that their places demand.
 use Rattle.std.specs.Prelude.{ℕ, suc, ◌≤◌, ◌≡◌, ◌⊎◌, List, [], ◌∷◌, length, Some}
+use Rattle.fort_syntax.specs.TreePatterns.{listed, only}
+use Rattle.fort_syntax.specs.Names.{Applied, Element, BuiltIn, Reference, Intrinsic, Absolute, Modulo, Greatest, Least, applied, data_name}
 use mathlib.Core.Former.{Count}
 use Rattle.fort_syntax.specs.declared.name.Name.{Name}
 use Rattle.fort_syntax.specs.declared.dialect.Sort.{Sort}
@@ -10,9 +12,6 @@ use Rattle.fort_syntax.specs.declared.stmt.Dim.{Dim}
 use Rattle.fort_syntax.specs.declared.stmt.Dim.TheVariants.{Fixed, Named as Adjustable}
 use Rattle.fort_syntax.specs.declared.unit.DataName.{DataName}
 use Rattle.fort_syntax.specs.declared.unit.Unit.{Unit as Routine}
-use Rattle.fort_model.specs.Calls.{listed}
-use Rattle.fort_model.specs.Names.{Applied, Element, BuiltIn, Reference, Intrinsic, Absolute, Modulo, Greatest, Least, applied, data_name}
-use Rattle.fort_model.specs.Trees.{only}
 
 -- how many arguments an intrinsic function has
 abbrev pub IsCount : Intrinsic → ℕ → Type 0

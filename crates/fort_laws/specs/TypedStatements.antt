@@ -1,5 +1,7 @@
 -- Statements whose parts have the types that their places demand.
 use Rattle.std.specs.Prelude.{ℕ, ◌≡◌, Bool, true, false, List, [], ◌∷◌, length}
+use Rattle.fort_syntax.specs.Names.{Element, applied, dims_of, is_function}
+use Rattle.fort_syntax.specs.TreePatterns.{carried, row_of}
 use mathlib.Core.Former.{Count}
 use Rattle.fort_syntax.specs.declared.name.Name.{Name}
 use Rattle.fort_syntax.specs.declared.dialect.Sort.{Sort}
@@ -11,8 +13,6 @@ use Rattle.fort_syntax.specs.declared.stmt.Stmt.{Stmt}
 use Rattle.fort_syntax.specs.declared.stmt.Stmt.TheVariants.{Assign, GoTo, Computed, ArithIf, LogicalIf', Do, Continue, Call, Return, BlockIf, ElseIf, Else, EndIf}
 use Rattle.fort_syntax.specs.declared.unit.Unit.{Unit as Routine}
 use Rattle.fort_model.specs.Flow.{target, Loop, loops_at, loops_around}
-use Rattle.fort_model.specs.Names.{Element, applied, dims_of, is_function}
-use Rattle.fort_model.specs.Trees.{carried, row_of}
 use Rattle.fort_laws.specs.GoodStatements.{IsParameter, IsStep}
 use Rattle.fort_laws.specs.Typed.{IsScalar, IsArray, IsTyped, AreInteger, AreActual, row_length}
 use Rattle.fort_laws.specs.Ways.{IsExecutable}

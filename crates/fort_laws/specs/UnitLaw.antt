@@ -8,7 +8,8 @@ use Rattle.fort_model.specs.Events.{takes}
 use Rattle.fort_model.specs.Fitting.{FitsUnit}
 use Rattle.fort_model.specs.Paths.{AtAssert, cut_at}
 use Rattle.fort_model.specs.Processor.{Processor, MeetsBound}
-use Rattle.fort_model.specs.Program.{Program, Assertion, notes_of}
+use Rattle.fort_notes.specs.Assertions.{Assertion}
+use Rattle.fort_model.specs.Program.{Program, notes_of}
 use Rattle.fort_model.specs.Smashes.{HoldsSmashed}
 use Rattle.fort_model.specs.Storage.{Storage, Environment}
 use Rattle.fort_model.specs.Symbols.{Symbol, LeastInteger, GreatestInteger}

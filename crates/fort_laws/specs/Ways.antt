@@ -1,14 +1,14 @@
 -- How the flow of a unit without uncut cycles goes on.
 use Rattle.std.specs.Prelude.{ℕ, zero, suc, ◌≡◌, List, [], ◌∷◌, Some, None, slice_get}
+use Rattle.fort_syntax.specs.TreePatterns.{carried}
 use Rattle.fort_syntax.specs.declared.dialect.Dialect.{Dialect}
 use Rattle.fort_syntax.specs.declared.stmt.Stmt.{Stmt}
 use Rattle.fort_syntax.specs.declared.stmt.Stmt.TheVariants.{Assign, GoTo, Computed, ArithIf, LogicalIf', Do, Continue, Call, Return, BlockIf, ElseIf, Else, EndIf}
 use Rattle.fort_syntax.specs.declared.unit.Line.{Line}
 use Rattle.fort_syntax.specs.declared.unit.Unit.{Unit as Routine}
-use Rattle.fort_model.specs.Trees.{carried}
 use Rattle.fort_model.specs.Flow.{leads}
 use Rattle.fort_model.specs.Paths.{IsWay, Uncut}
-use Rattle.fort_model.specs.Program.{Notes}
+use Rattle.fort_notes.specs.Assertions.{Notes}
 
 -- an executable statement; a computed GO TO has a label at least
 abbrev pub IsExecutable : Stmt → Type 0

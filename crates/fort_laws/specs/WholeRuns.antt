@@ -1,5 +1,6 @@
 -- Runs from a point to the end of a unit, over its ASSERTs.
 use Rattle.std.specs.Prelude.{ℕ, ◌+◌, ◌≡◌, true, false, List, [], map, length, Some, None, slice_get}
+use Rattle.fort_syntax.specs.Names.{has_common, commons}
 use Rattle.formula.specs.declared.value.Value.{Value}
 use Rattle.formula.specs.declared.value.Value.TheVariants.{Int}
 use Rattle.formula.specs.Worth.{Function}
@@ -9,7 +10,8 @@ use Rattle.fort_model.specs.Evaluate.{Scene}
 use Rattle.fort_model.specs.Outcome.{Ended}
 use Rattle.fort_model.specs.Paths.{AtEnd, AtAssert, cut_at, over_or, IsWay}
 use Rattle.fort_model.specs.Processor.{MeetsBound}
-use Rattle.fort_model.specs.Program.{Program, Assertion, notes_of, has_common, commons}
+use Rattle.fort_notes.specs.Assertions.{Assertion}
+use Rattle.fort_model.specs.Program.{Program, notes_of}
 use Rattle.fort_model.specs.Run.{run}
 use Rattle.fort_model.specs.Seen.{Named, Answers}
 use Rattle.fort_model.specs.Senses.{note}

@@ -1,5 +1,6 @@
 -- Programs that meet all that soundness wants of a program.
 use Rattle.std.specs.Prelude.{◌≡◌, List, [], ◌∷◌, length, codes}
+use Rattle.fort_syntax.specs.SmallDecks.{bin, rel, if, labelled, N}
 use Rattle.formula.specs.Tree.{symbol}
 use Rattle.fort_syntax.specs.WellFormed.{IsWellFormed}
 use Rattle.fort_syntax.specs.declared.deck.Deck.{Deck}
@@ -12,11 +13,10 @@ use Rattle.fort_syntax.specs.declared.unit.Role.TheVariants.{Dummy}
 use Rattle.fort_syntax.specs.declared.unit.Unit.{Unit as Routine}
 use Rattle.fort_model.specs.ConditionRows.{is_equal}
 use Rattle.fort_model.specs.Conditions.{AreAllPaths, AreValid, IsExact, conditions_of}
-use Rattle.fort_model.specs.Decks.{bin, rel, if, line, labelled, scalar, routine}
+use Rattle.fort_model.specs.Decks.{line, scalar, routine}
 use Rattle.fort_model.specs.Fitting.{HasFittingNotes}
 use Rattle.fort_model.specs.Paths.{Path}
 use Rattle.fort_model.specs.Program.{Program}
-use Rattle.fort_model.specs.Rows.{N}
 use Rattle.fort_model.specs.Rules.{KeepsRules}
 use Rattle.fort_model.specs.Smashes.{HoldsSmashed}
 use Rattle.fort_model.specs.VerdictRows.{rotate_program}

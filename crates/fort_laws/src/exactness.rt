@@ -1,6 +1,7 @@
 // What conditions say of walks.
 ghost use Rattle.fort_laws.specs.Exactness.{ChecksDoNotDependOnValues, ConditionsAreExact};
 ghost use Rattle.fort_laws.specs.ValidConditions.{ValidConditionsMakePathsSafe, WordsTellSymbols};
+ghost use Rattle.fort_laws.specs.Numerals.{NumeralsAreDecimal};
 
 /// Along all paths of a program, its conditions are exact. There is one for each check of each
 /// walk, in order; whatever the values of symbols, its hypotheses are all true just where the walk
@@ -23,4 +24,10 @@ pub fn words_tell_symbols()
 /// first false event, whatever its symbols stand for. It does nothing.
 pub fn valid_conditions_make_paths_safe()
     ensures { ValidConditionsMakePathsSafe }
+{}
+
+/// The numeral in the word of a symbol is the number in decimal digits, below 10 to the 64th power.
+/// It does nothing.
+pub fn numerals_are_decimal()
+    ensures { NumeralsAreDecimal }
 {}

@@ -8,6 +8,7 @@ mod errors;
 mod exactness;
 mod expressions;
 mod frames;
+mod judged;
 mod lazy;
 mod places;
 mod programs;
@@ -15,6 +16,7 @@ mod segments;
 mod statements;
 mod steps;
 mod symbols;
+mod trails;
 mod units;
 mod ways;
 mod witnesses;
@@ -31,14 +33,15 @@ pub use errors::{
     units_err_as_walks_do,
 };
 pub use exactness::{
-    checks_do_not_depend_on_values, conditions_are_exact, valid_conditions_make_paths_safe,
-    words_tell_symbols,
+    checks_do_not_depend_on_values, conditions_are_exact, numerals_are_decimal,
+    valid_conditions_make_paths_safe, words_tell_symbols,
 };
 pub use expressions::expressions_match;
 pub use frames::{
     evaluation_changes_nothing, rules_make_sound, rules_pass_smashed_alone,
     runs_change_only_smashed, runs_without_smashing_change_nothing,
 };
+pub use judged::calls_are_judged_by_units;
 pub use lazy::lazy_runs_follow_strict_ones;
 pub use places::elements_lie_in_arrays;
 pub use programs::{programs_are_correct, strict_programs_are_correct};
@@ -50,6 +53,11 @@ pub use steps::{
 pub use symbols::{
     paths_make_asserts_safe, paths_make_entries_safe, safe_paths_end, walks_read_few_symbols,
 };
+pub use trails::{
+    all_paths_are_one, choices_end, flat_choices_tell_paths, paths_are_one, paths_lead_through,
+};
 pub use units::{safe_units_are_right, safe_units_end, smashed_have_types};
 pub use ways::{statements_lead_on, ways_can_be_completed};
-pub use witnesses::{loop_may_run, loop_meets_premises, rot_may_run, rot_meets_premises};
+pub use witnesses::{
+    loop_may_run, loop_meets_premises, rot_has_call_facts, rot_may_run, rot_meets_premises,
+};

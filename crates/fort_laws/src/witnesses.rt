@@ -1,4 +1,5 @@
 // Programs that meet the premises of soundness.
+ghost use Rattle.fort_laws.specs.WitnessFacts.{RotHasCallFacts};
 ghost use Rattle.fort_laws.specs.WitnessRuns.{LoopMayRun, RotMayRun};
 ghost use Rattle.fort_laws.specs.Witnesses.{LoopMeetsPremises, RotMeetsPremises};
 
@@ -21,4 +22,10 @@ pub fn loop_may_run()
 /// So may both units with the calls. It does nothing.
 pub fn rot_may_run()
     ensures { RotMayRun }
+{}
+
+/// The program of two units with two calls has these facts of its calls: an order, the table of
+/// smashed names, and the units that its calls are of. It does nothing.
+pub fn rot_has_call_facts()
+    ensures { RotHasCallFacts }
 {}

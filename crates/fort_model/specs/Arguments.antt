@@ -1,6 +1,10 @@
 -- Whether actuals match dummies, and what names stand in an expression.
 use Rattle.std.specs.Prelude.{ℕ, ◌==◌, Bool, true, false, not, ◌&&◌, ◌||◌, cond, List, [], ◌∷◌, Option, Some, None}
+use Rattle.fort_syntax.specs.TreePatterns.{only}
+use Rattle.fort_syntax.specs.Names.{Applied, Element, BuiltIn, Reference, applied, data_name, dims_of}
+use Rattle.formula.specs.Atoms.{same_bytes}
 use mathlib.Core.Former.{Count}
+use Rattle.fort_syntax.specs.Scopes.{same_sort}
 use Rattle.fort_syntax.specs.declared.name.Name.{Name}
 use Rattle.fort_syntax.specs.declared.dialect.Sort.{Sort}
 use Rattle.fort_syntax.specs.declared.dialect.Sort.TheVariants.{Integer, Logical}
@@ -11,8 +15,6 @@ use Rattle.fort_syntax.specs.declared.stmt.Dim.TheVariants.{Fixed, Named}
 use Rattle.fort_syntax.specs.declared.unit.DataName.{DataName}
 use Rattle.fort_syntax.specs.declared.unit.FunctionName.{FunctionName}
 use Rattle.fort_syntax.specs.declared.unit.Unit.{Unit as Routine}
-use Rattle.fort_model.specs.Trees.{only}
-use Rattle.fort_model.specs.Names.{Applied, Element, BuiltIn, Reference, applied, same_name, data_name, dims_of}
 
 -- ---- the names in an expression
 
@@ -21,8 +23,8 @@ abbrev mutual
   pub mentions : Expr → Name → Bool
   mentions (Const c) x = false
   mentions (Truth b) x = false
-  mentions (Var y) x = same_name y x
-  mentions (Apply' f _ args) x = same_name f x || row_mentions args x
+  mentions (Var y) x = same_bytes y x
+  mentions (Apply' f _ args) x = same_bytes f x || row_mentions args x
   mentions (Paren' _ (only a)) x = mentions a x
   mentions (Pos' _ (only a)) x = mentions a x
   mentions (Neg' _ (only a)) x = mentions a x
@@ -39,11 +41,6 @@ abbrev mutual
 
 -- ---- types
 
-abbrev pub same_sort : Sort → Sort → Bool
-same_sort Integer Integer = true
-same_sort Logical Logical = true
-same_sort _ _ = false
-
 abbrev pub same_sort_as : Sort → Option Sort → Bool
 same_sort_as sort None = false
 same_sort_as sort (Some other) = same_sort sort other
@@ -55,7 +52,7 @@ data_sort (Some d) = Some d.sort
 -- the type that a unit gives a function which it references
 abbrev pub reference_sort : List FunctionName → Name → Option Sort
 reference_sort [] f = None
-reference_sort (g ∷ gs) f = cond (same_name g.name f) (Some g.sort) (reference_sort gs f)
+reference_sort (g ∷ gs) f = cond (same_bytes g.name f) (Some g.sort) (reference_sort gs f)
 
 abbrev pub applied_sort : Routine → Name → Applied → Option Sort
 applied_sort u f (Element dims) = data_sort (data_name u f)
@@ -88,14 +85,14 @@ dims_of_actual u _ = []
 -- an actual gives a dimension: the same constant, written bare, or the same name
 abbrev pub gives_dim : Option Expr → Dim → Bool
 gives_dim (Some (Const c)) (Fixed n) = c == n
-gives_dim (Some (Var y)) (Named x) = same_name y x
+gives_dim (Some (Var y)) (Named x) = same_bytes y x
 gives_dim _ d = false
 
 -- the actual for a dummy
 abbrev pub actual_for : List Name → List Expr → Name → Option Expr
 actual_for [] es d = None
 actual_for (y ∷ ys) [] d = None
-actual_for (y ∷ ys) (e ∷ es) d = cond (same_name y d) (Some e) (actual_for ys es d)
+actual_for (y ∷ ys) (e ∷ es) d = cond (same_bytes y d) (Some e) (actual_for ys es d)
 
 abbrev pub same_constant : ℕ → Dim → Bool
 same_constant n (Fixed m) = n == m

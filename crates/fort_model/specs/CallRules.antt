@@ -1,6 +1,8 @@
 -- The rules on calls: whether a call in a unit breaks one.
 use Rattle.std.specs.Prelude.{ℕ, suc, ◌==◌, Bool, true, false, not, ◌&&◌, ◌||◌, List, [], ◌∷◌, ◌++◌, Option, Some, None, slice_get}
 use Rattle.std.specs.List.{list_any, filter}
+use Rattle.formula.specs.Atoms.{same_bytes, is_among}
+use Rattle.fort_syntax.specs.Names.{has_common, commons}
 use Rattle.fort_syntax.specs.declared.name.Name.{Name}
 use Rattle.fort_syntax.specs.declared.expr.Expr.{Expr}
 use Rattle.fort_syntax.specs.declared.expr.Expr.TheVariants.{Var}
@@ -8,10 +10,9 @@ use Rattle.fort_syntax.specs.declared.stmt.BlockName.{BlockName}
 use Rattle.fort_syntax.specs.declared.stmt.BlockName.TheVariants.{Named}
 use Rattle.fort_syntax.specs.declared.stmt.Stmt.{Stmt}
 use Rattle.fort_syntax.specs.declared.unit.Unit.{Unit as Routine}
-use Rattle.fort_model.specs.Names.{same_name}
 use Rattle.fort_model.specs.Arguments.{mentions, actuals_fit, reference_fits}
 use Rattle.fort_model.specs.Calls.{CallSite, sites_of, callee_of}
-use Rattle.fort_model.specs.Program.{Program, is_among, is_smashed, has_common, commons}
+use Rattle.fort_model.specs.Program.{Program, is_smashed}
 use Rattle.fort_model.specs.Smashes.{set_by}
 
 abbrev pub in_unit : Option Routine → (Routine → Bool) → Bool
@@ -36,9 +37,9 @@ mismatches u site j g = not (actuals_fit u g site.actuals) || not (reference_fit
 
 -- ---- 41 to 43: smashed dummies and COMMON entities
 
-abbrev pub is_bare : Expr → Bool
-is_bare (Var x) = true
-is_bare _ = false
+abbrev pub is_bare_name : Expr → Bool
+is_bare_name (Var x) = true
+is_bare_name _ = false
 
 -- the actual of some smashed dummy passes a test, with its number, counted from 0
 abbrev pub some_smashed : (Name → Bool) → (ℕ → Expr → Bool) → ℕ → List Name → List Expr → Bool
@@ -57,7 +58,7 @@ bare_elsewhere all n _ = false
 
 -- the actual of a smashed dummy is no bare name
 abbrev pub passes_no_name : Program → CallSite → ℕ → Routine → Bool
-passes_no_name p site j g = some_smashed (is_smashed p j) (λ n e. not (is_bare e)) 0 g.dummies site.actuals
+passes_no_name p site j g = some_smashed (is_smashed p j) (λ n e. not (is_bare_name e)) 0 g.dummies site.actuals
 
 -- the actual of a smashed dummy stands in another actual too
 abbrev pub passes_twice : Program → CallSite → ℕ → Routine → Bool
@@ -80,7 +81,7 @@ passes_common p u site j g =
 -- ---- 44: COMMON blocks
 
 abbrev pub same_block : BlockName → BlockName → Bool
-same_block (Named x) (Named y) = same_name x y
+same_block (Named x) (Named y) = same_bytes x y
 same_block (Named x) _ = false
 same_block _ (Named y) = false
 same_block _ _ = true
@@ -104,11 +105,11 @@ bare_names smashed (d ∷ ds) [] = []
 bare_names smashed (d ∷ ds) (e ∷ es) = bare_name (smashed d) e ++ bare_names smashed ds es
 
 abbrev pub smashed_at : Program → Routine → CallSite → Name → ℕ → Routine → Bool
-smashed_at p u site x j g = is_among (bare_names (is_smashed p j) g.dummies site.actuals) x || is_among (smashed_commons p u j g) x
+smashed_at p u site x j g = is_among x (bare_names (is_smashed p j) g.dummies site.actuals) || is_among x (smashed_commons p u j g)
 
 -- a statement sets a name, or a call in it smashes the name
 abbrev pub stmt_smashes : Program → Routine → Stmt → Name → Bool
-stmt_smashes p u s x = is_among (set_by s) x || list_any (λ site. of_unit p (callee_of p.units site) (smashed_at p u site x)) (sites_of u s)
+stmt_smashes p u s x = is_among x (set_by s) || list_any (λ site. of_unit p (callee_of p.units site) (smashed_at p u site x)) (sites_of u s)
 
 -- ---- the calls of a statement
 

@@ -1,5 +1,7 @@
 -- The calls in the text of a unit, and which unit calls which.
 use Rattle.std.specs.Prelude.{◌≡◌, ℕ, Bool, true, false, cond, List, [], ◌∷◌, ◌++◌, Option, Some, slice_get}
+use Rattle.fort_syntax.specs.TreePatterns.{only, carried, row_of, listed}
+use Rattle.fort_syntax.specs.Names.{Applied, Element, BuiltIn, Reference, applied, function, subroutine}
 use mathlib.Core.Former.{Count}
 use Rattle.fort_syntax.specs.declared.name.Name.{Name}
 use Rattle.fort_syntax.specs.declared.expr.Expr.{Expr, Row_of-Expr, end_of-Expr, more_of-Expr}
@@ -9,18 +11,12 @@ use Rattle.fort_syntax.specs.declared.stmt.Stmt.TheVariants.{Assign, ArithIf, Lo
 use Rattle.fort_syntax.specs.declared.unit.Line.{Line}
 use Rattle.fort_syntax.specs.declared.unit.Unit.{Unit as Routine}
 use Rattle.fort_model.specs.Lists.{IsAmong}
-use Rattle.fort_model.specs.Trees.{only, carried, row_of}
-use Rattle.fort_model.specs.Names.{Applied, Element, BuiltIn, Reference, applied, function, subroutine}
 
 -- a call: whether it is a reference to a FUNCTION or a CALL, the called name, and the actuals in order
 pub record CallSite : Type 0 where
   pub reference : Bool
   pub callee : Name
   pub actuals : List Expr
-
-abbrev pub listed : {m : Count} → Row_of-Expr m → List Expr
-listed end_of-Expr = []
-listed (more_of-Expr e es) = e ∷ listed es
 
 -- elements and intrinsic functions are no calls
 abbrev pub own_site : Applied → Name → List Expr → List CallSite

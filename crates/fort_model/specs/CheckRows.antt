@@ -1,5 +1,6 @@
 -- Kinds and cards of the checks along the paths of small decks.
 use Rattle.std.specs.Prelude.{◌≡◌, ℕ, zero, suc, List, [], ◌∷◌, ◌++◌, replicate, codes}
+use Rattle.fort_syntax.specs.SmallDecks.{bin, rel, if, labelled, A, I, J, K, M, N}
 use Rattle.formula.specs.declared.function.BuiltIn.TheVariants as f
 use Rattle.formula.specs.Tree.{Tree, symbol}
 use Rattle.fort_syntax.specs.declared.condition.Kind.{Kind}
@@ -13,11 +14,12 @@ use Rattle.fort_syntax.specs.declared.name.Name.{Name}
 use Rattle.fort_syntax.specs.declared.stmt.Stmt.TheVariants.{Assign, GoTo, Return}
 use Rattle.fort_syntax.specs.declared.unit.Role.TheVariants.{Dummy, Local}
 use Rattle.fort_syntax.specs.declared.unit.Unit.{Unit as Routine}
-use Rattle.fort_model.specs.Program.{Program, Notes}
+use Rattle.fort_notes.specs.Assertions.{Notes}
+use Rattle.fort_model.specs.Program.{Program}
 use Rattle.fort_model.specs.Paths.{Path}
 use Rattle.fort_model.specs.Conditions.{checks_of}
-use Rattle.fort_model.specs.Decks.{bin, rel, if, line, labelled, scalar, routine}
-use Rattle.fort_model.specs.Rows.{A, I, J, K, M, N, quotients, beyond, quad, twice, up_to, pick, sign}
+use Rattle.fort_model.specs.Decks.{line, scalar, routine}
+use Rattle.fort_model.specs.Rows.{quotients, beyond, quad, twice, up_to, pick, sign}
 use Rattle.fort_model.specs.WalkRows.{term, defined, number, at_most, true_term, alone, plain_notes, the_path}
 
 abbrev pub checks_along : Program → Routine → Path → List (Kind × ℕ)

@@ -1,22 +1,24 @@
 -- Conditions of small decks.
 use Rattle.std.specs.Prelude.{◌≡◌, ℕ, List, [], ◌∷◌, ◌++◌, pos, neg_ℤ, map, drop}
+use Rattle.fort_syntax.specs.SmallDecks.{A, I, J, K, M, N}
+use Rattle.fort_syntax.specs.Conditions.{ConditionTree}
 use Rattle.formula.specs.declared.function.BuiltIn.TheVariants as f
 use Rattle.formula.specs.Tree.{Tree, num, symbol, old}
 use Rattle.fort_syntax.specs.declared.dialect.Dialect.TheVariants.{Common}
 use Rattle.fort_syntax.specs.declared.name.Name.{Name}
-use Rattle.fort_model.specs.Rows.{A, I, J, K, M, N, beyond, adjustable}
+use Rattle.fort_model.specs.Rows.{beyond, adjustable}
 use Rattle.fort_model.specs.Program.{Program}
 use Rattle.fort_model.specs.Symbols.{Symbol, AtEntry, AtStart, ByCall, word_of}
-use Rattle.fort_model.specs.Conditions.{Condition, conditions_of}
+use Rattle.fort_model.specs.Conditions.{conditions_of}
 use Rattle.fort_model.specs.WalkRows.{term, number, at_most, true_term, LEAST, GREATEST, alone, plain_notes, the_path}
 use Rattle.fort_model.specs.CheckRows.{less, difference, from_assert, loop_program, twice_program}
 use Rattle.fort_model.specs.VerdictRows.{rotate_program}
 
-abbrev pub goals : List Condition → List Tree
+abbrev pub goals : List ConditionTree → List Tree
 goals cs = map (λ c. c.goal) cs
 
 -- the hypotheses of the condition behind the first n
-abbrev pub hyps_behind : ℕ → List Condition → List (List Tree)
+abbrev pub hyps_behind : ℕ → List ConditionTree → List (List Tree)
 hyps_behind n cs = map (λ c. c.hyps) (drop n cs)
 
 abbrev pub symbol_of : Symbol → Tree
@@ -67,7 +69,7 @@ adjustable_program =
     (record { input = true_term ∷ []; output = is_equal (term f.Element (symbol A ∷ number 4 ∷ [])) (term f.Size (old A ∷ [])) ∷ []; asserts = [] })
     (A ∷ [])
 
-abbrev pub adjustable_conditions : List Condition
+abbrev pub adjustable_conditions : List ConditionTree
 adjustable_conditions = conditions_of adjustable_program ((the_path ([] ∷ [] ∷ []) ∷ []) ∷ [])
 
 -- the sorts of A, M and N; the dimensions; and INPUT
@@ -93,7 +95,7 @@ ConditionsOfAdjustable =
 
 -- ---- a round of the loop: from its ASSERT to its ASSERT
 
-abbrev pub loop_round : List Condition
+abbrev pub loop_round : List ConditionTree
 loop_round = conditions_of loop_program ((from_assert 1 ([] ∷ (1 ∷ []) ∷ []) ∷ []) ∷ [])
 
 abbrev pub next_i : Tree
@@ -130,7 +132,7 @@ GoalsPastLoops =
 
 -- ---- two calls that turn three values around
 
-abbrev pub rotate_conditions : List Condition
+abbrev pub rotate_conditions : List ConditionTree
 rotate_conditions = conditions_of rotate_program ([] ∷ (the_path ([] ∷ [] ∷ [] ∷ []) ∷ []) ∷ [])
 
 abbrev pub rotate_start : List Tree

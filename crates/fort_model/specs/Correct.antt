@@ -1,6 +1,7 @@
 -- Total correctness.
 use Rattle.std.specs.Prelude.{◌≡◌, ℕ, List, [], ◌∷◌, Option, Some, None, slice_get, IsTrue, map}
 use Rattle.std.specs.List.{list_all}
+use Rattle.fort_syntax.specs.Names.{data_name}
 use Rattle.formula.specs.declared.value.Cell.{Cell}
 use Rattle.formula.specs.declared.value.Cell.TheVariants as cell
 use Rattle.formula.specs.declared.value.Value.{Value}
@@ -14,7 +15,6 @@ use Rattle.fort_syntax.specs.declared.unit.DataName.{DataName}
 use Rattle.fort_syntax.specs.declared.unit.Role.{Role}
 use Rattle.fort_syntax.specs.declared.unit.Role.TheVariants.{Dummy, InCommon, OwnValue, Local}
 use Rattle.fort_syntax.specs.declared.unit.Unit.{Unit as Routine}
-use Rattle.fort_model.specs.Names.{data_name}
 use Rattle.fort_model.specs.Processor.{Processor, MeetsBound}
 use Rattle.fort_model.specs.Storage.{Storage, Environment, Extent, load, contents}
 use Rattle.fort_model.specs.Outcome.{Ended}

@@ -1,34 +1,25 @@
 -- Short ways to write small decks down.
-use Rattle.std.specs.Prelude.{ℕ, Bool, true, false, pos, neg_ℤ, List, [], ◌∷◌, Some, None}
+use Rattle.std.specs.Prelude.{ℕ, ◌+◌, ◌-◌, Bool, true, false, cond, pos, neg_ℤ, List, [], ◌∷◌, Some, None}
+use Rattle.std.specs.List.{list_any}
+use Rattle.fort_syntax.specs.TreePatterns.{only}
 use Rattle.formula.specs.declared.value.Cell.{Cell}
 use Rattle.formula.specs.declared.value.Cell.TheVariants.{Int}
 use Rattle.fort_syntax.specs.declared.name.Name.{Name}
-use Rattle.fort_syntax.specs.declared.dialect.BinOp.{BinOp}
-use Rattle.fort_syntax.specs.declared.dialect.RelOp.{RelOp}
 use Rattle.fort_syntax.specs.declared.dialect.Dialect.{Dialect}
 use Rattle.fort_syntax.specs.declared.dialect.Sort.TheVariants.{Integer}
-use mathlib.Core.Former.{arity, this}
-use Rattle.edge_io.specs.formers.list.List as former
-use Rattle.fort_syntax.specs.declared.expr.Expr.{Expr, Row_of-Expr, end_of-Expr, more_of-Expr}
-use Rattle.fort_syntax.specs.declared.expr.Expr.TheVariants.{Apply', Paren', Neg', Power', Bin', Rel', And'}
+use Rattle.fort_syntax.specs.declared.expr.Expr.{Expr}
+use Rattle.fort_syntax.specs.declared.expr.Expr.TheVariants.{Neg', Power', And'}
 use Rattle.fort_syntax.specs.declared.stmt.Dim.{Dim}
 use Rattle.fort_syntax.specs.declared.stmt.Stmt.{Stmt}
-use Rattle.fort_syntax.specs.declared.stmt.Stmt.TheVariants.{LogicalIf'}
 use Rattle.fort_syntax.specs.declared.unit.DataName.{DataName}
 use Rattle.fort_syntax.specs.declared.unit.Line.{Line}
 use Rattle.fort_syntax.specs.declared.unit.Role.{Role}
 use Rattle.fort_syntax.specs.declared.unit.Role.TheVariants.{OwnValue}
 use Rattle.fort_syntax.specs.declared.unit.Unit.{Unit as Routine}
-use Rattle.fort_model.specs.Trees.{only, carried}
+use Rattle.fort_syntax.specs.Scopes.{is_given_dims}
+use Rattle.fort_syntax.specs.Units.{card_of_first, card_of_last}
 use Rattle.fort_model.specs.Storage.{Environment, with_extents, side_by_side}
 use Rattle.fort_model.specs.Processor.{Processor}
-
--- expressions
-abbrev pub bin : BinOp → Expr → Expr → Expr
-bin o a b = Bin' o _ (only a) _ (only b)
-
-abbrev pub rel : RelOp → Expr → Expr → Expr
-rel o a b = Rel' o _ (only a) _ (only b)
 
 abbrev pub conj : Expr → Expr → Expr
 conj a b = And' _ (only a) _ (only b)
@@ -39,29 +30,9 @@ power a n = Power' _ (only a) n
 abbrev pub minus : Expr → Expr
 minus a = Neg' _ (only a)
 
-abbrev pub bracket : Expr → Expr
-bracket a = Paren' _ (only a)
-
-abbrev pub shape_of : List Expr → List (Unit {0})
-shape_of [] = []
-shape_of (e ∷ es) = tt ∷ shape_of es
-
-abbrev pub arguments : (es : List Expr) → Row_of-Expr (arity (former.the_former (this {0})) (shape_of es))
-arguments [] = end_of-Expr
-arguments (e ∷ es) = more_of-Expr e (arguments es)
-
-abbrev pub applied_to : Name → List Expr → Expr
-applied_to f args = Apply' f (shape_of args) (arguments args)
-
-abbrev pub if : Expr → Stmt → Stmt
-if e s = LogicalIf' e _ (carried s)
-
 -- statements at their cards, without a label and with one
 abbrev pub line : ℕ → Stmt → Line
 line card s = record { card = card; label = 0; stmt = s }
-
-abbrev pub labelled : ℕ → ℕ → Stmt → Line
-labelled card label s = record { card = card; label = label; stmt = s }
 
 -- integer names
 abbrev pub scalar : Role → Name → DataName
@@ -70,15 +41,22 @@ scalar role x = record { name = x; sort = Integer; dims = []; role = role }
 abbrev pub array : Role → Name → List Dim → DataName
 array role x dims = record { name = x; sort = Integer; dims = dims; role = role }
 
+-- the declaration of its arrays, INPUT and OUTPUT stand between the head of a unit and its first statement, and END behind the last
+abbrev pub card_of_head : List DataName → List Line → ℕ
+card_of_head names lines = card_of_first lines - cond (list_any (λ d. is_given_dims d.dims) names) 4 3
+
+abbrev pub card_of_end : List Line → ℕ
+card_of_end lines = card_of_last 0 lines + 1
+
 -- a SUBROUTINE without COMMON: its name, its dummies, its data names and its statements
 abbrev pub routine : Name → List Name → List DataName → List Line → Routine
 routine name dummies names lines =
-    record { name = name; sort = None; head = 1; dummies = dummies; names = names; functions = []; blocks = []; lines = lines; «end» = 0 }
+    record { name = name; sort = None; head = card_of_head names lines; dummies = dummies; names = names; functions = []; blocks = []; lines = lines; «end» = card_of_end lines }
 
 -- an integer FUNCTION without COMMON; its value is the first of its data names
 abbrev pub function_of : Name → List Name → List DataName → List Line → Routine
 function_of name dummies names lines =
-    record { name = name; sort = Some Integer; head = 1; dummies = dummies; names = scalar OwnValue name ∷ names; functions = []; blocks = []; lines = lines; «end» = 0 }
+    record { name = name; sort = Some Integer; head = card_of_head names lines; dummies = dummies; names = scalar OwnValue name ∷ names; functions = []; blocks = []; lines = lines; «end» = card_of_end lines }
 
 -- the numbers of 16 bits
 abbrev pub processor : Dialect → Bool → (Name → ℕ → ℕ → Bool) → Processor

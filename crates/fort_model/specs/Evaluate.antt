@@ -1,5 +1,7 @@
 -- How expressions are evaluated: operands from the left, and before their operators.
 use Rattle.std.specs.Prelude.{ℕ, zero, suc, pred, ◌+◌, true, false, cond, not, ◌&&◌, ◌||◌, ℤ, pos, ◌-ℤ◌, ◌*ℤ◌, neg_ℤ, int_le, List, [], ◌∷◌, Option}
+use Rattle.fort_syntax.specs.TreePatterns.{only}
+use Rattle.fort_syntax.specs.Names.{Intrinsic, Absolute, Modulo, Greatest, Least, Applied, Element, BuiltIn, Reference, applied, function, unit_at}
 use mathlib.Core.Former.{Count}
 use Rattle.formula.specs.Values.{count, is_between, quotient, remainder, absolute, greater, smaller}
 use Rattle.formula.specs.declared.value.Cell.{Cell}
@@ -12,14 +14,12 @@ use Rattle.fort_syntax.specs.declared.expr.Expr.{Expr, Row_of-Expr, end_of-Expr,
 use Rattle.fort_syntax.specs.declared.expr.Expr.TheVariants.{Const, Truth, Var, Apply', Paren', Pos', Neg', Power', Bin', Rel', Not', And', Or'}
 use Rattle.fort_syntax.specs.declared.stmt.Dim.{Dim}
 use Rattle.fort_syntax.specs.declared.unit.Unit.{Unit as Routine}
-use Rattle.fort_model.specs.Trees.{only}
-use Rattle.fort_model.specs.Names.{Intrinsic, Absolute, Modulo, Greatest, Least, Applied, Element, BuiltIn, Reference, applied, function, unit_at}
 use Rattle.fort_model.specs.Sites.{calls_in}
 use Rattle.fort_model.specs.Cells.{num, holds, is_defined, same, arithmetic, compares}
 use Rattle.fort_model.specs.Storage.{Extent, Environment, load}
 use Rattle.fort_model.specs.Places.{dim_values, place}
 use Rattle.fort_model.specs.Processor.{Processor}
-use Rattle.fort_model.specs.Outcome.{Act, ◌>>=◌, ◌>>◌, give, check, held}
+use Rattle.fort_model.specs.Outcome.{Act, ◌>>◌, ◌>>=◌, give, check, held}
 use Rattle.fort_model.specs.Passing.{Taken, Cells, Fresh, passed, Caller, call}
 
 -- where evaluation goes on: the processor, the units of the deck, the unit, and the cells of its names

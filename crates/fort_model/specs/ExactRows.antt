@@ -1,6 +1,7 @@
 -- Conditions and walks of small decks side by side: for some values, which conditions are false, and where the walk fails.
 use Rattle.std.specs.Prelude.{◌≡◌, ℕ, suc, Bool, true, cond, List, [], ◌∷◌, replicate, codes, pos, neg_ℤ}
 use Rattle.std.specs.List.{list_all}
+use Rattle.fort_syntax.specs.Conditions.{ConditionTree}
 use Rattle.formula.specs.declared.value.Cell.TheVariants as cell
 use Rattle.formula.specs.declared.value.Value.{Value}
 use Rattle.formula.specs.declared.value.Value.TheVariants.{Int, Logical, Cells}
@@ -9,7 +10,7 @@ use Rattle.fort_syntax.specs.declared.unit.Unit.{Unit as Routine}
 use Rattle.fort_model.specs.Events.{Verdict, Good, Fails, Off, verdict}
 use Rattle.fort_model.specs.Program.{Program}
 use Rattle.fort_model.specs.Paths.{Path}
-use Rattle.fort_model.specs.Conditions.{Condition, conditions_of, walked}
+use Rattle.fort_model.specs.Conditions.{conditions_of, walked}
 use Rattle.fort_model.specs.Rows.{inc, adjustable}
 use Rattle.fort_model.specs.WalkRows.{inc_program, the_path}
 use Rattle.fort_model.specs.CheckRows.{loop, loop_program, from_assert}
@@ -21,16 +22,16 @@ abbrev pub words : List (List ℕ × Value) → Valuation
 words more = assigned ((codes "LEAST", Int (neg_ℤ (pos 32768))) ∷ (codes "GREATEST", Int (pos 32767)) ∷ more)
 
 -- the numbers, from k on, of the conditions that pass a test
-abbrev pub numbers_of : (Condition → Bool) → ℕ → List Condition → List ℕ
+abbrev pub numbers_of : (ConditionTree → Bool) → ℕ → List ConditionTree → List ℕ
 numbers_of test k [] = []
 numbers_of test k (c ∷ cs) =
     let rest = numbers_of test (suc k) cs in
     cond (test c) (k ∷ rest) rest
 
-abbrev pub is_reached : Valuation → Condition → Bool
+abbrev pub is_reached : Valuation → ConditionTree → Bool
 is_reached values c = list_all (is_true_under [] values nothing_known) c.hyps
 
-abbrev pub is_false : Valuation → Condition → Bool
+abbrev pub is_false : Valuation → ConditionTree → Bool
 is_false values c = is_false_under [] values nothing_known c.hyps c.goal
 
 -- along a path of the one unit of a program: the conditions whose hypotheses are true, those that are false, and what the

@@ -1,6 +1,7 @@
 -- Storage that a unit may be run on: its names lie apart, and their cells have their names' sizes and types.
 use Rattle.std.specs.Prelude.{◌≡◌, ◌≢◌, ◌≤◌, ◌<◌, ℕ, ◌+◌, Bool, true, false, pos, int_le, List, length, IsTrue}
 use Rattle.std.specs.List.{list_all}
+use Rattle.fort_syntax.specs.Names.{is_own}
 use Rattle.formula.specs.declared.value.Cell.{Cell}
 use Rattle.formula.specs.declared.value.Cell.TheVariants.{Int, Logical, Undefined}
 use Rattle.formula.specs.Values.{is_integer_cell, is_logical_cell}
@@ -11,7 +12,6 @@ use Rattle.fort_syntax.specs.declared.stmt.Dim.TheVariants.{Fixed, Named}
 use Rattle.fort_syntax.specs.declared.unit.DataName.{DataName}
 use Rattle.fort_syntax.specs.declared.unit.Unit.{Unit as Routine}
 use Rattle.fort_model.specs.Lists.{IsAmong}
-use Rattle.fort_model.specs.Names.{is_own}
 use Rattle.fort_model.specs.Places.{dim_values, stretch}
 use Rattle.fort_model.specs.Processor.{Processor}
 use Rattle.fort_model.specs.Smashes.{Smashes}

@@ -1,13 +1,14 @@
 -- Notes that fit their units.
 use Rattle.std.specs.Prelude.{◌≡◌, ◌<◌, ℕ, Bool, true, false, not, ◌&&◌, ◌||◌, List, length, Some, slice_get, codes, IsTrue}
 use Rattle.std.specs.List.{list_all}
+use Rattle.fort_syntax.specs.Names.{data_name, is_own, has_role, is_local}
 use Rattle.formula.specs.Atoms.{same_bytes}
 use Rattle.formula.specs.Tree.{Tree, num, truth, symbol, old, apply, Row, none, more}
 use Rattle.fort_syntax.specs.declared.unit.Role.{Role}
 use Rattle.fort_syntax.specs.declared.unit.Unit.{Unit as Routine}
 use Rattle.fort_model.specs.Lists.{IsAmong}
-use Rattle.fort_model.specs.Names.{data_name, is_own}
-use Rattle.fort_model.specs.Program.{Program, Notes, Assertion, assertion_at, has_role, is_local}
+use Rattle.fort_notes.specs.Assertions.{Notes, Assertion}
+use Rattle.fort_model.specs.Program.{Program, assertion_at}
 
 abbrev mutual
   -- each symbol of a term passes a test, and each name whose entry value stands in it another one

@@ -2,6 +2,7 @@
 -- decide in a run. The executable statements of a unit are points, counted from 0; the number of
 -- statements stands for the end of the unit, which a RETURN reaches. Choices count from 1.
 use Rattle.std.specs.Prelude.{ℕ, zero, suc, pred, ◌+◌, ◌==◌, Bool, true, false, cond, nat_lt, List, [], ◌∷◌, map, length, drop, Option, Some, None, slice_get}
+use Rattle.fort_syntax.specs.TreePatterns.{carried}
 use Rattle.fort_syntax.specs.declared.name.Name.{Name}
 use Rattle.fort_syntax.specs.declared.dialect.Dialect.{Dialect}
 use Rattle.fort_syntax.specs.declared.dialect.Dialect.TheVariants.{Common, SeventySeven}
@@ -10,7 +11,6 @@ use Rattle.fort_syntax.specs.declared.stmt.Stmt.{Stmt}
 use Rattle.fort_syntax.specs.declared.stmt.Stmt.TheVariants.{Assign, GoTo, Computed, ArithIf, LogicalIf', Do, Continue, Call, Return, BlockIf, ElseIf, Else, EndIf}
 use Rattle.fort_syntax.specs.declared.unit.Line.{Line}
 use Rattle.fort_syntax.specs.declared.unit.Unit.{Unit as Routine}
-use Rattle.fort_model.specs.Trees.{carried}
 
 -- the point of the first statement with a label
 abbrev pub target : List Line → ℕ → ℕ
@@ -177,3 +177,11 @@ leads dialect u pc (ElseIf e) cs = one_of (next_point u pc ∷ next_branch u pc 
 leads dialect u pc Else cs = behind u pc cs
 leads dialect u pc EndIf cs = behind u pc cs
 leads dialect u pc _ cs = None
+
+abbrev pub leads_by : Dialect → Routine → ℕ → Option Line → List ℕ → Option ℕ
+leads_by dialect u pc None cs = None
+leads_by dialect u pc (Some line) cs = leads dialect u pc line.stmt cs
+
+-- the point that the statement at a point leads to; None too where no statement stands there
+abbrev pub leads_at : Dialect → Routine → ℕ → List ℕ → Option ℕ
+leads_at dialect u pc cs = leads_by dialect u pc (slice_get u.lines pc) cs

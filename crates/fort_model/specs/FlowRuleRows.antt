@@ -1,5 +1,6 @@
 -- Small decks that break the rules on the flow in a unit.
 use Rattle.std.specs.Prelude.{◌≡◌, ℕ, List, [], ◌∷◌, None, codes}
+use Rattle.fort_syntax.specs.SmallDecks.{rel, if, labelled, I, J, M}
 use Rattle.fort_syntax.specs.declared.dialect.RelOp.TheVariants.{Lt, Eq}
 use Rattle.fort_syntax.specs.declared.dialect.Dialect.{Dialect}
 use Rattle.fort_syntax.specs.declared.dialect.Dialect.TheVariants.{Common, SeventySeven}
@@ -12,8 +13,7 @@ use Rattle.fort_syntax.specs.declared.stmt.Stmt.TheVariants.{Assign, GoTo, Compu
 use Rattle.fort_syntax.specs.declared.unit.DataName.{DataName}
 use Rattle.fort_syntax.specs.declared.unit.Line.{Line}
 use Rattle.fort_syntax.specs.declared.unit.Role.TheVariants.{Local}
-use Rattle.fort_model.specs.Decks.{rel, if, line, labelled, scalar, routine}
-use Rattle.fort_model.specs.Rows.{I, J, M}
+use Rattle.fort_model.specs.Decks.{line, scalar, routine}
 use Rattle.fort_model.specs.Rules.{cards_breaking, IsBroken}
 use Rattle.fort_model.specs.WalkRows.{plain_notes, alone}
 use Rattle.fort_model.specs.CheckRows.{twice_program}

@@ -1,5 +1,6 @@
 -- Checks of single forms: constants, the values of FUNCTIONs, arithmetic IFs, actuals.
 use Rattle.std.specs.Prelude.{◌≡◌, ℕ, List, [], ◌∷◌, ◌++◌, codes, drop}
+use Rattle.fort_syntax.specs.SmallDecks.{bin, bracket, applied_to, A, F, I, J}
 use Rattle.formula.specs.declared.function.BuiltIn.TheVariants as f
 use Rattle.fort_syntax.specs.declared.condition.Kind.{Kind}
 use Rattle.fort_syntax.specs.declared.condition.Kind.TheVariants.{DefinedCheck, RangeCheck, SubscriptCheck, ResultCheck, InputCheck, OutputCheck}
@@ -11,8 +12,8 @@ use Rattle.fort_syntax.specs.declared.stmt.Dim.TheVariants.{Fixed}
 use Rattle.fort_syntax.specs.declared.stmt.Stmt.TheVariants.{Call, Return}
 use Rattle.fort_syntax.specs.declared.unit.Role.TheVariants.{Dummy}
 use Rattle.fort_syntax.specs.declared.unit.Unit.{Unit as Routine}
-use Rattle.fort_model.specs.Decks.{bin, bracket, power, applied_to, line, scalar, array, routine}
-use Rattle.fort_model.specs.Rows.{A, F, I, J, successor}
+use Rattle.fort_model.specs.Decks.{power, line, scalar, array, routine}
+use Rattle.fort_model.specs.Rows.{successor}
 use Rattle.fort_model.specs.FormRows.{assigns, compare}
 use Rattle.fort_model.specs.Program.{Program}
 use Rattle.fort_model.specs.Conditions.{checks_of, conditions_of}

@@ -1,5 +1,6 @@
 -- Small decks for single forms: powers, intrinsic functions, IFs, DOs, whole arrays, the numbers of calls.
 use Rattle.std.specs.Prelude.{◌≡◌, ℕ, ◌==◌, Bool, false, [], ◌∷◌, Some, None, codes}
+use Rattle.fort_syntax.specs.SmallDecks.{bin, rel, applied_to, labelled, A, I, J, K, M, N}
 use Rattle.formula.specs.declared.value.Cell.{Cell}
 use Rattle.formula.specs.declared.value.Cell.TheVariants.{Undefined}
 use Rattle.fort_syntax.specs.declared.name.Name.{Name}
@@ -14,9 +15,8 @@ use Rattle.fort_syntax.specs.declared.stmt.Param.TheVariants as parameter
 use Rattle.fort_syntax.specs.declared.stmt.Stmt.TheVariants.{Assign, ArithIf, Do, Continue, Call, Return, BlockIf, Else, EndIf}
 use Rattle.fort_syntax.specs.declared.unit.Role.TheVariants.{Dummy, InCommon, Local}
 use Rattle.fort_syntax.specs.declared.unit.Unit.{Unit as Routine}
-use Rattle.fort_model.specs.Decks.{bin, rel, power, applied_to, line, labelled, scalar, array, routine, function_of, processor, by_reference, by_copy, laid_out, int, negative}
+use Rattle.fort_model.specs.Decks.{power, line, scalar, array, routine, function_of, processor, by_reference, by_copy, laid_out, int, negative}
 use Rattle.fort_model.specs.Outcome.{Outcome, Ended, Erred}
-use Rattle.fort_model.specs.Rows.{A, I, J, K, M, N}
 use Rattle.fort_model.specs.Run.{run}
 
 -- ---- I becomes the value of an expression

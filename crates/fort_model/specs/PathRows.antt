@@ -2,7 +2,8 @@
 use Rattle.std.specs.Prelude.{[], ◌∷◌}
 use Rattle.fort_syntax.specs.declared.dialect.Dialect.TheVariants.{Common}
 use Rattle.fort_model.specs.Paths.{IsPath, Ascend}
-use Rattle.fort_model.specs.Program.{Notes, notes_of}
+use Rattle.fort_notes.specs.Assertions.{Notes}
+use Rattle.fort_model.specs.Program.{notes_of}
 use Rattle.fort_model.specs.Rows.{twice}
 use Rattle.fort_model.specs.WalkRows.{the_path}
 use Rattle.fort_model.specs.CheckRows.{loop, loop_program, twice_notes, from_assert}

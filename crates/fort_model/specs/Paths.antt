@@ -10,7 +10,8 @@ use Rattle.fort_syntax.specs.declared.unit.Line.{Line}
 use Rattle.fort_syntax.specs.declared.unit.Unit.{Unit as Routine}
 use Rattle.fort_model.specs.Lists.{IsAmong}
 use Rattle.fort_model.specs.Flow.{leads}
-use Rattle.fort_model.specs.Program.{Assertion, Notes, assertion_at}
+use Rattle.fort_notes.specs.Assertions.{Assertion, Notes}
+use Rattle.fort_model.specs.Program.{assertion_at}
 
 -- a point is the end of the unit, which a RETURN reaches; or that of a statement with an ASSERT; or no cut point
 pub data Cut : Type 0 where

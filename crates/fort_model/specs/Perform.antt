@@ -1,5 +1,7 @@
 -- What one statement does. It answers the choices that the values make, by which the flow goes on.
 use Rattle.std.specs.Prelude.{ℕ, suc, ◌+◌, Bool, true, false, cond, ◌&&◌, ℤ, pos, ◌+ℤ◌, ◌-ℤ◌, int_le, int_lt, List, [], ◌∷◌, length, Option, Some, None, slice_get}
+use Rattle.fort_syntax.specs.TreePatterns.{carried, row_of}
+use Rattle.fort_syntax.specs.Names.{is_function, subroutine}
 use Rattle.formula.specs.Values.{count, is_between}
 use Rattle.formula.specs.declared.value.Cell.{Cell}
 use Rattle.formula.specs.declared.value.Cell.TheVariants.{Int, Undefined}
@@ -12,13 +14,11 @@ use Rattle.fort_syntax.specs.declared.stmt.Param.TheVariants.{Fixed, Named}
 use Rattle.fort_syntax.specs.declared.stmt.Stmt.{Stmt}
 use Rattle.fort_syntax.specs.declared.stmt.Stmt.TheVariants.{Assign, GoTo, Computed, ArithIf, LogicalIf', Do, Continue, Call, Return, BlockIf, ElseIf, Else, EndIf}
 use Rattle.fort_syntax.specs.declared.unit.Line.{Line}
-use Rattle.fort_model.specs.Trees.{carried, row_of}
-use Rattle.fort_model.specs.Names.{is_function, subroutine}
 use Rattle.fort_model.specs.Sites.{calls_in}
 use Rattle.fort_model.specs.Flow.{target, Loop, loops_at, loops_around}
 use Rattle.fort_model.specs.Cells.{num, holds, is_defined, same}
 use Rattle.fort_model.specs.Storage.{load, store}
-use Rattle.fort_model.specs.Outcome.{Act, ◌>>=◌, ◌>>◌, give, check, step, stuck, held, put}
+use Rattle.fort_model.specs.Outcome.{Act, ◌>>◌, ◌>>=◌, give, check, step, stuck, held, put}
 use Rattle.fort_model.specs.Passing.{Taken, Cells, Fresh, Caller}
 use Rattle.fort_model.specs.Evaluate.{Scene, read, ranged, constant, taken, actuals, call_at, evaluate}
 

@@ -1,5 +1,7 @@
 -- Small decks and what becomes of their runs. A run with n steps ends with the steps that are left.
 use Rattle.std.specs.Prelude.{◌≡◌, ℕ, ◌==◌, Bool, true, false, ◌&&◌, ◌||◌, [], ◌∷◌, ◌++◌, replicate, None, codes}
+use Rattle.formula.specs.Atoms.{same_bytes}
+use Rattle.fort_syntax.specs.SmallDecks.{bin, rel, bracket, applied_to, if, labelled, A, F, I, J, K, M, N}
 use Rattle.formula.specs.declared.value.Cell.{Cell}
 use Rattle.formula.specs.declared.value.Cell.TheVariants.{Undefined}
 use Rattle.fort_syntax.specs.declared.name.Name.{Name}
@@ -14,31 +16,9 @@ use Rattle.fort_syntax.specs.declared.stmt.Param.TheVariants as parameter
 use Rattle.fort_syntax.specs.declared.stmt.Stmt.TheVariants.{Assign, Computed, Do, Continue, Call, Return, BlockIf, ElseIf, Else, EndIf}
 use Rattle.fort_syntax.specs.declared.unit.Role.TheVariants.{Dummy, InCommon, Local}
 use Rattle.fort_syntax.specs.declared.unit.Unit.{Unit as Routine}
-use Rattle.fort_model.specs.Names.{same_name}
-use Rattle.fort_model.specs.Decks.{bin, rel, conj, minus, bracket, applied_to, if, line, labelled, scalar, array, routine, function_of, processor, by_reference, by_copy, laid_out, int, negative}
+use Rattle.fort_model.specs.Decks.{conj, minus, line, scalar, array, routine, function_of, processor, by_reference, by_copy, laid_out, int, negative}
 use Rattle.fort_model.specs.Outcome.{Outcome, Ended, Erred, Running}
 use Rattle.fort_model.specs.Run.{run}
-
-abbrev pub A : Name
-A = codes "A"
-
-abbrev pub F : Name
-F = codes "F"
-
-abbrev pub I : Name
-I = codes "I"
-
-abbrev pub J : Name
-J = codes "J"
-
-abbrev pub K : Name
-K = codes "K"
-
-abbrev pub M : Name
-M = codes "M"
-
-abbrev pub N : Name
-N = codes "N"
 
 -- ---- one is added to I at card 4
 
@@ -154,7 +134,7 @@ rotated lazy copies =
 
 -- the second argument of the first call and the first one of the second
 abbrev pub crosswise : Name → ℕ → ℕ → Bool
-crosswise unit call argument = same_name unit (codes "ROT") && ((call == 1 && argument == 2) || (call == 2 && argument == 1))
+crosswise unit call argument = same_bytes unit (codes "ROT") && ((call == 1 && argument == 2) || (call == 2 && argument == 1))
 
 abbrev pub RotatedInAnyManner : Type 0
 RotatedInAnyManner =

@@ -1,5 +1,6 @@
 -- Small decks and the rules that they break.
-use Rattle.std.specs.Prelude.{◌≡◌, ℕ, List, [], ◌∷◌, None, codes}
+use Rattle.std.specs.Prelude.{◌≡◌, ℕ, ◌-◌, List, [], ◌∷◌, None, codes}
+use Rattle.fort_syntax.specs.SmallDecks.{bin, rel, bracket, applied_to, A, I, J, K}
 use Rattle.fort_syntax.specs.declared.dialect.BinOp.TheVariants.{Add}
 use Rattle.fort_syntax.specs.declared.dialect.RelOp.TheVariants.{Lt}
 use Rattle.fort_syntax.specs.declared.dialect.Dialect.TheVariants.{Common}
@@ -16,8 +17,8 @@ use Rattle.fort_syntax.specs.declared.unit.DataName.{DataName}
 use Rattle.fort_syntax.specs.declared.unit.Line.{Line}
 use Rattle.fort_syntax.specs.declared.unit.Role.TheVariants.{Dummy, InCommon, Local}
 use Rattle.fort_syntax.specs.declared.unit.Unit.{Unit as Routine}
-use Rattle.fort_model.specs.Decks.{bin, rel, bracket, applied_to, line, scalar, array, routine}
-use Rattle.fort_model.specs.Rows.{A, I, J, K}
+use Rattle.fort_syntax.specs.Units.{card_of_first}
+use Rattle.fort_model.specs.Decks.{card_of_end, line, scalar, array, routine}
 use Rattle.fort_model.specs.Program.{Program}
 use Rattle.fort_model.specs.Rules.{cards_breaking, IsBroken}
 use Rattle.fort_model.specs.VerdictRows.{two_units}
@@ -74,10 +75,10 @@ ActualsMatchDummies =
 abbrev pub box : Name → Group
 box x = record { block = Block (codes "BOX"); items = record { name = x; dims = [] } ∷ [] }
 
--- a SUBROUTINE whose COMMON entity is K
+-- a SUBROUTINE whose COMMON entity is K; the COMMON statement, INPUT and OUTPUT stand behind its head
 abbrev pub with_box : Name → List Name → List DataName → List Line → Routine
 with_box name dummies names lines =
-    record { name = name; sort = None; head = 1; dummies = dummies; names = names; functions = []; blocks = box K ∷ []; lines = lines; «end» = 0 }
+    record { name = name; sort = None; head = card_of_first lines - 4; dummies = dummies; names = names; functions = []; blocks = box K ∷ []; lines = lines; «end» = card_of_end lines }
 
 -- it sets K at card 5, or its dummy J
 abbrev pub sets : Name → Routine

@@ -1,6 +1,8 @@
 -- The rules on calls, storage and flow: which unit of a program breaks one, and at which card.
 use Rattle.std.specs.Prelude.{◌≡◌, ℕ, suc, ◌==◌, Bool, true, false, not, ◌&&◌, ◌||◌, cond, nat_lt, is_some, List, [], ◌∷◌, ◌++◌, length, take, Some, slice_get}
 use Rattle.std.specs.List.{list_any}
+use Rattle.formula.specs.Atoms.{same_bytes, is_among}
+use Rattle.fort_syntax.specs.Names.{intrinsic, is_own, is_function}
 use Rattle.fort_syntax.specs.declared.name.Name.{Name}
 use Rattle.fort_syntax.specs.declared.dialect.Dialect.{Dialect}
 use Rattle.fort_syntax.specs.declared.dialect.Dialect.TheVariants.{Common, SeventySeven}
@@ -13,8 +15,8 @@ use Rattle.fort_syntax.specs.declared.stmt.Stmt.TheVariants.{GoTo, Computed, Ari
 use Rattle.fort_syntax.specs.declared.unit.Line.{Line}
 use Rattle.fort_syntax.specs.declared.unit.Unit.{Unit as Routine}
 use Rattle.fort_model.specs.Lists.{IsAmong}
-use Rattle.fort_model.specs.Names.{same_name, intrinsic, is_own, is_function}
-use Rattle.fort_model.specs.Program.{Program, Assertion, notes_of, is_among, is_smashed}
+use Rattle.fort_notes.specs.Assertions.{Assertion}
+use Rattle.fort_model.specs.Program.{Program, notes_of, is_smashed}
 use Rattle.fort_model.specs.Paths.{Uncut}
 use Rattle.fort_model.specs.Calls.{Reaches, callee_of, sites_of}
 use Rattle.fort_model.specs.Walk.{is_some_dim}
@@ -41,7 +43,7 @@ abbrev pub smashes_do : Program → Routine → ℕ → Stmt → DoRange → Boo
 smashes_do p u pc s d = lies_in pc d.range && list_any (stmt_smashes p u s) d.names
 
 abbrev pub uses_itself : Stmt → Bool
-uses_itself (Do label x first last step) = is_among (param_names first ++ param_names last ++ step_names step) x
+uses_itself (Do label x first last step) = is_among x (param_names first ++ param_names last ++ step_names step)
 uses_itself _ = false
 
 abbrev pub breaks_do : Program → Routine → ℕ → Stmt → Bool
@@ -81,14 +83,14 @@ all_clocks (a ∷ rest) = bad_clocks (length a.clock) (a ∷ rest)
 -- ---- 37: the name of a unit
 
 abbrev pub is_block_name : Name → BlockName → Bool
-is_block_name x (Named y) = same_name x y
+is_block_name x (Named y) = same_bytes x y
 is_block_name x Bare = false
 is_block_name x Slashes = false
 
 -- it is that of an earlier unit, of an intrinsic function, or of a COMMON block of the deck
 abbrev pub is_name_taken : Program → ℕ → Routine → Bool
 is_name_taken p i u =
-    list_any (λ g. same_name g.name u.name) (take i p.units)
+    list_any (λ g. same_bytes g.name u.name) (take i p.units)
     || (is_some (intrinsic u.name) || list_any (λ g. list_any (λ group. is_block_name u.name group.block) g.blocks) p.units)
 
 -- ---- 38: a call of a unit that the deck has not
@@ -151,6 +153,10 @@ pub record IsBroken (p : Program) (rule : Rule) (i card : ℕ) : Type 0 where
   pub is_unit : slice_get p.units i ≡ Some unit
   pub breaks : Breaks p rule i unit card
 
--- a program keeps these rules
+-- a program keeps a rule: no unit breaks it
+abbrev pub KeepsRule : Program → Rule → Type 0
+KeepsRule p rule = (i card : ℕ) → IsBroken p rule i card → ⊥
+
+-- a program keeps all of these rules
 abbrev pub KeepsRules : Program → Type 0
-KeepsRules p = (rule : Rule) (i card : ℕ) → IsBroken p rule i card → ⊥
+KeepsRules p = (rule : Rule) → KeepsRule p rule

@@ -1,16 +1,16 @@
 -- How a unit is run.
 use Rattle.std.specs.Prelude.{ℕ, zero, suc, cond, List, ◌++◌, map, sum, length, take, replicate, Option, Some, None, slice_get}
+use Rattle.fort_syntax.specs.Names.{own_names, is_function}
 use Rattle.formula.specs.declared.value.Cell.{Cell}
 use Rattle.formula.specs.declared.value.Cell.TheVariants.{Undefined}
 use Rattle.fort_syntax.specs.declared.unit.Line.{Line}
 use Rattle.fort_syntax.specs.declared.unit.Unit.{Unit as Routine}
-use Rattle.fort_model.specs.Names.{own_names, is_function}
 use Rattle.fort_model.specs.Sites.{calls_before}
 use Rattle.fort_model.specs.Flow.{leads}
 use Rattle.fort_model.specs.Storage.{Storage, Environment, load, with_extents, side_by_side}
 use Rattle.fort_model.specs.Places.{dim_values, size_of}
 use Rattle.fort_model.specs.Processor.{Processor}
-use Rattle.fort_model.specs.Outcome.{Act, ◌>>=◌, ◌>>◌, give, step, stuck, held, put}
+use Rattle.fort_model.specs.Outcome.{Act, ◌>>◌, ◌>>=◌, give, step, stuck, held, put}
 use Rattle.fort_model.specs.Perform.{perform}
 
 -- the number of cells of each name that gets new ones

@@ -1,6 +1,8 @@
 -- The numbers of calls. The calls of a unit, CALL statements and references to FUNCTIONs alike, are
 -- numbered from 1 in the order in which the called names stand in its text.
 use Rattle.std.specs.Prelude.{ℕ, ◌+◌, List, [], ◌∷◌, take}
+use Rattle.fort_syntax.specs.Names.{Applied, Element, BuiltIn, Reference, applied}
+use Rattle.fort_syntax.specs.TreePatterns.{only, carried, row_of}
 use mathlib.Core.Former.{Count}
 use Rattle.fort_syntax.specs.declared.expr.Expr.{Expr, Row_of-Expr, end_of-Expr, more_of-Expr}
 use Rattle.fort_syntax.specs.declared.expr.Expr.TheVariants.{Const, Truth, Var, Apply', Paren', Pos', Neg', Power', Bin', Rel', Not', And', Or'}
@@ -8,8 +10,6 @@ use Rattle.fort_syntax.specs.declared.stmt.Stmt.{Stmt}
 use Rattle.fort_syntax.specs.declared.stmt.Stmt.TheVariants.{Assign, ArithIf, LogicalIf', Call, BlockIf, ElseIf}
 use Rattle.fort_syntax.specs.declared.unit.Line.{Line}
 use Rattle.fort_syntax.specs.declared.unit.Unit.{Unit as Routine}
-use Rattle.fort_model.specs.Names.{Applied, Element, BuiltIn, Reference, applied}
-use Rattle.fort_model.specs.Trees.{only, carried, row_of}
 
 -- elements and intrinsic functions are no calls
 abbrev pub own_call : Applied → ℕ

@@ -1,6 +1,7 @@
 -- What units of small decks smash.
 use Rattle.std.specs.Prelude.{[], ◌∷◌}
-use Rattle.fort_model.specs.Rows.{I, J, K, swap, rotate, set_common, pass_common}
+use Rattle.fort_syntax.specs.SmallDecks.{I, J, K}
+use Rattle.fort_model.specs.Rows.{swap, rotate, set_common, pass_common}
 use Rattle.fort_model.specs.Smashes.{Smashes}
 
 -- SWAP sets its dummies; ROT passes them its own, in the first call I and J, in the second K

@@ -1,5 +1,7 @@
 -- Which names a unit smashes.
 use Rattle.std.specs.Prelude.{◌≡◌, ◌↔◌, ℕ, true, List, [], ◌∷◌, Some, slice_get}
+use Rattle.fort_syntax.specs.TreePatterns.{carried}
+use Rattle.fort_syntax.specs.Names.{has_common}
 use Rattle.fort_syntax.specs.declared.name.Name.{Name}
 use Rattle.fort_syntax.specs.declared.expr.Expr.{Expr}
 use Rattle.fort_syntax.specs.declared.expr.Expr.TheVariants.{Var, Apply'}
@@ -8,9 +10,8 @@ use Rattle.fort_syntax.specs.declared.stmt.Stmt.TheVariants.{Assign, LogicalIf',
 use Rattle.fort_syntax.specs.declared.unit.Line.{Line}
 use Rattle.fort_syntax.specs.declared.unit.Unit.{Unit as Routine}
 use Rattle.fort_model.specs.Lists.{IsAmong}
-use Rattle.fort_model.specs.Trees.{carried}
 use Rattle.fort_model.specs.Calls.{Calls}
-use Rattle.fort_model.specs.Program.{Program, has_common, is_smashed}
+use Rattle.fort_model.specs.Program.{Program, is_smashed}
 
 -- the name that the left side of an assignment sets: a scalar, or an array of which it sets an element
 abbrev pub set_name : Expr → List Name

@@ -1,9 +1,9 @@
 -- Storage, and where the names of a unit have their cells.
 use Rattle.std.specs.Prelude.{ℕ, zero, suc, ◌+◌, List, [], ◌∷◌, cond, slice_index_or, slice_set}
+use Rattle.formula.specs.Atoms.{same_bytes}
 use Rattle.formula.specs.declared.value.Cell.{Cell}
 use Rattle.formula.specs.declared.value.Cell.TheVariants.{Undefined}
 use Rattle.fort_syntax.specs.declared.name.Name.{Name}
-use Rattle.fort_model.specs.Names.{same_name}
 
 -- storage is a list of cells; they are counted from 0
 abbrev pub Storage : Type 0
@@ -38,7 +38,7 @@ Environment = Name → Extent
 abbrev pub with_extents : List Name → List Extent → Environment → Environment
 with_extents [] es env x = env x
 with_extents (y ∷ ys) [] env x = env x
-with_extents (y ∷ ys) (e ∷ es) env x = cond (same_name y x) e (with_extents ys es env x)
+with_extents (y ∷ ys) (e ∷ es) env x = cond (same_bytes y x) e (with_extents ys es env x)
 
 -- extents of these sizes side by side, from a first cell on
 abbrev pub side_by_side : List ℕ → ℕ → List Extent

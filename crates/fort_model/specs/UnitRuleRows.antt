@@ -1,5 +1,6 @@
 -- Small decks that break the rules on units: their names, their calls and dimensions, and what they smash.
 use Rattle.std.specs.Prelude.{◌≡◌, ℕ, List, [], ◌∷◌, None, codes}
+use Rattle.fort_syntax.specs.SmallDecks.{bracket, applied_to, labelled, A, F, I, J, K, M, N}
 use Rattle.formula.specs.Tree.{Tree}
 use Rattle.fort_syntax.specs.declared.dialect.Dialect.TheVariants.{Common}
 use Rattle.fort_syntax.specs.declared.expr.Expr.{Expr}
@@ -13,9 +14,9 @@ use Rattle.fort_syntax.specs.declared.stmt.Param.TheVariants as parameter
 use Rattle.fort_syntax.specs.declared.stmt.Stmt.TheVariants.{Assign, Do, Continue, Call, Return}
 use Rattle.fort_syntax.specs.declared.unit.Role.TheVariants.{Dummy, Local}
 use Rattle.fort_syntax.specs.declared.unit.Unit.{Unit as Routine}
-use Rattle.fort_model.specs.Decks.{bracket, applied_to, line, labelled, scalar, array, routine, function_of}
-use Rattle.fort_model.specs.Rows.{A, F, I, J, K, M, N, inc}
-use Rattle.fort_model.specs.Program.{Assertion}
+use Rattle.fort_model.specs.Decks.{line, scalar, array, routine, function_of}
+use Rattle.fort_model.specs.Rows.{inc}
+use Rattle.fort_notes.specs.Assertions.{Assertion}
 use Rattle.fort_model.specs.Rules.{cards_breaking}
 use Rattle.fort_model.specs.VerdictRows.{two_units}
 use Rattle.fort_model.specs.WalkRows.{number, plain_notes, alone}
@@ -48,14 +49,14 @@ AdjustableDimensionsAgree =
 -- ---- names of units
 
 abbrev pub does_nothing : Name → Routine
-does_nothing name = record { name = name; sort = None; head = 7; dummies = []; names = []; functions = []; blocks = []; lines = line 8 Return ∷ []; «end» = 9 }
+does_nothing name = record { name = name; sort = None; head = 8; dummies = []; names = []; functions = []; blocks = []; lines = line 9 Return ∷ []; «end» = 10 }
 
 -- a name that stands already, that of an intrinsic function, that of a block, and another one
 abbrev pub NamesOfUnits : Type 0
 NamesOfUnits =
-    (cards_of_second UnitTwice (sets K) (K ∷ []) (does_nothing (codes "S")) ≡ 7 ∷ [])
-    × (cards_of_second UnitTwice (sets K) (K ∷ []) (does_nothing (codes "MOD")) ≡ 7 ∷ [])
-    × (cards_of_second UnitTwice (sets K) (K ∷ []) (does_nothing (codes "BOX")) ≡ 7 ∷ [])
+    (cards_of_second UnitTwice (sets K) (K ∷ []) (does_nothing (codes "S")) ≡ 8 ∷ [])
+    × (cards_of_second UnitTwice (sets K) (K ∷ []) (does_nothing (codes "MOD")) ≡ 8 ∷ [])
+    × (cards_of_second UnitTwice (sets K) (K ∷ []) (does_nothing (codes "BOX")) ≡ 8 ∷ [])
     × (cards_of_second UnitTwice (sets K) (K ∷ []) (does_nothing (codes "P")) ≡ [])
 
 -- ---- calls of nobody

@@ -1,5 +1,7 @@
 -- What walks along paths of small decks come to for some values.
 use Rattle.std.specs.Prelude.{◌≡◌, ℕ, ◌==◌, Bool, cond, ◌&&◌, List, [], ◌∷◌, codes, pos, neg_ℤ, map}
+use Rattle.fort_syntax.specs.SmallDecks.{applied_to, F, I, J, K, M}
+use Rattle.formula.specs.Atoms.{same_bytes}
 use Rattle.formula.specs.declared.function.BuiltIn.TheVariants as f
 use Rattle.formula.specs.declared.value.Value.{Value}
 use Rattle.formula.specs.declared.value.Value.TheVariants.{Int, Logical, Undefined}
@@ -10,12 +12,12 @@ use Rattle.fort_syntax.specs.declared.name.Name.{Name}
 use Rattle.fort_syntax.specs.declared.stmt.Stmt.TheVariants.{Assign, Call, Return}
 use Rattle.fort_syntax.specs.declared.unit.Role.TheVariants.{Dummy, Local}
 use Rattle.fort_syntax.specs.declared.unit.Unit.{Unit as Routine}
-use Rattle.fort_model.specs.Decks.{applied_to, line, scalar, routine}
-use Rattle.fort_model.specs.Rows.{F, I, J, K, M, inc, twice, swap, rotate, successor}
-use Rattle.fort_model.specs.Program.{Program, Notes}
+use Rattle.fort_model.specs.Decks.{line, scalar, routine}
+use Rattle.fort_model.specs.Rows.{inc, twice, swap, rotate, successor}
+use Rattle.fort_notes.specs.Assertions.{Notes}
+use Rattle.fort_model.specs.Program.{Program}
 use Rattle.fort_model.specs.Senses.{of_values}
 use Rattle.fort_model.specs.Symbols.{Symbol, LeastInteger, GreatestInteger, AtEntry, AtStart, ByCall}
-use Rattle.fort_model.specs.Names.{same_name}
 use Rattle.fort_model.specs.Events.{Verdict, Good, Fails, Off, verdict}
 use Rattle.fort_model.specs.Walk.{falls}
 use Rattle.fort_model.specs.Conditions.{sight, walked_by}
@@ -27,9 +29,9 @@ use Rattle.fort_model.specs.CheckRows.{twice_program, from_assert}
 abbrev pub same_symbol : Symbol → Symbol → Bool
 same_symbol LeastInteger LeastInteger = Bool.true
 same_symbol GreatestInteger GreatestInteger = Bool.true
-same_symbol (AtEntry x) (AtEntry y) = same_name x y
-same_symbol (AtStart x) (AtStart y) = same_name x y
-same_symbol (ByCall x k) (ByCall y j) = same_name x y && k == j
+same_symbol (AtEntry x) (AtEntry y) = same_bytes x y
+same_symbol (AtStart x) (AtStart y) = same_bytes x y
+same_symbol (ByCall x k) (ByCall y j) = same_bytes x y && k == j
 same_symbol _ _ = Bool.false
 
 abbrev pub some_given : List (Symbol × Value) → Symbol → Value

@@ -1,6 +1,8 @@
 -- The walk along a path: what holds at its start, the statements that it performs, and the checks at its end.
 use Rattle.std.specs.Prelude.{ℕ, zero, suc, pos, neg_ℤ, Bool, cond, List, [], ◌∷◌, ◌++◌, map, Option, Some, None, slice_get}
 use Rattle.std.specs.List.{filter, list_any}
+use Rattle.formula.specs.Atoms.{same_bytes}
+use Rattle.fort_syntax.specs.Names.{data_name, is_own, has_role, is_own_value, is_local, commons, names_with}
 use Rattle.formula.specs.declared.function.BuiltIn.TheVariants.{And, Or, Less, AtMost}
 use Rattle.fort_syntax.specs.declared.name.Name.{Name}
 use Rattle.fort_syntax.specs.declared.condition.Kind.TheVariants.{AssertCheck, ClockCheck, FallCheck, OutputCheck}
@@ -8,9 +10,9 @@ use Rattle.fort_syntax.specs.declared.stmt.Dim.{Dim}
 use Rattle.fort_syntax.specs.declared.stmt.Dim.TheVariants.{Fixed, Named as Adjustable}
 use Rattle.fort_syntax.specs.declared.unit.Line.{Line}
 use Rattle.fort_syntax.specs.declared.unit.Unit.{Unit as Routine}
-use Rattle.fort_model.specs.Names.{same_name, data_name, is_own}
 use Rattle.fort_model.specs.Flow.{leads}
-use Rattle.fort_model.specs.Program.{Assertion, Notes, notes_of, is_smashed, has_role, is_own_value, is_local, commons, names_with}
+use Rattle.fort_notes.specs.Assertions.{Assertion, Notes}
+use Rattle.fort_model.specs.Program.{notes_of, is_smashed}
 use Rattle.fort_model.specs.Symbols.{AtEntry, AtStart}
 use Rattle.fort_model.specs.Senses.{natural, make2, least_integer, greatest_integer, is_defined, note}
 use Rattle.fort_model.specs.Events.{Event, Check, checks, takes}
@@ -24,7 +26,7 @@ use Rattle.fort_model.specs.WalkStmt.{performed}
 
 abbrev pub is_dim : Name → Dim → Bool
 is_dim x (Fixed n) = Bool.false
-is_dim x (Adjustable y) = same_name x y
+is_dim x (Adjustable y) = same_bytes x y
 
 -- a name is a dimension of an array of the unit
 abbrev pub is_some_dim : Routine → Name → Bool

@@ -1,13 +1,14 @@
 -- A call on a walk.
 use Rattle.std.specs.Prelude.{ℕ, Bool, cond, ◌&&◌, List, [], ◌∷◌, ◌++◌, map, Option, Some, None}
 use Rattle.std.specs.List.{filter}
+use Rattle.formula.specs.Atoms.{same_bytes, is_among}
+use Rattle.fort_syntax.specs.Names.{unit_at, has_common, commons}
 use Rattle.formula.specs.Tree.{Tree}
 use Rattle.fort_syntax.specs.declared.name.Name.{Name}
 use Rattle.fort_syntax.specs.declared.dialect.Sort.{Sort}
 use Rattle.fort_syntax.specs.declared.condition.Kind.TheVariants.{InputCheck}
 use Rattle.fort_syntax.specs.declared.unit.Unit.{Unit as Routine}
-use Rattle.fort_model.specs.Names.{same_name, unit_at}
-use Rattle.fort_model.specs.Program.{Program, notes_of, is_among, is_smashed, has_common, commons}
+use Rattle.fort_model.specs.Program.{Program, notes_of, is_smashed}
 use Rattle.fort_model.specs.Senses.{Sense, undefined, is_defined, note}
 use Rattle.fort_model.specs.Events.{checks, takes}
 use Rattle.fort_model.specs.Seen.{Named, See, ◌>>=◌, ◌>>◌, see, meet, next_answer}
@@ -36,14 +37,14 @@ module _ {V : Type 0} (w : Sight V) where
   abbrev pub with_actuals : List Name → List V → Named V → Named V
   with_actuals [] vs other x = other x
   with_actuals (d ∷ ds) [] other x = other x
-  with_actuals (d ∷ ds) (v ∷ vs) other x = cond (same_name d x) v (with_actuals ds vs other x)
+  with_actuals (d ∷ ds) (v ∷ vs) other x = cond (same_bytes d x) v (with_actuals ds vs other x)
 
   -- what the names of a called unit stand for: a dummy for its actual, a COMMON entity for what it is to the caller,
   -- and the unit's own name for the value of the function
   abbrev pub seen_by : Routine → List V → Named V → V → Named V
   seen_by g actuals now result =
       with_actuals g.dummies actuals λ x.
-      cond (same_name g.name x) result (cond (has_common g x) (now x) (undefined w.sense))
+      cond (same_bytes g.name x) result (cond (has_common g x) (now x) (undefined w.sense))
 
   -- the bare actuals of smashed dummies, in order
   abbrev pub smashed_actuals : (Name → Bool) → List Name → List (Operand V) → List Name
@@ -65,7 +66,7 @@ module _ {V : Type 0} (w : Sight V) where
 
   -- after a call the smashed names stand for its answer, and the others for what they stood for
   abbrev pub changed : List Name → Named V → Named V → Named V
-  changed xs new now x = cond (is_among xs x) (new x) (now x)
+  changed xs new now x = cond (is_among x xs) (new x) (now x)
 
   -- what an actual stands for after a call
   abbrev pub stands_after : Named V → Operand V → V

@@ -1,5 +1,7 @@
 -- How expressions are evaluated on a walk: strictly, operands from the left, and before their operators.
 use Rattle.std.specs.Prelude.{ℕ, zero, suc, pred, nat_lt, cond, List, [], ◌∷◌}
+use Rattle.fort_syntax.specs.TreePatterns.{only}
+use Rattle.fort_syntax.specs.Names.{Intrinsic, Absolute, Modulo, Greatest, Least, Applied, Element, BuiltIn, Reference, applied, function}
 use mathlib.Core.Former.{Count}
 use Rattle.formula.specs.declared.function.BuiltIn.{BuiltIn as Builtin}
 use Rattle.formula.specs.declared.function.BuiltIn.TheVariants as f
@@ -13,11 +15,9 @@ use Rattle.fort_syntax.specs.declared.dialect.RelOp.TheVariants.{Lt, Le, Eq, Ne,
 use Rattle.fort_syntax.specs.declared.expr.Expr.{Expr, Row_of-Expr, end_of-Expr, more_of-Expr}
 use Rattle.fort_syntax.specs.declared.expr.Expr.TheVariants.{Const, Truth, Var, Apply', Paren', Pos', Neg', Power', Bin', Rel', Not', And', Or'}
 use Rattle.fort_syntax.specs.declared.stmt.Dim.{Dim}
-use Rattle.fort_model.specs.Trees.{only}
-use Rattle.fort_model.specs.Names.{Intrinsic, Absolute, Modulo, Greatest, Least, Applied, Element, BuiltIn, Reference, applied, function}
 use Rattle.fort_model.specs.Senses.{natural, make1, make2, greatest_integer, undefined, is_defined, negated, in_range}
 use Rattle.fort_model.specs.Events.{Check, checks}
-use Rattle.fort_model.specs.Seen.{Named, See, ◌>>=◌, ◌>>◌, see, meet}
+use Rattle.fort_model.specs.Seen.{Named, ◌>>◌, ◌>>=◌, See, see, meet}
 use Rattle.fort_model.specs.WalkPlaces.{place, subscripts_fit}
 use Rattle.fort_model.specs.WalkCalls.{Sight, Operand, Bare, Part, Computed, call}
 

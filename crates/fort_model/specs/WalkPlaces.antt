@@ -1,5 +1,6 @@
 -- Sizes of arrays, places of elements and sorts of names, in any sense.
 use Rattle.std.specs.Prelude.{ℕ, ◌*◌, Bool, List, [], ◌∷◌, Option, Some, None, option_map}
+use Rattle.fort_syntax.specs.Names.{data_name, dims_of}
 use Rattle.formula.specs.declared.function.BuiltIn.TheVariants.{Plus, Difference, Times, IntegerCell, LogicalCell, IntegerCells, LogicalCells, Blank}
 use Rattle.fort_syntax.specs.declared.name.Name.{Name}
 use Rattle.fort_syntax.specs.declared.dialect.Sort.{Sort}
@@ -8,15 +9,14 @@ use Rattle.fort_syntax.specs.declared.stmt.Dim.{Dim}
 use Rattle.fort_syntax.specs.declared.stmt.Dim.TheVariants.{Fixed, Named as Adjustable}
 use Rattle.fort_syntax.specs.declared.unit.DataName.{DataName}
 use Rattle.fort_syntax.specs.declared.unit.Unit.{Unit as Routine}
-use Rattle.fort_model.specs.Names.{data_name, dims_of}
 use Rattle.fort_model.specs.Senses.{Sense, natural, make1, make2, least_integer, greatest_integer, undefined, lies_from_to}
 use Rattle.fort_model.specs.Seen.{Named}
 
 -- the product of dimensions that are all constants
-abbrev pub fixed_size : List Dim → Option ℕ
-fixed_size [] = Some 1
-fixed_size (Fixed n ∷ ds) = option_map (λ m. n * m) (fixed_size ds)
-fixed_size (Adjustable x ∷ ds) = None
+abbrev pub size_if_fixed : List Dim → Option ℕ
+size_if_fixed [] = Some 1
+size_if_fixed (Fixed n ∷ ds) = option_map (λ m. n * m) (size_if_fixed ds)
+size_if_fixed (Adjustable x ∷ ds) = None
 
 module _ {V : Type 0} (s : Sense V) where
   -- a dimension is a constant, or what its name stands for
@@ -39,7 +39,7 @@ module _ {V : Type 0} (s : Sense V) where
 
   -- the number of elements: one number where all dimensions are constants
   abbrev pub size : Named V → List Dim → V
-  size now dims = size_or (fixed_size dims) (stretch now dims)
+  size now dims = size_or (size_if_fixed dims) (stretch now dims)
 
   -- with the place p for the subscripts so far, and the stretch q of their dimensions
   abbrev pub place_from : Named V → V → V → List V → List Dim → V

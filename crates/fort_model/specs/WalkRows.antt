@@ -1,5 +1,7 @@
 -- Notes of small decks, and the conditions of one.
 use Rattle.std.specs.Prelude.{◌≡◌, ℕ, Bool, List, [], ◌∷◌, codes, pos, neg_ℤ}
+use Rattle.fort_syntax.specs.Conditions.{ConditionTree}
+use Rattle.fort_syntax.specs.SmallDecks.{I}
 use Rattle.formula.specs.declared.function.BuiltIn.{BuiltIn as Builtin}
 use Rattle.formula.specs.declared.function.BuiltIn.TheVariants as f
 use Rattle.formula.specs.declared.function.Func.TheVariants.{BuiltIn}
@@ -10,10 +12,11 @@ use Rattle.fort_syntax.specs.declared.dialect.Dialect.{Dialect}
 use Rattle.fort_syntax.specs.declared.dialect.Dialect.TheVariants.{Common}
 use Rattle.fort_syntax.specs.declared.name.Name.{Name}
 use Rattle.fort_syntax.specs.declared.unit.Unit.{Unit as Routine}
-use Rattle.fort_model.specs.Program.{Program, Notes, Assertion}
+use Rattle.fort_notes.specs.Assertions.{Notes, Assertion}
+use Rattle.fort_model.specs.Program.{Program}
 use Rattle.fort_model.specs.Paths.{Path}
-use Rattle.fort_model.specs.Conditions.{Condition, conditions_of}
-use Rattle.fort_model.specs.Rows.{I, inc}
+use Rattle.fort_model.specs.Conditions.{conditions_of}
+use Rattle.fort_model.specs.Rows.{inc}
 
 -- ---- notes
 
@@ -77,7 +80,7 @@ given_and more =
     ∷ term f.Less (I-IN ∷ number 100 ∷ [])
     ∷ more
 
-abbrev pub inc_condition : ℕ → Kind → ℕ → List Tree → Tree → Condition
+abbrev pub inc_condition : ℕ → Kind → ℕ → List Tree → Tree → ConditionTree
 inc_condition k kind card hyps goal = record { unit = codes "INC"; path = 1; check = k; kind = kind; card = card; hyps = hyps; goal = goal }
 
 abbrev pub the_path : List (List ℕ) → Path

@@ -1,6 +1,9 @@
 -- How a statement is performed on a walk, under choices that the path makes. Each choice is a fact: where the values
 -- decide another one, the walk goes off. It answers what names stand for afterwards.
 use Rattle.std.specs.Prelude.{ℕ, zero, suc, ◌==◌, cond, Bool, true, false, List, [], ◌∷◌, length, Option, Some, None, slice_get}
+use Rattle.fort_syntax.specs.TreePatterns.{carried, row_of}
+use Rattle.formula.specs.Atoms.{same_bytes}
+use Rattle.fort_syntax.specs.Names.{dims_of, is_function, subroutine}
 use Rattle.formula.specs.declared.function.BuiltIn.TheVariants.{And, Equal, Plus, Difference, Put, Less, AtMost}
 use Rattle.fort_syntax.specs.declared.name.Name.{Name}
 use Rattle.fort_syntax.specs.declared.condition.Kind.TheVariants.{ChoiceCheck, LoopCheck, ResultCheck}
@@ -12,19 +15,17 @@ use Rattle.fort_syntax.specs.declared.stmt.Param.{Param}
 use Rattle.fort_syntax.specs.declared.stmt.Param.TheVariants.{Fixed, Named as OfName}
 use Rattle.fort_syntax.specs.declared.stmt.Stmt.{Stmt}
 use Rattle.fort_syntax.specs.declared.stmt.Stmt.TheVariants.{Assign, GoTo, Computed, ArithIf, LogicalIf', Do, Continue, Call, Return, BlockIf, ElseIf, Else, EndIf}
-use Rattle.fort_model.specs.Trees.{carried, row_of}
-use Rattle.fort_model.specs.Names.{same_name, dims_of, is_function, subroutine}
 use Rattle.fort_model.specs.Flow.{target, Loop, loops_at, loops_around}
 use Rattle.fort_model.specs.Perform.{card_in}
 use Rattle.fort_model.specs.Senses.{natural, make2, make3, undefined, is_defined, negated, lies_from_to}
 use Rattle.fort_model.specs.Events.{Take}
-use Rattle.fort_model.specs.Seen.{Named, See, ◌>>=◌, ◌>>◌, see, meet}
+use Rattle.fort_model.specs.Seen.{Named, ◌>>◌, ◌>>=◌, See, see, meet}
 use Rattle.fort_model.specs.WalkCalls.{Sight, call}
 use Rattle.fort_model.specs.WalkExpr.{checked, read, ranged, constant, place_checked, values, operands, value}
 
 -- one name stands for something new
 abbrev pub with_name : {V : Type 0} → Named V → Name → V → Named V
-with_name now x v y = cond (same_name x y) v (now y)
+with_name now x v y = cond (same_bytes x y) v (now y)
 
 module _ {V : Type 0} (w : Sight V) where
   -- a fact is met

@@ -2,6 +2,7 @@
 #![tactic(auto)]
 
 mod bounds;
+mod call_facts;
 mod check_rows;
 mod condition_rows;
 mod exact_rows;
@@ -9,7 +10,10 @@ mod flow_rows;
 mod flow_rule_rows;
 mod form_check_rows;
 mod form_rows;
+mod graph;
+mod graph_rows;
 mod path_rows;
+mod plain_graph;
 mod rows;
 mod rule_rows;
 mod smash_rows;
@@ -18,6 +22,7 @@ mod verdict_rows;
 mod walk_rows;
 
 pub use bounds::{Bounds, processor};
+pub use call_facts::CallFacts;
 pub use check_rows::{
     checks_of_loop, checks_of_nest, checks_of_pick, checks_of_quotients, checks_of_sign,
     checks_of_subscripts, checks_of_twice, checks_of_up_to,
@@ -39,6 +44,8 @@ pub use form_rows::{
     arrays_are_passed_whole, blocks_nest, calls_are_numbered_by_the_text, intrinsic_functions,
     loops_count_by_steps, passed_over_loops, powers_are_products, signs_choose,
 };
+pub use graph::{Fork, Graph, Target};
+pub use graph_rows::{graph_of_twice, graphs_lead};
 pub use path_rows::{paths_ascend, paths_of_loop, paths_of_twice};
 pub use rows::{
     choices_in_both_dialects, common_by_reference_and_by_copy, elements_are_written_back,

@@ -1,11 +1,10 @@
--- Which rules of cards a deck breaks, and at which cards, in no order; and what it means that a fault is the least.
-use Rattle.std.specs.Prelude.{ℕ, ◌+◌, ◌<◌, ◌≤◌, ◌≡◌, ◌⊎◌, true, List, [], ◌∷◌, length, Some, None}
+-- Which rules of cards a deck breaks, and at which cards, in no order.
+use Rattle.std.specs.Prelude.{ℕ, ◌+◌, ◌<◌, ◌≡◌, ◌⊎◌, true, List, [], ◌∷◌, length}
 use Rattle.fort_syntax.specs.Cards.{Card, cards_of, kind_of}
 use Rattle.fort_syntax.specs.CardRules.{Before, nothing, behind, has_bad_byte, has_bad_label, lacks_initial, is_twentieth, is_bad_note, card_fault}
-use Rattle.fort_syntax.specs.declared.refusal.Fault.{Fault}
 use Rattle.fort_syntax.specs.declared.rule.Rule.{Rule}
 use Rattle.fort_syntax.specs.declared.rule.Rule.TheVariants.{TooLong, BadByte, BadLabel, NoInitial, ManyCards, BadNoteCard}
-use Rattle.fort_syntax.specs.Rules.{rule_number}
+use Rattle.fort_syntax.specs.FirstFaults.{TellsLeast}
 
 -- a card breaks a rule, by what it may continue
 pub data IsBrokenBy (before : Before) (card : Card) : Rule → Type 0 where
@@ -26,14 +25,6 @@ abbrev pub IsCardRuleBroken : List ℕ → Rule → ℕ → Type 0
 IsCardRuleBroken bytes rule number =
     ((rule ≡ TooLong) × (number ≡ 1) × (1048576 < length bytes)) ⊎ IsBrokenFrom nothing 1 (cards_of bytes) rule number
 
--- a fault stands before another, or is it: its card is less, or it is the same and its rule's number is at most the other's
-abbrev pub IsAtMost : Rule → ℕ → Rule → ℕ → Type 0
-IsAtMost rule card other at = (card < at) ⊎ ((card ≡ at) × (rule_number rule ≤ rule_number other))
-
 -- the first fault is a broken rule at its card, no broken rule stands before it, and without one none is broken
 abbrev pub FirstCardFaultIsLeast : Type 0
-FirstCardFaultIsLeast =
-    (bytes : List ℕ)
-    → ((f : Fault) → card_fault bytes ≡ Some f
-    → IsCardRuleBroken bytes f.rule f.card × ((rule : Rule) (card : ℕ) → IsCardRuleBroken bytes rule card → IsAtMost f.rule f.card rule card))
-    × (card_fault bytes ≡ None → (rule : Rule) (card : ℕ) → ¬ IsCardRuleBroken bytes rule card)
+FirstCardFaultIsLeast = (bytes : List ℕ) → TellsLeast (IsCardRuleBroken bytes) (card_fault bytes)

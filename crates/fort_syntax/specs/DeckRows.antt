@@ -1,7 +1,6 @@
 -- Small decks and the units and notes that they are.
 use Rattle.std.specs.Prelude.{◌≡◌, ℕ, List, [], ◌∷◌, ◌++◌, map, Some, None, codes}
-use Rattle.fort_syntax.specs.SmallDecks.{on_cards, labelled, plain, array, adjustable, applied_to, bin, rel, F, I, J, K, L, N, Q}
-use Rattle.fort_syntax.specs.NameRows.{A}
+use Rattle.fort_syntax.specs.SmallDecks.{on_cards, labelled, plain, array, adjustable, applied_to, bin, rel, F, I, J, K, L, N, Q, A}
 use Rattle.fort_syntax.specs.Units.{Piece, stated, remarked, deck_of}
 use Rattle.fort_syntax.specs.UnitRules.{unit_fault}
 use Rattle.fort_syntax.specs.WellFormed.{IsWellFormed}

@@ -1,5 +1,6 @@
 -- The grammar of statements: which texts, without blanks and in upper case, spell a statement.
 use Rattle.std.specs.Prelude.{ℕ, ◌+◌, ◌-◌, ◌≡◌, ◌==◌, ◌||◌, nat_le, Bool, true, false, if◌then◌else◌, Option, Some, None, List, [], ◌∷◌, ◌++◌, codes}
+use Rattle.fort_syntax.specs.TreePatterns.{row_of}
 use Rattle.fort_syntax.specs.declared.dialect.Dialect.{Dialect}
 use Rattle.fort_syntax.specs.declared.dialect.Dialect.TheVariants.{Common as CommonForms, SeventySeven}
 use Rattle.fort_syntax.specs.declared.dialect.Sort.{Sort}
@@ -16,7 +17,7 @@ use Rattle.fort_syntax.specs.declared.stmt.Param.{Param}
 use Rattle.fort_syntax.specs.declared.stmt.Param.TheVariants as parameter
 use Rattle.fort_syntax.specs.declared.stmt.Stmt.{Stmt, end_of-Stmt, more_of-Stmt}
 use Rattle.fort_syntax.specs.declared.stmt.Stmt.TheVariants.{Subroutine, Function, Declare, Dimension, Common, Assign, GoTo, Computed, ArithIf, LogicalIf', Do, Continue, Call, Return, End, BlockIf, ElseIf, Else, EndIf}
-use Rattle.fort_syntax.specs.Spelled.{Texts, nothing, just, ◌⨾◌, bracketed, name, constant, label, expression, arguments, row_of}
+use Rattle.fort_syntax.specs.Spelled.{Texts, nothing, just, ◌⨾◌, bracketed, name, constant, label, expression, arguments}
 
 -- ---- lists
 
@@ -26,14 +27,14 @@ more_listed P [] = just []
 more_listed P (x ∷ xs) = just (codes ",") ⨾ P x ⨾ more_listed P xs
 
 -- one or more, with commas between them
-abbrev pub listed : {T : Type 0} → (T → Texts) → List T → Texts
-listed P [] = nothing
-listed P (x ∷ xs) = P x ⨾ more_listed P xs
+abbrev pub comma_list : {T : Type 0} → (T → Texts) → List T → Texts
+comma_list P [] = nothing
+comma_list P (x ∷ xs) = P x ⨾ more_listed P xs
 
 -- nothing for an empty list, else brackets with the list in them
 abbrev pub in_brackets : {T : Type 0} → (T → Texts) → List T → Texts
 in_brackets P [] = just []
-in_brackets P (x ∷ xs) = bracketed (listed P (x ∷ xs))
+in_brackets P (x ∷ xs) = bracketed (comma_list P (x ∷ xs))
 
 -- ---- declarations
 
@@ -47,7 +48,7 @@ item i = name i.name ⨾ in_brackets dim i.dims
 
 -- a name with dimensions
 abbrev pub array : Item → Texts
-array i = name i.name ⨾ bracketed (listed dim i.dims)
+array i = name i.name ⨾ bracketed (comma_list dim i.dims)
 
 -- a block in slashes
 abbrev pub slashed : BlockName → Texts
@@ -64,11 +65,11 @@ first_block (block.Named x) = slashed (block.Named x)
 -- groups follow each other without a comma
 abbrev pub more_groups : List Group → Texts
 more_groups [] = just []
-more_groups (g ∷ gs) = slashed g.block ⨾ listed item g.items ⨾ more_groups gs
+more_groups (g ∷ gs) = slashed g.block ⨾ comma_list item g.items ⨾ more_groups gs
 
 abbrev pub groups : List Group → Texts
 groups [] = nothing
-groups (g ∷ gs) = first_block g.block ⨾ listed item g.items ⨾ more_groups gs
+groups (g ∷ gs) = first_block g.block ⨾ comma_list item g.items ⨾ more_groups gs
 
 abbrev pub sort : Sort → List ℕ
 sort Integer = codes "INTEGER"
@@ -123,13 +124,13 @@ with_77 SeventySeven P = P
 -- the texts of a statement, however deep its brackets nest
 abbrev pub form : Dialect → Stmt → Texts
 form d (Subroutine x dummies) = just (codes "SUBROUTINE") ⨾ name x ⨾ in_brackets name dummies
-form d (Function s x dummies) = just (optional_sort s ++ codes "FUNCTION") ⨾ name x ⨾ bracketed (listed name dummies)
-form d (Declare s items) = just (sort s) ⨾ listed item items
-form d (Dimension items) = just (codes "DIMENSION") ⨾ listed array items
+form d (Function s x dummies) = just (optional_sort s ++ codes "FUNCTION") ⨾ name x ⨾ bracketed (comma_list name dummies)
+form d (Declare s items) = just (sort s) ⨾ comma_list item items
+form d (Dimension items) = just (codes "DIMENSION") ⨾ comma_list array items
 form d (Common gs) = just (codes "COMMON") ⨾ groups gs
 form d (Assign left right) = left_side left ⨾ just (codes "=") ⨾ expression right
 form d (GoTo l) = just (codes "GOTO") ⨾ label l
-form d (Computed ls x) = just (codes "GOTO") ⨾ bracketed (listed label ls) ⨾ just (codes ",") ⨾ name x
+form d (Computed ls x) = just (codes "GOTO") ⨾ bracketed (comma_list label ls) ⨾ just (codes ",") ⨾ name x
 form d (ArithIf e l m n) = just (codes "IF") ⨾ condition e ⨾ label l ⨾ just (codes ",") ⨾ label m ⨾ just (codes ",") ⨾ label n
 form d (LogicalIf' e _ (more_of-Stmt s end_of-Stmt)) = just (codes "IF") ⨾ condition e ⨾ (λ t. (is_carried s ≡ true) × form d s t)
 form d (Do l x first last by) = just (codes "DO") ⨾ label l ⨾ name x ⨾ just (codes "=") ⨾ param first ⨾ just (codes ",") ⨾ param last ⨾ step by

@@ -1,6 +1,6 @@
 -- Small decks whose declarations break a rule.
 use Rattle.std.specs.Prelude.{ℕ, List, [], ◌∷◌, ◌++◌, Some, None, codes}
-use Rattle.fort_syntax.specs.SmallDecks.{on_cards, plain, array, adjustable, applied_to, IsRefused, IsKept, F, I, J, K, L, N, P, Q}
+use Rattle.fort_syntax.specs.SmallDecks.{on_cards, plain, array, adjustable, applied_to, IsRefused, IsKept, F, I, J, K, L, N, P, Q, A}
 use Rattle.fort_syntax.specs.declared.dialect.Dialect.TheVariants as dialect
 use Rattle.fort_syntax.specs.declared.dialect.Sort.TheVariants.{Integer, Logical}
 use Rattle.fort_syntax.specs.declared.expr.Expr.TheVariants.{Const, Var}
@@ -14,9 +14,6 @@ use Rattle.fort_syntax.specs.declared.stmt.Param.TheVariants as parameter
 use Rattle.fort_syntax.specs.declared.stmt.Stmt.{Stmt}
 use Rattle.fort_syntax.specs.declared.stmt.Stmt.TheVariants.{Subroutine, Function, Declare, Dimension, Common, Assign, Do, Call, Return, End}
 use Rattle.fort_syntax.specs.declared.unit.Line.{Line}
-
-abbrev pub A : Name
-A = codes "A"
 
 -- a SUBROUTINE P with these dummies, from its head to RETURN and END, on the cards from 1 on
 abbrev pub unit : List Name → List Stmt → List Line

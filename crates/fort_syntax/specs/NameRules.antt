@@ -2,7 +2,8 @@
 use Rattle.std.specs.Prelude.{ℕ, ◌*◌, ◌&&◌, ◌||◌, not, nat_lt, Bool, true, false, List, [], ◌∷◌, ◌++◌, map, length, is_none, Option}
 use Rattle.std.specs.List.{list_any}
 use Rattle.std.specs.Cmp.Lexicographic.{pointwise}
-use Rattle.fort_syntax.specs.Scopes.{Scope, same_name, same_option, same_dims, is_among, do_meet, has_twin, kept, is_given_dims, is_integer_scalar}
+use Rattle.formula.specs.Atoms.{same_bytes, is_among, has_twin}
+use Rattle.fort_syntax.specs.Scopes.{Scope, same_option, same_dims, do_meet, kept, is_given_dims, is_integer_scalar}
 use Rattle.fort_syntax.specs.Units.{Segment, gathered, own_name, dummies_by, dummies_of, items_by, common_items_by, names_of_items, scope_of, blocks_by, items_of_block, names_in, names_in_dims}
 use Rattle.fort_syntax.specs.OrderRules.{Place}
 use Rattle.fort_syntax.specs.declared.name.Name.{Name}
@@ -82,7 +83,7 @@ pub record Member : Type 0 where
   pub dims : List Dim
 
 abbrev pub same_member : Member → Member → Bool
-same_member a b = same_name a.name b.name && same_option a.sort b.sort && same_dims a.dims b.dims
+same_member a b = same_bytes a.name b.name && same_option a.sort b.sort && same_dims a.dims b.dims
 
 abbrev pub same_members : List Member → List Member → Bool
 same_members = pointwise same_member

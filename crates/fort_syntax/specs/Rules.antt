@@ -1,11 +1,10 @@
 -- The numbers of the rules and their names.
 use Rattle.std.specs.Prelude.{ℕ, List, codes}
 use Rattle.fort_syntax.specs.declared.rule.Rule.{Rule}
-use Rattle.fort_syntax.specs.declared.rule.Rule.TheVariants.{NotBuilt, TooLong, BadByte, BadLabel, NoInitial, ManyCards, BadNoteCard, Excluded, BadStatement, RealConstant, BigNumber, TooDeep, StatementOrder, NoHead, NoEnd, NameTwice, ImplicitReal, BadDimension, BadUse, BadType, BadSubscript, LabelTwice, NoLabel, BadResult, BlocksDiffer, BadAdjustable, BadLastOfDo, CrossedDo, JumpIntoDo, DoSmashed, FallsOffEnd, UncutCycle, BadNote, NoInputOrOutput, UnknownNoteName, OutputNamesLocal, ClockLength, UnitTwice, UnknownUnit, Recursion, BadArguments, SmashedNotName, SmashedTwice, SmashedCommon, BlockMissing, FunctionSmashes, ManyPaths, ManyConditions, Heavy, DimensionSmashed, BadBlockIf}
+use Rattle.fort_syntax.specs.declared.rule.Rule.TheVariants.{TooLong, BadByte, BadLabel, NoInitial, ManyCards, BadNoteCard, Excluded, BadStatement, RealConstant, BigNumber, TooDeep, StatementOrder, NoHead, NoEnd, NameTwice, ImplicitReal, BadDimension, BadUse, BadType, BadSubscript, LabelTwice, NoLabel, BadResult, BlocksDiffer, BadAdjustable, BadLastOfDo, CrossedDo, JumpIntoDo, DoSmashed, FallsOffEnd, UncutCycle, BadNote, NoInputOrOutput, UnknownNoteName, OutputNamesLocal, ClockLength, UnitTwice, UnknownUnit, Recursion, BadArguments, SmashedNotName, SmashedTwice, SmashedCommon, BlockMissing, FunctionSmashes, ManyPaths, ManyConditions, Heavy, DimensionSmashed, BadBlockIf}
 
--- the number of a rule; 0 where none is broken and the deck is not served
+-- the number of a rule, 1 to 50
 abbrev pub rule_number : Rule → ℕ
-rule_number NotBuilt = 0
 rule_number TooLong = 1
 rule_number BadByte = 2
 rule_number BadLabel = 3
@@ -59,7 +58,6 @@ rule_number BadBlockIf = 50
 
 -- the name of a rule, in ASCII
 abbrev pub rule_name : Rule → List ℕ
-rule_name NotBuilt = codes "NotBuilt"
 rule_name TooLong = codes "TooLong"
 rule_name BadByte = codes "BadByte"
 rule_name BadLabel = codes "BadLabel"

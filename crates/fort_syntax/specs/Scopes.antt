@@ -1,28 +1,16 @@
 -- Names, and what the names of a unit stand for.
-use Rattle.std.specs.Prelude.{ℕ, ◌==◌, ◌&&◌, ◌||◌, not, nat_le, nat_eq, Bool, true, false, cond, List, [], ◌∷◌, length, flat_map, Option, Some, None, codes}
-use Rattle.std.specs.List.{list_any, list_all}
-use Rattle.std.specs.Cmp.Lexicographic.{pointwise}
-use Rattle.formula.specs.Atoms.{is_digit}
+use Rattle.std.specs.Prelude.{ℕ, ◌==◌, ◌&&◌, not, nat_le, Bool, true, false, cond, List, [], ◌∷◌, flat_map, Option, Some, None, codes}
+use Rattle.std.specs.List.{list_any}
+use Rattle.formula.specs.Atoms.{same_bytes, is_among}
 use Rattle.fort_syntax.specs.declared.name.Name.{Name}
 use Rattle.fort_syntax.specs.declared.dialect.Sort.{Sort}
 use Rattle.fort_syntax.specs.declared.dialect.Sort.TheVariants.{Integer, Logical}
 use Rattle.fort_syntax.specs.declared.stmt.Dim.{Dim}
 use Rattle.fort_syntax.specs.declared.stmt.Dim.TheVariants.{Fixed, Named}
 
-abbrev pub same_name : Name → Name → Bool
-same_name = pointwise nat_eq
-
-abbrev pub is_among : Name → List Name → Bool
-is_among x xs = list_any (same_name x) xs
-
 -- some name stands in both lists
 abbrev pub do_meet : List Name → List Name → Bool
 do_meet xs ys = list_any (λ x. is_among x ys) xs
-
--- a name stands twice in a list
-abbrev pub has_twin : List Name → Bool
-has_twin [] = false
-has_twin (x ∷ xs) = is_among x xs || has_twin xs
 
 -- the members of a list that pass a test
 abbrev pub kept : {X : Type 0} → (X → Bool) → List X → List X
@@ -31,18 +19,7 @@ kept test xs = flat_map (λ x. cond (test x) (x ∷ []) []) xs
 -- each name once, in order of its first place
 abbrev pub once : List Name → List Name
 once [] = []
-once (x ∷ xs) = x ∷ kept (λ y. not (same_name x y)) (once xs)
-
-abbrev pub is_letter : ℕ → Bool
-is_letter b = nat_le 65 b && nat_le b 90
-
-abbrev pub begins_with_letter : Name → Bool
-begins_with_letter [] = false
-begins_with_letter (b ∷ rest) = is_letter b
-
--- 1 to 6 letters and digits, of which the first is a letter
-abbrev pub is_name : Name → Bool
-is_name x = begins_with_letter x && nat_le (length x) 6 && list_all (λ b. is_letter b || is_digit b) x
+once (x ∷ xs) = x ∷ kept (λ y. not (same_bytes x y)) (once xs)
 
 -- I to N
 abbrev pub begins_with_i_to_n : Name → Bool
@@ -70,7 +47,7 @@ abbrev pub same_dim : Dim → Dim → Bool
 same_dim (Fixed m) (Fixed n) = m == n
 same_dim (Fixed m) (Named y) = false
 same_dim (Named x) (Fixed n) = false
-same_dim (Named x) (Named y) = same_name x y
+same_dim (Named x) (Named y) = same_bytes x y
 
 abbrev pub same_dims : List Dim → List Dim → Bool
 same_dims [] [] = true
@@ -85,8 +62,8 @@ is_intrinsic_name f = is_among f (codes "IABS" ∷ codes "MOD" ∷ codes "MAX0" 
 -- IABS has one argument, MOD two, MAX0 and MIN0 two at least
 abbrev pub takes_so_many : Name → ℕ → Bool
 takes_so_many f n =
-    cond (same_name f (codes "IABS")) (n == 1)
-    (cond (same_name f (codes "MOD")) (n == 2)
+    cond (same_bytes f (codes "IABS")) (n == 1)
+    (cond (same_bytes f (codes "MOD")) (n == 2)
     (nat_le 2 n))
 
 -- what a unit says of names: the type, where there is one, and the dimensions, none where the name is no array

@@ -71,6 +71,9 @@ abbrev pub IsKept : Dialect → List Line → Type 0
 IsKept dialect lines = unit_fault dialect (pieces lines) ≡ None
 
 -- names
+abbrev pub A : Name
+A = codes "A"
+
 abbrev pub F : Name
 F = codes "F"
 
@@ -85,6 +88,9 @@ K = codes "K"
 
 abbrev pub L : Name
 L = codes "L"
+
+abbrev pub M : Name
+M = codes "M"
 
 abbrev pub N : Name
 N = codes "N"

@@ -1,8 +1,7 @@
 -- The grammar of expressions: which texts, without blanks and in upper case, spell an expression.
-use Rattle.std.specs.Prelude.{ℕ, ◌+◌, ◌≡◌, ◌≤◌, nat_le, Bool, true, false, ◌&&◌, List, [], ◌∷◌, ◌++◌, length, codes}
-use Rattle.std.specs.List.{list_all}
-use mathlib.Core.Former.{Count, none_left, one_more}
-use Rattle.formula.specs.Atoms.{is_letter, is_name_byte, starts, is_digits, is_long, spelled}
+use Rattle.std.specs.Prelude.{ℕ, ◌+◌, ◌≡◌, ◌≤◌, Bool, true, false, List, [], ◌∷◌, ◌++◌, length, codes}
+use mathlib.Core.Former.{Count}
+use Rattle.formula.specs.Atoms.{is_digits, is_long, spelled, is_name}
 use Rattle.fort_syntax.specs.declared.name.Name.{Name}
 use Rattle.fort_syntax.specs.declared.dialect.BinOp.{BinOp}
 use Rattle.fort_syntax.specs.declared.dialect.BinOp.TheVariants.{Add, Sub, Mul, Div}
@@ -35,10 +34,6 @@ abbrev pub bracketed : Texts → Texts
 bracketed P = just (codes "(") ⨾ P ⨾ just (codes ")")
 
 -- ---- names and numbers
-
--- 1 to 6 letters and digits, a letter first
-abbrev pub is_name : List ℕ → Bool
-is_name x = starts is_letter x && list_all is_name_byte x && nat_le (length x) 6
 
 abbrev pub name : Name → Texts
 name x t = (t ≡ x) × (is_name x ≡ true)
@@ -136,12 +131,3 @@ abbrev mutual
   pub more_arguments : {m : Count} → Row_of-Expr m → Texts
   more_arguments end_of-Expr = just []
   more_arguments (more_of-Expr e es) = just (codes ",") ⨾ expression e ⨾ more_arguments es
-
--- a list of expressions as a row, which is how an expression has its arguments
-abbrev pub row_size : List Expr → Count
-row_size [] = none_left
-row_size (e ∷ es) = one_more (row_size es)
-
-abbrev pub row_of : (es : List Expr) → Row_of-Expr (row_size es)
-row_of [] = end_of-Expr
-row_of (e ∷ es) = more_of-Expr e (row_of es)

@@ -16,3 +16,12 @@ carried s = more_of-Stmt s end_of-Stmt
 abbrev pub listed : {m : Count} → Row_of-Expr m → List Expr
 listed end_of-Expr = []
 listed (more_of-Expr e es) = e ∷ listed es
+
+-- a list of expressions as a row, which is how an expression has its arguments
+abbrev pub row_size : List Expr → Count
+row_size [] = none_left
+row_size (e ∷ es) = one_more (row_size es)
+
+abbrev pub row_of : (es : List Expr) → Row_of-Expr (row_size es)
+row_of [] = end_of-Expr
+row_of (e ∷ es) = more_of-Expr e (row_of es)

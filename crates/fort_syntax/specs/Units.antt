@@ -1,7 +1,8 @@
 -- The units that the statements of a deck are, what the declarations of a unit say of its names, and
 -- where notes stand.
 use Rattle.std.specs.Prelude.{ℕ, ◌&&◌, ◌||◌, not, Bool, true, false, cond, List, [], ◌∷◌, ◌++◌, map, length, flat_map, Option, Some, None}
-use Rattle.fort_syntax.specs.Scopes.{Scope, same_name, is_among, once, kept, sort_by_letter, is_given_dims, is_array, is_intrinsic_name}
+use Rattle.formula.specs.Atoms.{same_bytes, is_among}
+use Rattle.fort_syntax.specs.Scopes.{Scope, once, kept, sort_by_letter, is_given_dims, is_array, is_intrinsic_name}
 use Rattle.fort_syntax.specs.Uses.{Use, applied, called, Occurrence, uses_of}
 use Rattle.fort_syntax.specs.declared.class.Class.{Class}
 use Rattle.fort_syntax.specs.declared.class.Class.TheVariants.{Heading, Declaring, Performing, Ending}
@@ -106,9 +107,9 @@ abbrev pub own_name : Segment → Name
 own_name [] = []
 own_name (line ∷ lines) = headed_by line.stmt
 
-abbrev pub is_function : Segment → Bool
-is_function [] = false
-is_function (line ∷ lines) = is_function_head line.stmt
+abbrev pub is_function_segment : Segment → Bool
+is_function_segment [] = false
+is_function_segment (line ∷ lines) = is_function_head line.stmt
 
 abbrev pub dummies_by : Stmt → List Name
 dummies_by (Subroutine f dummies) = dummies
@@ -147,12 +148,12 @@ typings_by _ = []
 -- the type of the first of some typings for a name; else the one that its letter gives
 abbrev pub sort_in : List Typing → Name → Option Sort
 sort_in [] x = sort_by_letter x
-sort_in (typing ∷ rest) x = cond (same_name typing.name x) (Some typing.sort) (sort_in rest x)
+sort_in (typing ∷ rest) x = cond (same_bytes typing.name x) (Some typing.sort) (sort_in rest x)
 
 -- the dimensions of the first of some items for a name that has any
 abbrev pub dims_in : List Item → Name → List Dim
 dims_in [] x = []
-dims_in (item ∷ rest) x = cond (same_name item.name x && is_given_dims item.dims) item.dims (dims_in rest x)
+dims_in (item ∷ rest) x = cond (same_bytes item.name x && is_given_dims item.dims) item.dims (dims_in rest x)
 
 -- what a unit's declarations say of names
 abbrev pub scope_of : Segment → Scope
@@ -181,7 +182,7 @@ abbrev pub blocks_by : Stmt → List Name
 blocks_by s = map (λ group. name_of_block group.block) (groups_by s)
 
 abbrev pub items_of_block_in : List Group → Name → List Item
-items_of_block_in groups b = flat_map (λ group. cond (same_name (name_of_block group.block) b) group.items []) groups
+items_of_block_in groups b = flat_map (λ group. cond (same_bytes (name_of_block group.block) b) group.items []) groups
 
 -- a block is all groups of its name in the unit, joined in order
 abbrev pub items_of_block : Segment → Name → List Item
@@ -235,7 +236,7 @@ abbrev pub functions_of : Segment → List Name
 functions_of unit = kept (λ f. not (is_intrinsic_name f)) (references_of unit)
 
 abbrev pub own_value_of : Segment → List Name
-own_value_of unit = cond (is_function unit) (own_name unit ∷ []) []
+own_value_of unit = cond (is_function_segment unit) (own_name unit ∷ []) []
 
 -- the names that are data whatever they are used as
 abbrev pub held_by : Segment → List Name
@@ -285,7 +286,7 @@ card_of_last card (line ∷ lines) = card_of_last line.card lines
 abbrev pub unit_of : Segment → Routine
 unit_of unit = record {
   name = own_name unit;
-  sort = cond (is_function unit) (Some (sort_or_integer ((scope_of unit).sort (own_name unit)))) None;
+  sort = cond (is_function_segment unit) (Some (sort_or_integer ((scope_of unit).sort (own_name unit)))) None;
   head = card_of_first unit;
   dummies = dummies_of unit;
   names = map (data_name_of unit) (data_names unit);

@@ -2,9 +2,10 @@
 -- on the value of a FUNCTION.
 use Rattle.std.specs.Prelude.{ℕ, ◌==◌, ◌&&◌, ◌||◌, not, Bool, true, false, List, ◌++◌, length}
 use Rattle.std.specs.List.{list_any}
-use Rattle.fort_syntax.specs.Scopes.{Scope, same_name, is_among, is_array, is_intrinsic, is_intrinsic_name, takes_so_many}
+use Rattle.formula.specs.Atoms.{same_bytes, is_among}
+use Rattle.fort_syntax.specs.Scopes.{Scope, is_array, is_intrinsic, is_intrinsic_name, takes_so_many}
 use Rattle.fort_syntax.specs.Uses.{Use, read, assigned, assigned_element, counted, applied, argument_of, actual, called, Occurrence, uses_of, used_labels}
-use Rattle.fort_syntax.specs.Units.{Segment, gathered, executables, own_name, is_function, dummies_of, commons_of, scope_of, data_names, is_called, is_reference}
+use Rattle.fort_syntax.specs.Units.{Segment, gathered, executables, own_name, is_function_segment, dummies_of, commons_of, scope_of, data_names, is_called, is_reference}
 use Rattle.fort_syntax.specs.TypeRules.{is_well_typed, all_plain_subscripts}
 use Rattle.fort_syntax.specs.OrderRules.{Place, is_empty}
 use Rattle.fort_syntax.specs.declared.name.Name.{Name}
@@ -40,10 +41,10 @@ is_bare (applied n) = false
 is_bare called = false
 
 abbrev pub is_bare_use_of : Name → Occurrence → Bool
-is_bare_use_of x o = same_name o.name x && is_bare o.«use»
+is_bare_use_of x o = same_bytes o.name x && is_bare o.«use»
 
 abbrev pub is_reference_to : Scope → Name → Occurrence → Bool
-is_reference_to scope x o = same_name o.name x && is_reference scope o
+is_reference_to scope x o = same_bytes o.name x && is_reference scope o
 
 -- a name is used as a function and as a scalar
 abbrev pub is_used_both_ways : Scope → List Occurrence → Name → Bool
@@ -55,7 +56,7 @@ abbrev pub is_use_of_other_kind : Segment → Occurrence → Bool
 is_use_of_other_kind unit o =
     (is_reference (scope_of unit) o && (is_among o.name (dummies_of unit) || is_among o.name (commons_of unit)))
     || (is_called o.«use» && is_among o.name (data_names unit))
-    || (not (is_called o.«use») && not (is_function unit) && same_name o.name (own_name unit))
+    || (not (is_called o.«use») && not (is_function_segment unit) && same_bytes o.name (own_name unit))
 
 -- a name of a statement has been used as a function and as a scalar with it, and not before it
 abbrev pub is_second_kind_of_use : Place → Occurrence → Bool
@@ -105,8 +106,8 @@ is_assigned _ = false
 
 -- a name is the left side of some assignment
 abbrev pub assigns : Name → List Occurrence → Bool
-assigns x uses = list_any (λ o. same_name o.name x && is_assigned o.«use») uses
+assigns x uses = list_any (λ o. same_bytes o.name x && is_assigned o.«use») uses
 
 -- 23: the own name of a FUNCTION is the left side of no assignment in it; its head
 abbrev pub breaks_23 : Place → Bool
-breaks_23 p = is_empty p.before && is_function p.unit && not (assigns (own_name p.unit) (gathered uses_of p.unit))
+breaks_23 p = is_empty p.before && is_function_segment p.unit && not (assigns (own_name p.unit) (gathered uses_of p.unit))

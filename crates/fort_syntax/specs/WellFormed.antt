@@ -2,11 +2,16 @@
 -- made of statements that keep the rules on units is well formed.
 use Rattle.std.specs.Prelude.{ℕ, ◌^◌, ◌&&◌, ◌||◌, not, nat_le, nat_lt, Bool, true, false, cond, IsTrue, List, [], ◌∷◌, ◌++◌, map, flat_map, Option, Some, None, is_some, ⊤}
 use Rattle.std.specs.List.{list_any, list_all}
+use Rattle.fort_syntax.specs.Cards.{is_given}
+use Rattle.fort_syntax.specs.Grammar.{is_carried}
+use Rattle.formula.specs.Atoms.{same_bytes, is_among, has_twin, is_name}
+use Rattle.fort_syntax.specs.Names.{data_name, dims_of, sort_or}
 use Rattle.fort_syntax.specs.TreePatterns.{carried}
-use Rattle.fort_syntax.specs.Scopes.{Scope, same_name, same_option, same_dims, is_among, do_meet, has_twin, is_name, is_array, is_intrinsic, is_intrinsic_name, is_integer_scalar}
+use Rattle.fort_syntax.specs.Scopes.{Scope, same_option, same_dims, do_meet, is_array, is_intrinsic, is_intrinsic_name, is_integer_scalar}
 use Rattle.fort_syntax.specs.Uses.{Use, read, assigned, assigned_element, counted, applied, argument_of, actual, called, uses_of, all_parts, used_labels}
 use Rattle.fort_syntax.specs.Units.{class_of, is_performing, gathered, name_of_block, names_of_items, names_in_dims}
 use Rattle.fort_syntax.specs.OrderRules.{is_bad_block}
+use Rattle.fort_syntax.specs.DeckOrder.{stand_between, units_ascend_above, notes_ascend_above, has_place}
 use Rattle.fort_syntax.specs.NameRules.{is_bad_shape, member_of, Member, same_members}
 use Rattle.fort_syntax.specs.TypeRules.{is_well_typed, all_plain_subscripts}
 use Rattle.fort_syntax.specs.UseRules.{is_misused, wants_plain_subscripts, has_label, assigns}
@@ -18,13 +23,12 @@ use Rattle.fort_syntax.specs.declared.expr.Expr.{Expr}
 use Rattle.fort_syntax.specs.declared.expr.Expr.TheVariants.{Const, Var, Apply', Power'}
 use Rattle.fort_syntax.specs.declared.stmt.BlockName.{BlockName}
 use Rattle.fort_syntax.specs.declared.stmt.BlockName.TheVariants as block
-use Rattle.fort_syntax.specs.declared.stmt.Dim.{Dim}
 use Rattle.fort_syntax.specs.declared.stmt.Group.{Group}
 use Rattle.fort_syntax.specs.declared.stmt.Item.{Item}
 use Rattle.fort_syntax.specs.declared.stmt.Param.{Param}
 use Rattle.fort_syntax.specs.declared.stmt.Param.TheVariants.{Fixed, Named}
 use Rattle.fort_syntax.specs.declared.stmt.Stmt.{Stmt}
-use Rattle.fort_syntax.specs.declared.stmt.Stmt.TheVariants.{Assign, GoTo, Computed, ArithIf, LogicalIf', Do, Continue, Call, Return, BlockIf, ElseIf, Else, EndIf}
+use Rattle.fort_syntax.specs.declared.stmt.Stmt.TheVariants.{Assign, Computed, LogicalIf', Do, BlockIf, ElseIf, Else, EndIf}
 use Rattle.fort_syntax.specs.declared.unit.DataName.{DataName}
 use Rattle.fort_syntax.specs.declared.unit.FunctionName.{FunctionName}
 use Rattle.fort_syntax.specs.declared.unit.Line.{Line}
@@ -36,19 +40,11 @@ use Rattle.fort_syntax.specs.declared.unit.Unit.{Unit as Routine}
 
 abbrev pub sort_of_function : List FunctionName → Name → Option Sort
 sort_of_function [] x = None
-sort_of_function (f ∷ fs) x = cond (same_name f.name x) (Some f.sort) (sort_of_function fs x)
+sort_of_function (f ∷ fs) x = cond (same_bytes f.name x) (Some f.sort) (sort_of_function fs x)
 
--- the type of the data name, or else of the function, with a name
-abbrev pub sort_among : List DataName → List FunctionName → Name → Option Sort
-sort_among [] fs x = sort_of_function fs x
-sort_among (d ∷ ds) fs x = cond (same_name d.name x) (Some d.sort) (sort_among ds fs x)
-
-abbrev pub dims_among : List DataName → Name → List Dim
-dims_among [] x = []
-dims_among (d ∷ ds) x = cond (same_name d.name x) d.dims (dims_among ds x)
-
+-- a name has the type of its data name, or else of its function, and the dimensions of its data name
 abbrev pub scope_of_unit : Routine → Scope
-scope_of_unit u = record { sort = sort_among u.names u.functions; dims = dims_among u.names }
+scope_of_unit u = record { sort = λ x. sort_or (data_name u x) (sort_of_function u.functions x); dims = dims_of u }
 
 abbrev pub names_of_unit : Routine → List Name
 names_of_unit u = map (λ d. d.name) u.names
@@ -119,19 +115,19 @@ has_right_dims dialect u d =
 
 -- ---- blocks
 
-abbrev pub is_bare : BlockName → Bool
-is_bare block.Bare = true
-is_bare _ = false
+abbrev pub is_bare_block : BlockName → Bool
+is_bare_block block.Bare = true
+is_bare_block _ = false
 
 -- an item of a block has the dimensions of its name
 abbrev pub is_right_item : Routine → Item → Bool
-is_right_item u item = same_dims item.dims (dims_among u.names item.name)
+is_right_item u item = same_dims item.dims (dims_of u item.name)
 
 -- each block stands once, blank COMMON as `//`, and its items have the dimensions of their names
 abbrev pub are_blocks : Routine → Bool
 are_blocks u =
     not (has_twin (map (λ group. name_of_block group.block) u.blocks))
-    && list_all (λ group. not (is_bare group.block) && list_all (is_right_item u) group.items) u.blocks
+    && list_all (λ group. not (is_bare_block group.block) && list_all (is_right_item u) group.items) u.blocks
 
 abbrev pub members_of_group : Routine → Group → List Member
 members_of_group u group = map (member_of (scope_of_unit u)) (names_of_items group.items)
@@ -139,7 +135,7 @@ members_of_group u group = map (member_of (scope_of_unit u)) (names_of_items gro
 -- two blocks of one name have the same names, types and dimensions
 abbrev pub agree_groups : Routine → Routine → Group → Group → Bool
 agree_groups u v g h =
-    not (same_name (name_of_block g.block) (name_of_block h.block)) || same_members (members_of_group u g) (members_of_group v h)
+    not (same_bytes (name_of_block g.block) (name_of_block h.block)) || same_members (members_of_group u g) (members_of_group v h)
 
 abbrev pub agree_on_blocks : Routine → Routine → Bool
 agree_on_blocks u v = list_all (λ g. list_all (agree_groups u v g) v.blocks) u.blocks
@@ -153,24 +149,10 @@ is_block_statement Else = true
 is_block_statement EndIf = true
 is_block_statement _ = false
 
-abbrev pub may_be_carried : Stmt → Bool
-may_be_carried (Assign left right) = true
-may_be_carried (GoTo label) = true
-may_be_carried (Computed labels x) = true
-may_be_carried (ArithIf e l m n) = true
-may_be_carried (Call f args) = true
-may_be_carried Continue = true
-may_be_carried Return = true
-may_be_carried _ = false
-
 abbrev pub is_left_side : Expr → Bool
 is_left_side (Var x) = true
 is_left_side (Apply' f _ args) = true
 is_left_side _ = false
-
-abbrev pub is_given : List ℕ → Bool
-is_given [] = false
-is_given (label ∷ labels) = true
 
 abbrev pub is_small : ℕ → Bool
 is_small n = nat_lt n (10 ^ 18)
@@ -188,7 +170,7 @@ is_small_step (Some p) = is_small_param p
 abbrev pub has_right_form : Stmt → Bool
 has_right_form (Assign left right) = is_left_side left
 has_right_form (Computed labels x) = is_given labels
-has_right_form (LogicalIf' e _ (carried s)) = may_be_carried s && has_right_form s
+has_right_form (LogicalIf' e _ (carried s)) = is_carried s && has_right_form s
 has_right_form (Do label x first last step) = is_small_param first && is_small_param last && is_small_step step
 has_right_form _ = true
 
@@ -208,7 +190,7 @@ is_known u x (argument_of f) = is_among x (names_of_unit u)
 is_known u x actual = is_among x (names_of_unit u)
 is_known u x (assigned_element n) = is_array (scope_of_unit u) x
 is_known u x (applied n) =
-    is_array (scope_of_unit u) x || is_intrinsic (scope_of_unit u) x || is_among x (functions_of_unit u)
+    is_array (scope_of_unit u) x || (is_intrinsic_name x && not (is_among x (names_of_unit u))) || is_among x (functions_of_unit u)
 is_known u x called = is_name x && not (is_among x (names_of_unit u))
 
 -- each name is known, arrays have as many subscripts as dimensions or are whole actuals, and intrinsic functions their number of arguments
@@ -226,12 +208,11 @@ is_right_statement dialect u s =
 
 -- ---- the statements of a unit together
 
--- behind some statements, block IFs nest, no label stands a second time, and cards ascend
-abbrev pub are_in_order : List Line → ℕ → List Line → Bool
-are_in_order before card [] = true
-are_in_order before card (line ∷ behind) =
-    not (is_bad_block before line.stmt behind) && not (has_label line.label before) && nat_lt card line.card
-    && are_in_order (before ++ line ∷ []) line.card behind
+-- behind some statements, block IFs nest, and no label stands a second time
+abbrev pub are_in_order : List Line → List Line → Bool
+are_in_order before [] = true
+are_in_order before (line ∷ behind) =
+    not (is_bad_block before line.stmt behind) && not (has_label line.label before) && are_in_order (before ++ line ∷ []) behind
 
 -- the value of a FUNCTION is assigned
 abbrev pub has_result : Routine → Bool
@@ -248,14 +229,19 @@ pub record IsWellFormedUnit (dialect : Dialect) (u : Routine) : Type 0 where
   pub dimensions : IsTrue (list_all (has_right_dims dialect u) u.names)
   pub blocks : IsTrue (are_blocks u)
   pub statements : IsTrue (list_all (λ line. is_right_statement dialect u line.stmt) u.lines)
-  pub order : IsTrue (are_in_order [] 0 u.lines)
+  pub order : IsTrue (are_in_order [] u.lines)
+  pub cards : IsTrue (stand_between u.head u.lines u.«end»)
   pub result : IsTrue (has_result u)
 
 abbrev pub AreWellFormedUnits : Dialect → List Routine → Type 0
 AreWellFormedUnits dialect [] = ⊤
 AreWellFormedUnits dialect (u ∷ us) = IsWellFormedUnit dialect u × AreWellFormedUnits dialect us
 
--- each unit is well formed, and any two of them agree on the blocks that both have
-abbrev pub IsWellFormed : Dialect → Deck → Type 0
-IsWellFormed dialect deck =
-    AreWellFormedUnits dialect deck.units × IsTrue (list_all (λ u. list_all (agree_on_blocks u) deck.units) deck.units)
+-- each unit is well formed, and any two of them agree on the blocks that both have; units stand one behind the other; notes stand on
+-- ascending cards, in units that are there
+pub record IsWellFormed (dialect : Dialect) (deck : Deck) : Type 0 where
+  pub units : AreWellFormedUnits dialect deck.units
+  pub blocks : IsTrue (list_all (λ u. list_all (agree_on_blocks u) deck.units) deck.units)
+  pub order : IsTrue (units_ascend_above 0 deck.units)
+  pub notes : IsTrue (notes_ascend_above 0 deck.notes)
+  pub places : IsTrue (list_all (has_place deck.units) deck.notes)

@@ -3,6 +3,7 @@ ghost use Rattle.fort_syntax.specs.OrderRows.{StatementsOutOfOrder, HeadsAreMiss
 ghost use Rattle.fort_syntax.specs.NameRows.{NamesAreDeclaredTwice, NamesWithoutType, DimensionsAreBad, BlocksOfUnitsDiffer, DimensionsThatAreNames};
 ghost use Rattle.fort_syntax.specs.UseRows.{ArraysAreMisused, NamesAreMisused, SubscriptsAreBad, LabelsAreBad, ResultsAreMissed, TypesAreBad, FirstFaults};
 ghost use Rattle.fort_syntax.specs.DeckRows.{IncIsRead, RotIsRead, ZeroIsRead};
+ghost use Rattle.fort_syntax.specs.IllFormedRows.{IllFormedDecks, IllFormedUnits, IntrinsicNamesAreNoData};
 
 /// A declaration behind an executable statement, and a head inside a unit, are out of order.
 pub fn statements_out_of_order()
@@ -97,4 +98,15 @@ pub fn rot_is_read()
 /// A unit with a block IF, a DO and an adjustable array is well formed under 77.
 pub fn zero_is_read()
     ensures { ZeroIsRead }
+{}
+
+/// A unit that is well formed, and one for each thing that is asked of it that lacks this alone.
+pub fn ill_formed_units()
+    ensures units { IllFormedUnits }
+    ensures intrinsic { IntrinsicNamesAreNoData }
+{}
+
+/// A deck that is well formed, and decks that are not, by their blocks, cards and notes.
+pub fn ill_formed_decks()
+    ensures { IllFormedDecks }
 {}

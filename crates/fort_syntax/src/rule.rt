@@ -7,8 +7,6 @@ use formula::Word;
 /// A rule that a deck can break; `Excluded` with the word that is not served.
 #[derive(Clone, Copy, Debug, PartialEq, Eq, Hash)]
 pub enum Rule {
-    /// A deck that keeps the rules judged so far and is not served yet.
-    NotBuilt,
     /// More bytes than a deck may have.
     TooLong,
     /// A byte that is not printable on a card that counts.
@@ -112,12 +110,11 @@ pub enum Rule {
 }
 
 impl Rule {
-    /// The rule's number, 1 to 50; 0 for `NotBuilt`.
+    /// The rule's number, 1 to 50.
     pub fn number(&self) -> u32
         ensures { result ≡ rule_number self.now }
     {
         match self {
-            Rule::NotBuilt => 0,
             Rule::TooLong => 1,
             Rule::BadByte => 2,
             Rule::BadLabel => 3,
@@ -176,7 +173,6 @@ impl Rule {
         ensures { result.now ≡ rule_name self.now }
     {
         match self {
-            Rule::NotBuilt => b"NotBuilt",
             Rule::TooLong => b"TooLong",
             Rule::BadByte => b"BadByte",
             Rule::BadLabel => b"BadLabel",

@@ -1,6 +1,6 @@
 // One text, and the pieces in which texts go out.
 use edge_io::{Keys, List, MemSink};
-use event_text::{Marks, write_events};
+use event_text::{Marks, WritingStack, write_events};
 use formula::{BuiltIn, Definitions, TermPool, Word};
 use fort_syntax::{Condition, Kind, Name};
 use std::alloc::Global;
@@ -35,12 +35,14 @@ fn write(alloc: Global, sink: &mut MemSink, unit: Name, word: Word) -> Result<bo
         asked: List::from_vec(Vec::from_slice(alloc, &[(b'G', 1)])?),
     };
     let definitions = Definitions::new(alloc, Keys::new(1, 2));
+    let mut stack = WritingStack::new(alloc, &pool).map_err(|_| "no memory")?;
     Ok(write_events(
         sink,
         &pool,
         &definitions,
         &List::from_vec(conditions),
         &marks,
+        &mut stack,
     )
     .is_ok())
 }
@@ -75,12 +77,14 @@ fn written(alloc: Global, fails: &[u64]) -> Result<(bool, usize), Fail> {
     let definitions = Definitions::new(alloc, Keys::new(1, 2));
     let conditions = List::from_vec(Vec::new(alloc));
     let letters = List::from_vec(Vec::new(alloc));
+    let mut stack = WritingStack::new(alloc, &pool).map_err(|_| "no memory")?;
     let ok = write_events(
         &mut sink,
         &pool,
         &definitions,
         &conditions,
         &Marks { letters, asked },
+        &mut stack,
     )
     .is_ok();
     Ok((ok, sink.bytes().len()))

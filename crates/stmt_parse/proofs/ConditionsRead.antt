@@ -4,13 +4,14 @@ use Rattle.std.specs.Prelude.{◌==◌, ◌&&◌, if◌then◌else◌}
 use Rattle.std.specs.List.{list_all}
 use Rattle.std.proofs.lemmas.List.{append-nil}
 use Rattle.std.proofs.lemmas.Bool.Decides.{nat_tests}
-use Rattle.formula.specs.Atoms.{is_digit, is_letter, is_name_byte, starts}
+use Rattle.fort_syntax.specs.TreePatterns.{row_of}
+use Rattle.formula.specs.Atoms.{is_digit, is_letter, is_name_byte, starts, is_name}
 use Rattle.fort_syntax.specs.declared.dialect.Dialect.{Dialect}
 use Rattle.fort_syntax.specs.declared.expr.Expr.{Expr}
 use Rattle.fort_syntax.specs.declared.expr.Expr.TheVariants.{Var, Apply'}
 use Rattle.fort_syntax.specs.declared.stmt.Stmt.{Stmt, LogicalIf}
 use Rattle.fort_syntax.specs.declared.stmt.Stmt.TheVariants.{Assign, GoTo, Computed, ArithIf, Continue, Call, Return}
-use Rattle.fort_syntax.specs.Spelled.{just, ◌⨾◌, is_name, label, expression, arguments, row_of}
+use Rattle.fort_syntax.specs.Spelled.{just, ◌⨾◌, label, expression, arguments}
 use Rattle.fort_syntax.specs.Grammar.{left_side, condition, is_carried, form}
 use Rattle.fort_syntax.specs.Misspelled.{begins}
 use Rattle.stmt_parse.specs.Tokens.{◌>>=◌, after, name_at, label_at}

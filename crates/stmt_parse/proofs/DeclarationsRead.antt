@@ -12,7 +12,7 @@ use Rattle.fort_syntax.specs.declared.stmt.Item.{Item}
 use Rattle.fort_syntax.specs.declared.stmt.Group.{Group}
 use Rattle.fort_syntax.specs.declared.stmt.Stmt.{Subroutine, Function, Declare, Dimension, Common}
 use Rattle.fort_syntax.specs.Spelled.{◌⨾◌, bracketed, name}
-use Rattle.fort_syntax.specs.Grammar.{more_listed, listed, in_brackets, dim, item, array, groups}
+use Rattle.fort_syntax.specs.Grammar.{more_listed, comma_list, in_brackets, dim, item, array, groups}
 use Rattle.stmt_parse.specs.Tokens.{◌>>=◌, after, name_at}
 use Rattle.stmt_parse.specs.Statements.{whole, list_of, rest_of_brackets, brackets_at, item_at, groups_at, subroutine, function, declare, is_array, all_arrays, dimension_of, common}
 use Rattle.stmt_parse.proofs.TokensRead.{when_true}
@@ -35,7 +35,7 @@ subroutine_read n x ds t h few =
     (brackets_complete name_at name n (name_complete n) ds h.1 [] h.4 (omega arith) refl)) refl)
 
 pub function_read : (n : ℕ) (o : Option Sort) (x : Name) (ds : List Name) (t : List ℕ)
-    → (name x ⨾ bracketed (listed name ds)) t → length t < n → function n o t ≡ Some (Function o x ds)
+    → (name x ⨾ bracketed (comma_list name ds)) t → length t < n → function n o t ≡ Some (Function o x ds)
 unfolding function
 function_read n o x ds t h few =
     let p = h.4 in
@@ -51,11 +51,11 @@ function_read n o x ds t h few =
     (at_end (rest_of_brackets name_at n) p.1 ds
     (rest_complete name_at name n (name_complete n) ds p.1 [] p.4 (omega arith))) refl)
 
-items_whole : (n : ℕ) (is : List Item) (t : List ℕ) → listed item is t → length t < n
+items_whole : (n : ℕ) (is : List Item) (t : List ℕ) → comma_list item is t → length t < n
     → list_of (item_at n) n t ≡ Some (is, [])
 items_whole n is t h few = at_end (list_of (item_at n) n) t is (items_complete n is t [] h few refl)
 
-pub declare_read : (n : ℕ) (o : Sort) (is : List Item) (t : List ℕ) → listed item is t → length t < n
+pub declare_read : (n : ℕ) (o : Sort) (is : List Item) (t : List ℕ) → comma_list item is t → length t < n
     → declare n o t ≡ Some (Declare o is)
 unfolding declare
 declare_read n o is t h few = step_to (list_of (item_at n) n t) (is, []) (λ is. whole is
@@ -63,7 +63,7 @@ declare_read n o is t h few = step_to (list_of (item_at n) n t) (is, []) (λ is.
 
 -- arrays are items with dimensions
 
-filled : (ds : List Dim) (x : List ℕ) → bracketed (listed dim ds) x
+filled : (ds : List Dim) (x : List ℕ) → bracketed (comma_list dim ds) x
     → (nat_lt 0 (length ds) ≡ true) × in_brackets dim ds x
 filled [] x p = absurd (p.4).3
 filled (d ∷ ds) x p = (grind (arith, nat_tests), p)
@@ -80,14 +80,14 @@ more_items (i ∷ is) x p =
     let b = more_items is r.1 r.4 in
     (and_true (is_array i) _ a.0 b.0, (p.0, p.1, p.2, p.3, (r.0, r.1, r.2, a.1, b.1)))
 
-arrays_items : (is : List Item) (x : List ℕ) → listed array is x → (list_all is_array is ≡ true) × listed item is x
+arrays_items : (is : List Item) (x : List ℕ) → comma_list array is x → (list_all is_array is ≡ true) × comma_list item is x
 arrays_items [] x p = absurd p
 arrays_items (i ∷ is) x p =
     let a = array_item i p.0 p.3 in
     let b = more_items is p.1 p.4 in
     (and_true (is_array i) _ a.0 b.0, (p.0, p.1, p.2, a.1, b.1))
 
-pub dimension_read : (n : ℕ) (is : List Item) (t : List ℕ) → listed array is t → length t < n
+pub dimension_read : (n : ℕ) (is : List Item) (t : List ℕ) → comma_list array is t → length t < n
     → dimension_of n t ≡ Some (Dimension is)
 unfolding dimension_of all_arrays
 dimension_read n is t h few =

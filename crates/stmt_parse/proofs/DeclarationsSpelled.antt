@@ -9,7 +9,7 @@ use Rattle.fort_syntax.specs.declared.stmt.Dim.{Dim}
 use Rattle.fort_syntax.specs.declared.stmt.Item.{Item}
 use Rattle.fort_syntax.specs.declared.stmt.Stmt.{Stmt, Subroutine, Function, Declare, Dimension, Common}
 use Rattle.fort_syntax.specs.Spelled.{just, ◌⨾◌, bracketed, name}
-use Rattle.fort_syntax.specs.Grammar.{more_listed, listed, in_brackets, dim, item, array, groups, sort, optional_sort, form}
+use Rattle.fort_syntax.specs.Grammar.{more_listed, comma_list, in_brackets, dim, item, array, groups, sort, optional_sort, form}
 use Rattle.fort_syntax.specs.Misspelled.{begins}
 use Rattle.stmt_parse.specs.Tokens.{after, name_at}
 use Rattle.stmt_parse.specs.Statements.{whole, list_of, rest_of_brackets, brackets_at, item_at, groups_at, subroutine, function, declare, is_array, all_arrays, dimension_of, common, logical_head, typed_head, head, untyped_declaration, declaration}
@@ -44,7 +44,7 @@ function_spelled d n o t s h =
     (word_and_rest (optional_sort o ++ codes "FUNCTION") t
     (first_of_all t x.0.1 (name_begun t x.0 x.1)
     (word_then (codes "(") x.0.1 r.0 r.1
-    (ended (λ l. listed name l ⨾ just (codes ")")) r.0 ds.0 w.0 w.1
+    (ended (λ l. comma_list name l ⨾ just (codes ")")) r.0 ds.0 w.0 w.1
     (rest_spelled name_at name name_begun n r.0 ds.0 ds.1)))))
 
 declare_spelled : (d : Dialect) (n : ℕ) (o : Sort) (t : List ℕ) (s : Stmt) → declare n o t ≡ Some s
@@ -54,11 +54,11 @@ declare_spelled d n o t s h =
     let is = first_step (list_of (item_at n) n t) _ s h in
     let w = first_step (whole is.0) _ s is.2 in
     subst (λ y. form d y (sort o ++ t)) (same_Some (Declare o w.0) s w.2)
-    (word_and_rest (sort o) t (ended (listed item) t is.0 w.0 w.1 (items_spelled n t is.0 is.1)))
+    (word_and_rest (sort o) t (ended (comma_list item) t is.0 w.0 w.1 (items_spelled n t is.0 is.1)))
 
 -- items with dimensions are arrays
 
-filled : (ds : List Dim) (x : List ℕ) → nat_lt 0 (length ds) ≡ true → in_brackets dim ds x → bracketed (listed dim ds) x
+filled : (ds : List Dim) (x : List ℕ) → nat_lt 0 (length ds) ≡ true → in_brackets dim ds x → bracketed (comma_list dim ds) x
 filled [] x h p = absurd cc
 filled (d ∷ ds) x h p = p
 
@@ -73,7 +73,7 @@ more_arrays (i ∷ is) x h p =
     let r = p.4 in
     (p.0, p.1, p.2, p.3, (r.0, r.1, r.2, array_so i r.0 q.0 r.3, more_arrays is r.1 q.1 r.4))
 
-arrays_so : (is : List Item) (x : List ℕ) → list_all is_array is ≡ true → listed item is x → listed array is x
+arrays_so : (is : List Item) (x : List ℕ) → list_all is_array is ≡ true → comma_list item is x → comma_list array is x
 arrays_so [] x h p = p
 arrays_so (i ∷ is) x h p = let q = both_true (is_array i) _ h in
     (p.0, p.1, p.2, array_so i p.0 q.0 p.3, more_arrays is p.1 q.1 p.4)
@@ -87,7 +87,7 @@ dimension_spelled d n t s h =
     let p = when_passed (list_all is_array w.0) (Some (Dimension w.0)) s w.2 in
     subst (λ y. form d y (codes "DIMENSION" ++ t)) (same_Some (Dimension w.0) s p.1)
     (word_and_rest (codes "DIMENSION") t
-    (arrays_so w.0 t p.0 (ended (listed item) t is.0 w.0 w.1 (items_spelled n t is.0 is.1))))
+    (arrays_so w.0 t p.0 (ended (comma_list item) t is.0 w.0 w.1 (items_spelled n t is.0 is.1))))
 
 common_spelled : (d : Dialect) (n : ℕ) (t : List ℕ) (s : Stmt) → common n t ≡ Some s → form d s (codes "COMMON" ++ t)
 unfolding common

@@ -2,14 +2,14 @@
 use Rattle.std.proofs.Common.{◌≡◌, ℕ, true, Some, None, List, [], ◌∷◌, ◌++◌, length, drop, codes, inl, inr, refl, sym, ap, ◌∙◌, subst, append_assoc}
 use Rattle.std.specs.Prelude.{◌&&◌, if◌then◌else◌}
 use Rattle.formula.specs.Atoms.{is_digit, starts}
-use Rattle.fort_syntax.specs.TreePatterns.{carried as the_carried}
+use Rattle.fort_syntax.specs.TreePatterns.{carried as the_carried, row_of}
 use Rattle.fort_syntax.specs.declared.dialect.Dialect.{Dialect}
 use Rattle.fort_syntax.specs.declared.dialect.Dialect.TheVariants.{Common as CommonForms, SeventySeven}
 use Rattle.fort_syntax.specs.declared.expr.Expr.{Expr}
 use Rattle.fort_syntax.specs.declared.stmt.Param.TheVariants as parameter
 use Rattle.fort_syntax.specs.declared.stmt.Stmt.{Stmt, Assign, GoTo, Computed, ArithIf, LogicalIf, Do, Continue, Call, Return, End, BlockIf, ElseIf, Else, EndIf}
 use Rattle.fort_syntax.specs.declared.stmt.Stmt.TheVariants.{LogicalIf'}
-use Rattle.fort_syntax.specs.Spelled.{Texts, just, ◌⨾◌, name, label, expression, arguments, row_of}
+use Rattle.fort_syntax.specs.Spelled.{Texts, just, ◌⨾◌, name, label, expression, arguments}
 use Rattle.fort_syntax.specs.Grammar.{left_side, param, step, actuals, condition, is_carried, with_77, form}
 use Rattle.fort_syntax.specs.Misspelled.{begins}
 use Rattle.stmt_parse.specs.Tokens.{◌>>=◌, after, name_at, constant_at, label_at}

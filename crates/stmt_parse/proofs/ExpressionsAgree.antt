@@ -1,8 +1,10 @@
 -- Reading an expression by climbing operators and the grammar of expressions agree.
 use Rattle.std.proofs.Common.{◌≡◌, ℕ, ◌+◌, ◌≤◌, true, Some, List, ◌++◌, length, codes, ap, ◌∙◌}
+use Rattle.formula.specs.Atoms.{is_name}
+use Rattle.fort_syntax.specs.TreePatterns.{row_of}
 use Rattle.fort_syntax.specs.Misspelled.{begins}
 use Rattle.fort_syntax.specs.Grammar.{left_side}
-use Rattle.fort_syntax.specs.Spelled.{is_name, just, binding, expression, ◌⨾◌, arguments, row_of}
+use Rattle.fort_syntax.specs.Spelled.{just, binding, expression, ◌⨾◌, arguments}
 use Rattle.fort_syntax.specs.declared.expr.Expr.{Expr}
 use Rattle.fort_syntax.specs.declared.expr.Expr.TheVariants.{Const, Truth, Var, Apply', Paren', Pos', Neg', Power', Bin', Rel', Not', And', Or'}
 use Rattle.stmt_parse.specs.Tokens.{◌>>=◌, name_at}

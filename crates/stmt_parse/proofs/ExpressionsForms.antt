@@ -1,7 +1,9 @@
 -- Texts of an expression that was put together from parts with their texts.
 use Rattle.std.proofs.Common.{◌≡◌, ℕ, ◌≤◌, true, List, [], ◌++◌, codes, refl, sym, ap, subst, append-nil, arith}
+use Rattle.formula.specs.Atoms.{is_name}
+use Rattle.fort_syntax.specs.TreePatterns.{row_of}
 use Rattle.fort_syntax.specs.Grammar.{left_side}
-use Rattle.fort_syntax.specs.Spelled.{Texts, is_name, just, ◌⨾◌, bracketed, binding, bound, expression, arguments, row_of}
+use Rattle.fort_syntax.specs.Spelled.{Texts, just, ◌⨾◌, bracketed, binding, bound, expression, arguments}
 use Rattle.fort_syntax.specs.declared.dialect.BinOp.TheVariants.{Add, Sub, Mul, Div}
 use Rattle.fort_syntax.specs.declared.name.Name.{Name}
 use Rattle.fort_syntax.specs.declared.expr.Expr.{Expr, Var, Apply, Paren, Pos, Neg, Not}

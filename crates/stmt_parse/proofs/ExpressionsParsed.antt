@@ -3,9 +3,10 @@ use Rattle.std.proofs.Common.{◌≡◌, ℕ, zero, suc, ◌≤◌, true, false,
 use Rattle.std.specs.Prelude.{if◌then◌else◌, nat_le}
 use Rattle.std.proofs.lemmas.Bool.Decides.{nat_tests}
 use Rattle.std.proofs.lemmas.Option.{none-some}
-use Rattle.formula.specs.Atoms.{is_digit, starts}
+use Rattle.fort_syntax.specs.TreePatterns.{row_of}
+use Rattle.formula.specs.Atoms.{is_digit, starts, is_name}
 use Rattle.fort_syntax.specs.Misspelled.{begins}
-use Rattle.fort_syntax.specs.Spelled.{Texts, is_name, just, ◌⨾◌, constant, exponent, binding, bound, expression, arguments, more_arguments, row_of}
+use Rattle.fort_syntax.specs.Spelled.{Texts, just, ◌⨾◌, constant, exponent, binding, bound, expression, arguments, more_arguments}
 use Rattle.fort_syntax.specs.declared.name.Name.{Name}
 use Rattle.fort_syntax.specs.declared.expr.Expr.{Expr, Const, Truth, Var, Apply, Paren, Pos, Neg, Power, Not}
 use Rattle.stmt_parse.specs.declared.joint.Joint.{Joint}

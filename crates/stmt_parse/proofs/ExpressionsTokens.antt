@@ -4,14 +4,15 @@ use Rattle.std.specs.Prelude.{◌==◌, ◌&&◌, if◌then◌else◌, nat_le}
 use Rattle.std.proofs.lemmas.Bool.Decides.{nat_tests}
 use Rattle.std.proofs.lemmas.List.{take-append-drop}
 use Rattle.std.proofs.lemmas.Option.{none-some}
-use Rattle.formula.specs.Atoms.{is_digits, is_long, spelled}
+use Rattle.formula.specs.Atoms.{is_digits, is_long, spelled, is_name}
+use Rattle.formula.specs.Reading.{or_else}
 use Rattle.fort_syntax.specs.Misspelled.{begins}
-use Rattle.fort_syntax.specs.Spelled.{is_name, constant, exponent, operator, relation, just, ◌⨾◌}
+use Rattle.fort_syntax.specs.Spelled.{constant, exponent, operator, relation, just, ◌⨾◌}
 use Rattle.fort_syntax.specs.declared.dialect.BinOp.TheVariants.{Add, Sub, Mul, Div}
 use Rattle.fort_syntax.specs.declared.dialect.RelOp.TheVariants.{Lt, Le, Eq, Ne, Ge, Gt}
 use Rattle.stmt_parse.specs.declared.joint.Joint.{Joint}
 use Rattle.stmt_parse.specs.declared.joint.Joint.TheVariants as joint
-use Rattle.stmt_parse.specs.Tokens.{Reading, name_of_length, name_at, constant_of_length, constant_at, power_at, sign_at, relation_at, logical_at, or_else, joint_at}
+use Rattle.stmt_parse.specs.Tokens.{Reading, name_of_length, name_at, constant_of_length, constant_at, power_at, sign_at, relation_at, logical_at, joint_at}
 use Rattle.stmt_parse.proofs.ExpressionsAnswers.{Begun, Same, by_test, when_passed, when_refused, same_answer, both_true, begun}
 
 -- a name

@@ -2,8 +2,8 @@
 use Rattle.std.proofs.Common.{◌≡◌, ℕ, List, [], ◌∷◌, codes, refl, sym, ap, subst, ◌∙◌}
 use mathlib.Core.Former.{Count, this, arity}
 use Rattle.edge_io.specs.formers.list.List.{the_former}
-use Rattle.fort_syntax.specs.TreePatterns.{only}
-use Rattle.fort_syntax.specs.Spelled.{just, ◌⨾◌, bracketed, name, expression, arguments, more_arguments, row_of}
+use Rattle.fort_syntax.specs.TreePatterns.{only, row_of}
+use Rattle.fort_syntax.specs.Spelled.{just, ◌⨾◌, bracketed, name, expression, arguments, more_arguments}
 use Rattle.fort_syntax.specs.declared.dialect.BinOp.{BinOp}
 use Rattle.fort_syntax.specs.declared.dialect.RelOp.{RelOp}
 use Rattle.fort_syntax.specs.declared.name.Name.{Name}

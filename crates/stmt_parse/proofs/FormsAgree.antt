@@ -4,7 +4,7 @@ use Rattle.std.specs.Prelude.{nat_le, if◌then◌else◌}
 use mathlib.Core.Former.{Count}
 use Rattle.std.proofs.lemmas.Option.{none-some, same_Some}
 use Rattle.std.proofs.lemmas.Bool.Decides.{nat_tests}
-use Rattle.fort_syntax.specs.TreePatterns.{only, carried}
+use Rattle.fort_syntax.specs.TreePatterns.{only, carried, row_of}
 use Rattle.fort_syntax.specs.declared.dialect.Dialect.{Dialect}
 use Rattle.fort_syntax.specs.declared.dialect.Dialect.TheVariants.{Common as CommonForms, SeventySeven}
 use Rattle.fort_syntax.specs.declared.expr.Expr.{Expr, Row_of-Expr, end_of-Expr, more_of-Expr}
@@ -19,8 +19,8 @@ use Rattle.fort_syntax.specs.declared.stmt.Param.{Param}
 use Rattle.fort_syntax.specs.declared.stmt.Param.TheVariants as parameter
 use Rattle.fort_syntax.specs.declared.stmt.Stmt.{Stmt, LogicalIf}
 use Rattle.fort_syntax.specs.declared.stmt.Stmt.TheVariants.{Subroutine, Function, Declare, Dimension, Common, Assign, GoTo, Computed, ArithIf, LogicalIf', Do, Continue, Call, Return, End, BlockIf, ElseIf, Else, EndIf}
-use Rattle.fort_syntax.specs.Spelled.{Texts, just, ◌⨾◌, name, label, bracketed, bound, binding, tightness, operator, relation, truth, expression, arguments, more_arguments, row_of}
-use Rattle.fort_syntax.specs.Grammar.{more_listed, listed, in_brackets, dim, item, array, slashed, first_block, more_groups, groups, sort, optional_sort, left_side, param, step, actuals, condition, is_carried, with_77, form, is_deep_from, is_deep, Spells}
+use Rattle.fort_syntax.specs.Spelled.{Texts, just, ◌⨾◌, name, label, bracketed, bound, binding, tightness, operator, relation, truth, expression, arguments, more_arguments}
+use Rattle.fort_syntax.specs.Grammar.{more_listed, comma_list, in_brackets, dim, item, array, slashed, first_block, more_groups, groups, sort, optional_sort, left_side, param, step, actuals, condition, is_carried, with_77, form, is_deep_from, is_deep, Spells}
 use Rattle.stmt_parse.specs.Writing.{Writer, put, ◌⊕◌, given, tight, write_name, write_label, write_expression, write_arguments, write_more_arguments, write_more, write_list, in_round, write_brackets, write_dim, write_item, write_array, write_slashed, write_first_block, write_more_groups, write_groups, write_left, write_param, write_step, write_actuals, write_condition, where_77, write_form, text_of}
 use Rattle.stmt_parse.specs.declared.lack.Lack.{Lack}
 use Rattle.stmt_parse.specs.declared.lack.Lack.TheVariants.{Spelling, Memory}
@@ -91,7 +91,7 @@ more_agree P w each [] = put_agrees []
 more_agree P w each (x ∷ xs) = then_agrees (put_agrees (codes ",")) (then_agrees (each x) (more_agree P w each xs))
 
 list_agrees : {T : Type 0} (P : T → Texts) (w : T → Writer) → ((x : T) → Agrees (P x) (w x)) → (xs : List T)
-    → Agrees (listed P xs) (write_list w xs)
+    → Agrees (comma_list P xs) (write_list w xs)
 list_agrees P w each [] = never_agrees
 list_agrees P w each (x ∷ xs) = then_agrees (each x) (more_agree P w each xs)
 

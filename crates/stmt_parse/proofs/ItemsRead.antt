@@ -1,15 +1,14 @@
 -- Items, blocks and groups that are spelled are read.
 use Rattle.std.proofs.Common.{◌≡◌, ℕ, zero, suc, ◌+◌, ◌<◌, true, false, Some, List, [], ◌∷◌, ◌++◌, length, codes, refl, sym, ap, ◌∙◌, append_assoc, arith}
 use Rattle.std.proofs.lemmas.List.{append-nil}
-use Rattle.formula.specs.Atoms.{is_digit, is_digits, is_name_byte, starts}
+use Rattle.formula.specs.Atoms.{is_digit, is_digits, is_name_byte, starts, is_name}
 use Rattle.fort_syntax.specs.declared.name.Name.{Name}
 use Rattle.fort_syntax.specs.declared.stmt.Dim.TheVariants as dimension
 use Rattle.fort_syntax.specs.declared.stmt.Item.{Item}
 use Rattle.fort_syntax.specs.declared.stmt.BlockName.{BlockName}
 use Rattle.fort_syntax.specs.declared.stmt.BlockName.TheVariants as block
 use Rattle.fort_syntax.specs.declared.stmt.Group.{Group}
-use Rattle.fort_syntax.specs.Spelled.{is_name}
-use Rattle.fort_syntax.specs.Grammar.{listed, dim, item, slashed, first_block, more_groups, groups}
+use Rattle.fort_syntax.specs.Grammar.{comma_list, dim, item, slashed, first_block, more_groups, groups}
 use Rattle.fort_syntax.specs.Misspelled.{begins}
 use Rattle.stmt_parse.specs.Tokens.{◌>>=◌, after, name_at, constant_at}
 use Rattle.stmt_parse.specs.Statements.{list_of, brackets_at, dim_at, item_at, slashed_at, first_block_at, group_behind, slashed_group, more_groups_at, groups_at}
@@ -45,7 +44,7 @@ item_complete n i u r h few e =
     (step_to (brackets_at dim_at n (h.1 ++ r)) (i.dims, r) (λ ds. Some (record { name = i.name; dims = ds.0 }, ds.1)) _
     (brackets_complete dim_at dim n (dim_complete n) i.dims h.1 r h.4 (omega arith) e) refl)
 
-pub items_complete : (n : ℕ) (is : List Item) (u r : List ℕ) → listed item is u → length u < n → list_ends r ≡ true
+pub items_complete : (n : ℕ) (is : List Item) (u r : List ℕ) → comma_list item is u → length u < n → list_ends r ≡ true
     → list_of (item_at n) n (u ++ r) ≡ Some (is, r)
 items_complete n is u r h few e = list_complete (item_at n) item n (item_complete n) is u r h few e
 
@@ -57,7 +56,7 @@ pub record Named (t : List ℕ) : Type 0 where
   pub is : is_name first ≡ true
   pub apart : starts is_name_byte rest ≡ false
 
-pub items_begin : (is : List Item) (u r : List ℕ) → listed item is u → list_ends r ≡ true → Named (u ++ r)
+pub items_begin : (is : List Item) (u r : List ℕ) → comma_list item is u → list_ends r ≡ true → Named (u ++ r)
 items_begin [] u r h e = absurd h
 items_begin (i ∷ is) u r h e =
     let p = h.3 in
@@ -93,7 +92,7 @@ slashed_complete (block.Named x) a v h =
           (name_read x (codes "/" ++ v) p.3.1 refl) refl,
     )
 
-behind_complete : (n : ℕ) (g : Group) (u r : List ℕ) → listed item g.items u → length u < n → list_ends r ≡ true
+behind_complete : (n : ℕ) (g : Group) (u r : List ℕ) → comma_list item g.items u → length u < n → list_ends r ≡ true
     → group_behind n g.block (u ++ r) ≡ Some (g, r)
 unfolding group_behind
 behind_complete n g u r h few e =
@@ -140,7 +139,7 @@ slash_first : (b : BlockName) (a v : List ℕ) → Slash b a v → first_block_a
 unfolding first_block_at
 slash_first b a v s = ap (λ y. first_block_at (y ++ v)) s.1 ∙ s.2
 
-first_complete : (b : BlockName) (is : List Item) (a v z : List ℕ) → first_block b a → listed item is v
+first_complete : (b : BlockName) (is : List Item) (a v z : List ℕ) → first_block b a → comma_list item is v
     → list_ends z ≡ true → first_block_at (a ++ (v ++ z)) ≡ Some (b, v ++ z)
 unfolding first_block_at
 first_complete block.Bare is a v z h k e =

@@ -7,7 +7,7 @@ use Rattle.fort_syntax.specs.declared.stmt.BlockName.{BlockName}
 use Rattle.fort_syntax.specs.declared.stmt.BlockName.TheVariants as block
 use Rattle.fort_syntax.specs.declared.stmt.Group.{Group}
 use Rattle.fort_syntax.specs.Spelled.{Texts, ◌⨾◌}
-use Rattle.fort_syntax.specs.Grammar.{listed, dim, item, slashed, first_block, more_groups, groups}
+use Rattle.fort_syntax.specs.Grammar.{comma_list, dim, item, slashed, first_block, more_groups, groups}
 use Rattle.fort_syntax.specs.Misspelled.{begins}
 use Rattle.stmt_parse.specs.Tokens.{◌>>=◌, after, name_at, constant_at}
 use Rattle.stmt_parse.specs.Statements.{list_of, brackets_at, dim_at, item_at, slashed_at, first_block_at, group_behind, slashed_group, more_groups_at, groups_at}
@@ -37,7 +37,7 @@ item_spelled n t z h =
     subst (λ y. Begun (item y.0) t y.1) (same_Some (record { name = x.0.0; dims = ds.0.0 }, ds.0.1) z ds.2)
     (followed _ _ t x.0.1 ds.0.1 (name_begun t x.0 x.1) (brackets_spelled dim_at dim dim_spelled n x.0.1 ds.0 ds.1))
 
-pub items_spelled : (n : ℕ) → IsSound (list_of (item_at n) n) (listed item)
+pub items_spelled : (n : ℕ) → IsSound (list_of (item_at n) n) (comma_list item)
 items_spelled n = list_spelled (item_at n) item (item_spelled n) n
 
 -- behind the first slash of a block
@@ -75,17 +75,17 @@ first_spelled t z h = elim (by_test (begins (codes "/") t) (slashed_at (drop 1 t
 ]
 
 behind_spelled : (n : ℕ) (b : BlockName) (t : List ℕ) (z : Group × List ℕ) → group_behind n b t ≡ Some z
-    → (z.0.block ≡ b) × Begun (listed item z.0.items) t z.1
+    → (z.0.block ≡ b) × Begun (comma_list item z.0.items) t z.1
 unfolding group_behind
 behind_spelled n b t z h =
     let is = first_step (list_of (item_at n) n t) _ z h in
-    subst (λ y. (y.0.block ≡ b) × Begun (listed item y.0.items) t y.1)
+    subst (λ y. (y.0.block ≡ b) × Begun (comma_list item y.0.items) t y.1)
     (same_Some (record { block = b; items = is.0.0 }, is.0.1) z is.2)
     (refl, items_spelled n t is.0 is.1)
 
 slashed_group_spelled : (n : ℕ) (t : List ℕ) (z : Group × List ℕ) → begins (codes "/") t ≡ true
     → slashed_group n (drop 1 t) ≡ Some z
-    → Begun (slashed z.0.block ⨾ listed item z.0.items) t z.1
+    → Begun (slashed z.0.block ⨾ comma_list item z.0.items) t z.1
 unfolding slashed_group
 slashed_group_spelled n t z s h =
     let b = first_step (slashed_at (drop 1 t)) _ z h in
@@ -114,7 +114,7 @@ regroup t r b =
     )
 
 one_group : (gs : List Group) (t : List ℕ) (g : Group × List ℕ) (z : List Group × List ℕ)
-    → Begun (slashed g.0.block ⨾ listed item g.0.items) t g.1 → More (gs ++ g.0 ∷ []) g.1 z → More gs t z
+    → Begun (slashed g.0.block ⨾ comma_list item g.0.items) t g.1 → More (gs ++ g.0 ∷ []) g.1 z → More gs t z
 one_group gs t g z first more =
     (g.0 ∷ more.0, more.1 ∙ append_assoc gs (g.0 ∷ []) more.0, regroup t z.1 (followed _ _ t g.1 z.1 first more.2))
 

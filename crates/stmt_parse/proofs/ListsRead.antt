@@ -3,7 +3,7 @@ use Rattle.std.proofs.Common.{◌≡◌, ℕ, zero, suc, ◌+◌, ◌<◌, true,
 use Rattle.std.proofs.lemmas.List.{append-nil}
 use Rattle.formula.specs.Atoms.{is_name_byte, starts}
 use Rattle.fort_syntax.specs.Spelled.{Texts, just, ◌⨾◌, name, label}
-use Rattle.fort_syntax.specs.Grammar.{more_listed, listed, in_brackets}
+use Rattle.fort_syntax.specs.Grammar.{more_listed, comma_list, in_brackets}
 use Rattle.fort_syntax.specs.Misspelled.{begins}
 use Rattle.stmt_parse.specs.Tokens.{◌>>=◌, after, name_at, label_at}
 use Rattle.stmt_parse.specs.Statements.{Reader, more_of, list_of, rest_of_brackets, brackets_at}
@@ -59,7 +59,7 @@ more_complete read P n complete (suc m) xs (z ∷ zs) u r h few small e =
     ∙ ap (λ l. Some (l, r)) (append_assoc xs (z ∷ []) zs)
 
 pub list_complete : {A : Type 0} (read : Reader A) (P : A → Texts) (n : ℕ) → IsComplete n read P
-    → (xs : List A) (u r : List ℕ) → listed P xs u → length u < n → list_ends r ≡ true
+    → (xs : List A) (u r : List ℕ) → comma_list P xs u → length u < n → list_ends r ≡ true
     → list_of read n (u ++ r) ≡ Some (xs, r)
 unfolding list_of
 list_complete read P n complete [] u r h few e = absurd h
@@ -71,7 +71,7 @@ list_complete read P n complete (x ∷ xs) u r h few e =
     (more_complete read P n complete n (x ∷ []) xs h.1 r h.4 (omega arith) (omega arith) e)
 
 pub rest_complete : {A : Type 0} (read : Reader A) (P : A → Texts) (n : ℕ) → IsComplete n read P
-    → (xs : List A) (u r : List ℕ) → (listed P xs ⨾ just (codes ")")) u → length u < n
+    → (xs : List A) (u r : List ℕ) → (comma_list P xs ⨾ just (codes ")")) u → length u < n
     → rest_of_brackets read n (u ++ r) ≡ Some (xs, r)
 unfolding rest_of_brackets
 rest_complete read P n complete xs u r h few =

@@ -2,7 +2,7 @@
 use Rattle.std.proofs.Common.{◌≡◌, ℕ, zero, suc, true, Some, List, [], ◌∷◌, ◌++◌, drop, codes, inl, inr, refl, sym, ◌∙◌, subst, append_assoc}
 use Rattle.std.proofs.lemmas.List.{append-nil}
 use Rattle.fort_syntax.specs.Spelled.{Texts, just, ◌⨾◌}
-use Rattle.fort_syntax.specs.Grammar.{more_listed, listed, in_brackets}
+use Rattle.fort_syntax.specs.Grammar.{more_listed, comma_list, in_brackets}
 use Rattle.fort_syntax.specs.Misspelled.{begins}
 use Rattle.stmt_parse.specs.Tokens.{◌>>=◌, after}
 use Rattle.stmt_parse.specs.Statements.{Reader, more_of, list_of, rest_of_brackets, brackets_at}
@@ -41,26 +41,26 @@ more_spelled read P sound (suc n) xs t z h =
     ]
 
 pub list_spelled : {A : Type 0} (read : Reader A) (P : A → Texts) → IsSound read P
-    → (n : ℕ) (t : List ℕ) (z : List A × List ℕ) → list_of read n t ≡ Some z → Begun (listed P z.0) t z.1
+    → (n : ℕ) (t : List ℕ) (z : List A × List ℕ) → list_of read n t ≡ Some z → Begun (comma_list P z.0) t z.1
 unfolding list_of
 list_spelled read P sound n t z h =
     let x = first_step (read t) (λ x. more_of read n (x.0 ∷ []) x.1) z h in
     let m = more_spelled read P sound n (x.0.0 ∷ []) x.0.1 z x.2 in
-    subst (λ l. Begun (listed P l) t z.1) (sym m.1) (followed _ _ t x.0.1 z.1 (sound t x.0 x.1) m.2)
+    subst (λ l. Begun (comma_list P l) t z.1) (sym m.1) (followed _ _ t x.0.1 z.1 (sound t x.0 x.1) m.2)
 
 pub rest_spelled : {A : Type 0} (read : Reader A) (P : A → Texts) → IsSound read P
     → (n : ℕ) (t : List ℕ) (z : List A × List ℕ) → rest_of_brackets read n t ≡ Some z
-    → Begun (listed P z.0 ⨾ just (codes ")")) t z.1
+    → Begun (comma_list P z.0 ⨾ just (codes ")")) t z.1
 unfolding rest_of_brackets
 rest_spelled read P sound n t z h =
     let xs = first_step (list_of read n t) (λ xs. after (codes ")") xs.1 >>= λ rest. Some (xs.0, rest)) z h in
     let rest = first_step (after (codes ")") xs.0.1) (λ rest. Some (xs.0.0, rest)) z xs.2 in
-    subst (λ y. Begun (listed P y.0 ⨾ just (codes ")")) t y.1) (same_Some (xs.0.0, rest.0) z rest.2)
+    subst (λ y. Begun (comma_list P y.0 ⨾ just (codes ")")) t y.1) (same_Some (xs.0.0, rest.0) z rest.2)
     (followed _ _ t xs.0.1 rest.0 (list_spelled read P sound n t xs.0 xs.1)
     (word_begun (codes ")") xs.0.1 rest.0 rest.1))
 
 in_both : {A : Type 0} (P : A → Texts) (xs : List A) (t r : List ℕ) → begins (codes "(") t ≡ true
-    → Begun (listed P xs ⨾ just (codes ")")) (drop 1 t) r → Begun (in_brackets P xs) t r
+    → Begun (comma_list P xs ⨾ just (codes ")")) (drop 1 t) r → Begun (in_brackets P xs) t r
 in_both P [] t r opened b = absurd (b.2).3
 in_both P (x ∷ xs) t r opened b = followed _ _ t (drop 1 t) r (codes "(", begun (codes "(") t opened, refl) b
 

@@ -7,9 +7,9 @@ use Rattle.std.proofs.Math.Nat.{pow-suc, mod-add-div}
 use Rattle.std.proofs.lemmas.List.{append-nil, length-append}
 use Rattle.std.proofs.lemmas.Option.{same_Some}
 use Rattle.std.proofs.lemmas.Bool.Decides.{nat_tests}
-use Rattle.formula.specs.Atoms.{is_digit, is_digits, spelled_from, spelled, starts, without_zeros}
+use Rattle.formula.specs.Atoms.{is_digit, is_digits, spelled_from, spelled, starts, without_zeros, is_name}
 use Rattle.formula.proofs.Digits.{Spells, figures_all, figures_short, figures_spell}
-use Rattle.fort_syntax.specs.Spelled.{Texts, is_name, name, constant, label, exponent}
+use Rattle.fort_syntax.specs.Spelled.{Texts, name, constant, label, exponent}
 use Rattle.stmt_parse.specs.Tokens.{◌>>=◌}
 use Rattle.stmt_parse.specs.Writing.{Writer, put, given, write_name, write_digits, write_constant, write_label, write_exponent}
 use Rattle.stmt_parse.proofs.ExpressionsAnswers.{both_true, when_passed}

@@ -9,7 +9,7 @@ use Rattle.fort_syntax.specs.declared.name.Name.{Name}
 use Rattle.fort_syntax.specs.declared.expr.Expr.{Expr, Const}
 use Rattle.fort_syntax.specs.declared.stmt.Stmt.{Stmt, Assign, GoTo, Computed, Continue, Call, Return}
 use Rattle.fort_syntax.specs.Spelled.{Texts, just, ◌⨾◌, bracketed, name, label, expression}
-use Rattle.fort_syntax.specs.Grammar.{listed, left_side, actuals}
+use Rattle.fort_syntax.specs.Grammar.{comma_list, left_side, actuals}
 use Rattle.fort_syntax.specs.Misspelled.{begins}
 use Rattle.stmt_parse.specs.Tokens.{◌>>=◌, after, name_at, label_at}
 use Rattle.stmt_parse.specs.Parsing.{bracketed_arguments, parse}
@@ -95,7 +95,7 @@ pub go_to_plain : (n l : ℕ) (t : List ℕ) → (just (codes "GOTO") ⨾ label 
 go_to_plain n l t h = let b = behind (codes "GOTO") t h in subst (λ y. IsPlain n y (GoTo l)) (sym b.1)
     (go_to_word n l b.0 b.2)
 
-computed_read : (n : ℕ) (ls : List ℕ) (x : Name) (v y : List ℕ) → (listed label ls ⨾ just (codes ")")) v → name x y
+computed_read : (n : ℕ) (ls : List ℕ) (x : Name) (v y : List ℕ) → (comma_list label ls ⨾ just (codes ")")) v → name x y
     → length v < n
     → computed n (v ++ (codes "," ++ y)) ≡ Some (Computed ls x)
 unfolding computed
@@ -106,7 +106,7 @@ computed_read n ls x v y h k few =
     (step_to (name_at y) (x, []) (λ x. whole x
     >>= λ w. Some (Computed ls w)) _ (at_end name_at y x (name_begins x y [] k refl)) refl)
 
-computed_word : (n : ℕ) (ls : List ℕ) (x : Name) (v y : List ℕ) → (listed label ls ⨾ just (codes ")")) v → name x y
+computed_word : (n : ℕ) (ls : List ℕ) (x : Name) (v y : List ℕ) → (comma_list label ls ⨾ just (codes ")")) v → name x y
     → length v + 1 ≤ n
     → IsPlain n (codes "GOTO" ++ (codes "(" ++ (v ++ (codes "," ++ y)))) (Computed ls x)
 unfolding plain jump
@@ -118,7 +118,7 @@ computed_word n ls x v y h k few = record {
 }
 
 pub computed_plain : (n : ℕ) (ls : List ℕ) (x : Name) (t : List ℕ)
-    → (just (codes "GOTO") ⨾ bracketed (listed label ls) ⨾ just (codes ",") ⨾ name x) t
+    → (just (codes "GOTO") ⨾ bracketed (comma_list label ls) ⨾ just (codes ",") ⨾ name x) t
     → length t + 2 ≤ n → IsPlain n t (Computed ls x)
 computed_plain n ls x t h few =
     let a = behind (codes "GOTO") t h in

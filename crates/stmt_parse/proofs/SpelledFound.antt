@@ -3,7 +3,7 @@ use Rattle.std.proofs.Common.{◌≡◌, ℕ, ◌+◌, ◌≤◌, Bool, true, fa
 use Rattle.std.specs.Prelude.{◌==◌, if◌then◌else◌}
 use Rattle.std.proofs.lemmas.List.{append-nil}
 use Rattle.std.proofs.lemmas.Bool.Decides.{nat_tests}
-use Rattle.formula.specs.Atoms.{is_name_byte}
+use Rattle.formula.specs.Atoms.{is_name_byte, is_name}
 use Rattle.fort_syntax.specs.TreePatterns.{carried as the_carried}
 use Rattle.fort_syntax.specs.declared.name.Name.{Name}
 use Rattle.fort_syntax.specs.declared.dialect.Dialect.{Dialect}
@@ -18,8 +18,8 @@ use Rattle.fort_syntax.specs.declared.stmt.BlockName.TheVariants as block
 use Rattle.fort_syntax.specs.declared.stmt.Param.{Param}
 use Rattle.fort_syntax.specs.declared.stmt.Stmt.{Stmt}
 use Rattle.fort_syntax.specs.declared.stmt.Stmt.TheVariants.{Subroutine, Function, Declare, Dimension, Common, Assign, GoTo, Computed, ArithIf, LogicalIf', Do, Continue, Call, Return, End, BlockIf, ElseIf, Else, EndIf}
-use Rattle.fort_syntax.specs.Spelled.{just, ◌⨾◌, is_name, expression}
-use Rattle.fort_syntax.specs.Grammar.{listed, item, first_block, groups, form, is_deep, Spells}
+use Rattle.fort_syntax.specs.Spelled.{just, ◌⨾◌, expression}
+use Rattle.fort_syntax.specs.Grammar.{comma_list, item, first_block, groups, form, is_deep, Spells}
 use Rattle.fort_syntax.specs.Misspelled.{begins}
 use Rattle.stmt_parse.specs.Tokens.{name_at}
 use Rattle.stmt_parse.specs.Statements.{or_other, assign, function, declare, plain, head, typed_head, logical_head, declaration, untyped_declaration, other, condition_at, behind_condition, is_word, if_of, else_if, block_part, by_word, found, statement_of}
@@ -105,7 +105,7 @@ function_apart true t h p = absurd (
     let bad : Some (p.first, p.rest) ≡ None = sym read ∙ missing in
     cc)
 
-items_apart : (is : List Item) (u : List ℕ) → listed item is u → begins (codes "FUNCTION") u ≡ false
+items_apart : (is : List Item) (u : List ℕ) → comma_list item is u → begins (codes "FUNCTION") u ≡ false
 items_apart is u h = function_apart (begins (codes "FUNCTION") u) u refl
     (subst Named (append-nil u) (items_begin is u [] h refl))
 
@@ -162,7 +162,7 @@ slash_unassigned n u y h = ap (λ u. assign n (codes "COMMON" ++ u)) h
     ∙ word_unassigned n (codes "COMMON") (codes "/" ++ y) refl refl refl refl
 
 common_unassigned : (n : ℕ) (b : BlockName) (is : List Item) (u a v z : List ℕ) → u ≡ a ++ (v ++ z) → first_block b a
-    → listed item is v → assign n (codes "COMMON" ++ u) ≡ None
+    → comma_list item is v → assign n (codes "COMMON" ++ u) ≡ None
 common_unassigned n block.Bare is u a v z h first items =
     let p = subst Named (append-nil v) (items_begin is v [] items refl) in
     let c = first_byte p.first p.is in

@@ -2,9 +2,9 @@
 use Rattle.std.proofs.Common.{◌≡◌, ℕ, true, false, Some, List, [], ◌∷◌, ◌++◌, codes, ap, ◌∙◌, arith}
 use Rattle.std.specs.Prelude.{◌==◌}
 use Rattle.std.proofs.lemmas.Bool.Decides.{nat_tests}
-use Rattle.formula.specs.Atoms.{is_letter, is_digit, is_name_byte, starts}
+use Rattle.formula.specs.Atoms.{is_letter, is_digit, is_name_byte, starts, is_name}
 use Rattle.fort_syntax.specs.declared.expr.Expr.TheVariants.{Const}
-use Rattle.fort_syntax.specs.Spelled.{is_name, constant}
+use Rattle.fort_syntax.specs.Spelled.{constant}
 use Rattle.fort_syntax.specs.Misspelled.{begins}
 use Rattle.stmt_parse.specs.Tokens.{◌>>=◌}
 use Rattle.stmt_parse.specs.Parsing.{Inner, named, front}

@@ -4,8 +4,8 @@ use Rattle.std.specs.Prelude.{◌==◌, if◌then◌else◌, nat_lt}
 use Rattle.std.specs.List.{list_all}
 use Rattle.std.proofs.Math.Seq.{take-append_seam, drop-append_seam}
 use Rattle.std.proofs.lemmas.Bool.Decides.{nat_tests}
-use Rattle.formula.specs.Atoms.{is_digit, is_name_byte, is_digits, is_long, spelled, starts}
-use Rattle.fort_syntax.specs.Spelled.{is_name, constant, label}
+use Rattle.formula.specs.Atoms.{is_digit, is_name_byte, is_digits, is_long, spelled, starts, is_name}
+use Rattle.fort_syntax.specs.Spelled.{constant, label}
 use Rattle.stmt_parse.proofs.ExpressionsAnswers.{both_true}
 use Rattle.stmt_parse.specs.Tokens.{run_length, name_of_length, name_at, constant_of_length, constant_at, label_of_length, label_at}
 

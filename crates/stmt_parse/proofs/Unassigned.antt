@@ -5,11 +5,12 @@ use Rattle.std.specs.List.{list_all}
 use Rattle.std.proofs.lemmas.List.{length-append}
 use Rattle.std.proofs.lemmas.Bool.Decides.{nat_tests}
 use Rattle.std.proofs.Math.Seq.{take-append_seam}
-use Rattle.formula.specs.Atoms.{is_letter, is_name_byte, starts}
+use Rattle.fort_syntax.specs.TreePatterns.{row_of}
+use Rattle.formula.specs.Atoms.{is_letter, is_name_byte, starts, is_name}
 use Rattle.fort_syntax.specs.declared.expr.Expr.{Expr, Const, Var, Apply}
 use Rattle.fort_syntax.specs.declared.stmt.Stmt.{Stmt, Assign}
-use Rattle.fort_syntax.specs.Spelled.{just, ◌⨾◌, is_name, label, expression, arguments, more_arguments, row_of}
-use Rattle.fort_syntax.specs.Grammar.{more_listed, listed}
+use Rattle.fort_syntax.specs.Spelled.{just, ◌⨾◌, label, expression, arguments, more_arguments}
+use Rattle.fort_syntax.specs.Grammar.{more_listed, comma_list}
 use Rattle.fort_syntax.specs.Misspelled.{begins}
 use Rattle.stmt_parse.specs.Tokens.{◌>>=◌, after, run_length, name_of_length, name_at}
 use Rattle.stmt_parse.specs.Parsing.{named, parse}
@@ -137,6 +138,6 @@ more_labels [] u h = h
 more_labels (l ∷ ls) u h = let p = h.4 in
     (h.0, h.1, h.2, h.3, (p.0, p.1, p.2, label_expression l p.0 p.3, more_labels ls p.1 p.4))
 
-pub labels_arguments : (ls : List ℕ) (u : List ℕ) → listed label ls u → arguments (row_of (map Const ls)) u
+pub labels_arguments : (ls : List ℕ) (u : List ℕ) → comma_list label ls u → arguments (row_of (map Const ls)) u
 labels_arguments [] u h = h
 labels_arguments (l ∷ ls) u h = (h.0, h.1, h.2, label_expression l h.0 h.3, more_labels ls h.1 h.4)

@@ -1,10 +1,11 @@
 -- What begins a text: a word, a name, a number, an operator. Each reader answers what it read and the text behind it.
 use Rattle.std.specs.Prelude.{ℕ, suc, ◌+◌, ◌-◌, ◌==◌, ◌&&◌, nat_le, nat_lt, Bool, if◌then◌else◌, Option, Some, None, List, [], ◌∷◌, length, take, drop, get_or, codes}
-use Rattle.formula.specs.Atoms.{is_digit, is_name_byte, is_digits, is_long, spelled}
+use Rattle.formula.specs.Atoms.{is_digit, is_name_byte, is_digits, is_long, spelled, is_name}
+use Rattle.formula.specs.Reading.{or_else}
 use Rattle.fort_syntax.specs.declared.name.Name.{Name}
 use Rattle.fort_syntax.specs.declared.dialect.BinOp.TheVariants.{Add, Sub, Mul, Div}
 use Rattle.fort_syntax.specs.declared.dialect.RelOp.TheVariants.{Lt, Le, Eq, Ne, Ge, Gt}
-use Rattle.fort_syntax.specs.Spelled.{is_name, tightness}
+use Rattle.fort_syntax.specs.Spelled.{tightness}
 use Rattle.fort_syntax.specs.Misspelled.{begins}
 use Rattle.stmt_parse.specs.declared.joint.Joint.{Joint}
 use Rattle.stmt_parse.specs.declared.joint.Joint.TheVariants.{Or, And, Rel, Bin}
@@ -76,10 +77,6 @@ logical_at t =
     if begins (codes ".AND.") t then Some (And, drop 5 t)
     else if begins (codes ".OR.") t then Some (Or, drop 4 t)
     else None
-
-abbrev pub or_else : {A : Type 0} → Option A → Option A → Option A
-or_else (Some x) other = Some x
-or_else None other = other
 
 -- an operator between two parts
 abbrev pub joint_at : List ℕ → Reading Joint

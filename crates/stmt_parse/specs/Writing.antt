@@ -1,5 +1,6 @@
 -- A text of a statement, written behind another text: words and names as they are, numbers without leading zeros.
 use Rattle.std.specs.Prelude.{ℕ, zero, suc, ◌+◌, ◌/◌, ◌%◌, ◌^◌, ◌&&◌, nat_le, nat_lt, Bool, if◌then◌else◌, Option, Some, None, List, [], ◌∷◌, ◌++◌, codes}
+use Rattle.formula.specs.Atoms.{is_name}
 use mathlib.Core.Former.{Count}
 use Rattle.fort_syntax.specs.TreePatterns.{only, carried}
 use Rattle.fort_syntax.specs.declared.name.Name.{Name}
@@ -17,7 +18,7 @@ use Rattle.fort_syntax.specs.declared.stmt.Param.{Param}
 use Rattle.fort_syntax.specs.declared.stmt.Param.TheVariants as parameter
 use Rattle.fort_syntax.specs.declared.stmt.Stmt.{Stmt}
 use Rattle.fort_syntax.specs.declared.stmt.Stmt.TheVariants.{Subroutine, Function, Declare, Dimension, Common, Assign, GoTo, Computed, ArithIf, LogicalIf', Do, Continue, Call, Return, End, BlockIf, ElseIf, Else, EndIf}
-use Rattle.fort_syntax.specs.Spelled.{is_name, operator, relation, truth, tightness, binding}
+use Rattle.fort_syntax.specs.Spelled.{operator, relation, truth, tightness, binding}
 use Rattle.fort_syntax.specs.Grammar.{sort, optional_sort, is_carried, is_deep}
 use Rattle.stmt_parse.specs.Tokens.{◌>>=◌}
 

@@ -1,8 +1,7 @@
 // What begins a text.
 ghost use Rattle.std.specs.Prelude.{◌≡◌, ◌≤◌, true, length, drop, IsTrue, option_map, option_copied};
 ghost use Rattle.std.specs.List.{list_all};
-ghost use Rattle.formula.specs.Atoms.{is_digit, is_letter, is_name_byte, is_digits, is_long, spelled, starts};
-ghost use Rattle.fort_syntax.specs.Spelled.{is_name};
+ghost use Rattle.formula.specs.Atoms.{is_digit, is_letter, is_name_byte, is_digits, is_long, spelled, starts, is_name};
 ghost use Rattle.fort_syntax.specs.Misspelled.{begins};
 ghost use Rattle.stmt_parse.specs.Tokens.{run_length, after, name_at, constant_at, label_at};
 

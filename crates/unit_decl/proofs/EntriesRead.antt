@@ -1,6 +1,7 @@
 -- Entries that were read one by one make a deck, or have its first fault.
 use Rattle.std.proofs.Common.{◌≡◌, ℕ, inr, List, [], ◌∷◌, ◌++◌, refl, sym, ap, subst, ◌∙◌, append_assoc, append-nil}
 use Rattle.std.specs.Prelude.{map, Some, None}
+use Rattle.fort_syntax.specs.Readings.{AreReadAs}
 use Rattle.fort_syntax.specs.Grammar.{Spells}
 use Rattle.fort_syntax.specs.Units.{stated, remarked, class_of, statements, segments, unit_of}
 use Rattle.fort_syntax.specs.UnitRules.{fault_of}
@@ -11,7 +12,7 @@ use Rattle.fort_syntax.specs.declared.dialect.Dialect.{Dialect}
 use Rattle.fort_syntax.specs.declared.refusal.Fault.{Fault}
 use Rattle.fort_syntax.specs.declared.unit.Line.{Line}
 use Rattle.fort_syntax.specs.declared.unit.Unit.{Unit as Routine}
-use Rattle.unit_decl.specs.Decks.{AreReadAs, IsDeckOf, IsFirstFault}
+use Rattle.unit_decl.specs.Decks.{IsDeckOf, IsFirstFault}
 use Rattle.unit_decl.specs.Readings.{top, passed, placed_at, notes_at, pieces_of, HasRead}
 use Rattle.unit_decl.specs.declared.spot.Spot.{Spot}
 use Rattle.unit_decl.proofs.NotePlaces.{notes_are}

@@ -1,5 +1,5 @@
 -- What the statements and notes of a deck are read as, the deck that they make, and their first fault.
-use Rattle.std.specs.Prelude.{◌≡◌, ◌⊎◌, List, [], ◌∷◌, Some, None, ⊤}
+use Rattle.std.specs.Prelude.{◌≡◌, ◌⊎◌, List, [], ◌∷◌, Some, None}
 use Rattle.fort_syntax.specs.declared.cards.Entry.{Entry}
 use Rattle.fort_syntax.specs.declared.cards.Entry.TheVariants.{Statement, Note}
 use Rattle.fort_syntax.specs.declared.deck.Deck.{Deck}
@@ -8,21 +8,9 @@ use Rattle.fort_syntax.specs.declared.refusal.Fault.{Fault}
 use Rattle.fort_syntax.specs.declared.stmt.Stmt.{Stmt}
 use Rattle.fort_syntax.specs.Grammar.{Spells}
 use Rattle.fort_syntax.specs.Misspelled.{refusal_of}
-use Rattle.fort_syntax.specs.Units.{Piece, stated, remarked, deck_of}
+use Rattle.fort_syntax.specs.Readings.{IsReadAs, AreReadAs}
+use Rattle.fort_syntax.specs.Units.{Piece, deck_of}
 use Rattle.fort_syntax.specs.UnitRules.{unit_fault}
-
--- a statement is read as the one that its text spells, with its card and its label; a note as it is
-abbrev pub IsReadAs : Dialect → Entry → Piece → Type 0
-IsReadAs d (Statement card label text) (stated line) = (line.card ≡ card) × (line.label ≡ label) × Spells d text line.stmt
-IsReadAs d (Statement card label text) (remarked n t) = ⊥
-IsReadAs d (Note card text) (stated line) = ⊥
-IsReadAs d (Note card text) (remarked n t) = (n ≡ card) × (t ≡ text)
-
-abbrev pub AreReadAs : Dialect → List Entry → List Piece → Type 0
-AreReadAs d [] [] = ⊤
-AreReadAs d [] (piece ∷ pieces) = ⊥
-AreReadAs d (entry ∷ entries) [] = ⊥
-AreReadAs d (entry ∷ entries) (piece ∷ pieces) = IsReadAs d entry piece × AreReadAs d entries pieces
 
 -- the text of a statement spells none
 abbrev pub IsMisspelled : Dialect → Entry → Fault → Type 0
@@ -45,3 +33,8 @@ IsFirstFault d entries fault =
 abbrev pub IsDeckOf : Dialect → List Entry → Deck → Type 0
 IsDeckOf d entries deck =
     (pieces : List Piece) × AreReadAs d entries pieces × (unit_fault d pieces ≡ None) × (deck ≡ deck_of pieces)
+
+-- entries make a deck or have a first fault, and not both
+pub record MakeDeckOrFault : Type 0 where
+  pub either : (d : Dialect) (entries : List Entry) → ((deck : Deck) × IsDeckOf d entries deck) ⊎ ((fault : Fault) × IsFirstFault d entries fault)
+  pub apart : (d : Dialect) (entries : List Entry) (deck : Deck) (fault : Fault) → IsDeckOf d entries deck → ¬ IsFirstFault d entries fault

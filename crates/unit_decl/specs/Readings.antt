@@ -1,5 +1,6 @@
 -- Reading the entries of a deck one by one.
 use Rattle.std.specs.Prelude.{ℕ, zero, suc, ◌≡◌, not, false, cond, List, [], ◌∷◌, ◌++◌, map}
+use Rattle.fort_syntax.specs.Readings.{AreReadAs}
 use Rattle.fort_syntax.specs.Units.{Piece, stated, remarked, class_of, is_performing, is_ending}
 use Rattle.fort_syntax.specs.declared.cards.Entry.{Entry}
 use Rattle.fort_syntax.specs.declared.cards.Entry.TheVariants.{Statement, Note}
@@ -8,7 +9,7 @@ use Rattle.fort_syntax.specs.declared.deck.Placed.{Placed}
 use Rattle.fort_syntax.specs.declared.dialect.Dialect.{Dialect}
 use Rattle.fort_syntax.specs.declared.refusal.Fault.{Fault}
 use Rattle.fort_syntax.specs.declared.unit.Line.{Line}
-use Rattle.unit_decl.specs.Decks.{AreReadAs, IsFirstMisspelled}
+use Rattle.unit_decl.specs.Decks.{IsFirstMisspelled}
 use Rattle.unit_decl.specs.declared.spot.Spot.{Spot}
 
 -- before the first statement

@@ -1,74 +1,30 @@
 // The data names and the functions of a unit.
-ghost use Rattle.std.specs.Prelude.{◌≡◌, ◌&&◌, IfOk};
-ghost use Rattle.fort_syntax.specs.Scopes.{same_name};
-ghost use Rattle.fort_syntax.specs.Units.{sort_or_integer};
-ghost use Rattle.unit_decl.specs.Scoping.{scope_by};
-ghost use Rattle.unit_decl.specs.UnitParts.{is_held_in, is_data_in, role_in, data_name_in, data_names_in, function_name_in, functions_in, sort_in};
+ghost use Rattle.std.specs.Prelude.{◌≡◌, IfOk};
+ghost use Rattle.unit_scopes.specs.Scoping.{scope_by};
+ghost use Rattle.unit_decl.specs.UnitParts.{role_by, data_name_by, data_names_by, function_name_by, functions_by, value_sort_by};
 
-use crate::key::Key;
-use crate::names::is_intrinsic_name;
-use crate::scoped::Scoped;
-use crate::use_rules::{Roles, is_own};
 use edge_io::{List, NoMemory};
-use fort_syntax::{DataName, Dim, FunctionName, Name, Role, Sort};
+use fort_syntax::{DataName, FunctionName, Name, Role, Sort};
 use std::alloc::Global;
+use unit_scopes::{Scoped, copied_dims, is_intrinsic_name, sort_or_integer};
+use unit_uses::Roles;
 
-fn sort_or_integer(sort: Option<Sort>) -> Sort
-    ensures { result ≡ sort_or_integer sort }
-{
-    match sort {
-        None => Sort::Integer,
-        Some(sort) => sort,
-    }
-}
-
-fn is_own_value(roles: &Roles, own: &[u8], name: &Name) -> bool
-    ensures { result ≡ (roles.now.function && same_name name.now own.now) }
-{
-    roles.function && is_own(own, name)
-}
-
-fn is_held(roles: &Roles, own: &[u8], name: &Name) -> bool
-    ensures { result ≡ is_held_in roles.now own.now name.now }
-{
-    roles.dummies.has(name) || roles.commons.has(name) || is_own_value(roles, own, name)
-}
-
-fn is_data(roles: &Roles, own: &[u8], name: &Name) -> bool
-    ensures { result ≡ is_data_in roles.now own.now name.now }
-{
-    is_held(roles, own, name) || !roles.references.has(name)
-}
-
-fn role(roles: &Roles, own: &[u8], name: &Name) -> Role
-    ensures { result ≡ role_in roles.now own.now name.now }
+fn role(roles: &Roles, name: &Name) -> Role
+    ensures { result ≡ role_by roles.now name.now }
 {
     if roles.dummies.has(name) {
         Role::Dummy
     } else if roles.commons.has(name) {
         Role::InCommon
-    } else if is_own_value(roles, own, name) {
+    } else if roles.is_value(name) {
         Role::OwnValue
     } else {
         Role::Local
     }
 }
 
-/// A copy of dimensions.
-pub(crate) fn copied_dims(alloc: Global, dims: &[Dim]) -> Result<List<Dim>, NoMemory>
-    ensures { IfOk result (λ copy. copy ≡ dims.now) }
-{
-    let mut all = Vec::new(alloc);
-    for dim in dims {
-        if all.push(*dim).is_err() {
-            return Err(NoMemory);
-        }
-    }
-    Ok(List::from_vec(all))
-}
-
-fn data_name(alloc: Global, roles: &Roles, own: &[u8], name: Name) -> Result<DataName, NoMemory>
-    ensures { IfOk result (λ data_name. data_name ≡ data_name_in roles.now own.now name) }
+fn data_name(alloc: Global, roles: &Roles, name: Name) -> Result<DataName, NoMemory>
+    ensures { IfOk result (λ data_name. data_name ≡ data_name_by roles.now name) }
 {
     let Ok(dims) = copied_dims(alloc, roles.scope.dims(&name)) else {
         return Err(NoMemory);
@@ -77,25 +33,18 @@ fn data_name(alloc: Global, roles: &Roles, own: &[u8], name: Name) -> Result<Dat
         name,
         sort: sort_or_integer(roles.scope.sort(&name)),
         dims,
-        role: role(roles, own, &name),
+        role: role(roles, &name),
     })
 }
 
-fn data_names_among(
-    alloc: Global,
-    roles: &Roles,
-    own: &[u8],
-    keys: &[Key],
-) -> Result<List<DataName>, NoMemory>
-    ensures { IfOk result (λ names. names ≡ data_names_in roles.now own.now keys.now) }
+/// The data names of a unit.
+pub(crate) fn data_names(alloc: Global, roles: &Roles) -> Result<List<DataName>, NoMemory>
+    ensures { IfOk result (λ names. names ≡ data_names_by roles.now roles.now.names) }
 {
     let mut all = Vec::new(alloc);
-    for key in keys {
-        let Some(name) = key.name() else {
-            return Err(NoMemory);
-        };
-        if is_data(roles, own, &name) {
-            let Ok(made) = data_name(alloc, roles, own, name) else {
+    for name in roles.names.names() {
+        if roles.is_data(name) {
+            let Ok(made) = data_name(alloc, roles, *name) else {
                 return Err(NoMemory);
             };
             if all.push(made).is_err() {
@@ -106,19 +55,8 @@ fn data_names_among(
     Ok(List::from_vec(all))
 }
 
-/// The data names of a unit.
-pub(crate) fn data_names(
-    alloc: Global,
-    roles: &Roles,
-    own: &[u8],
-) -> Result<List<DataName>, NoMemory>
-    ensures { IfOk result (λ names. names ≡ data_names_in roles.now own.now roles.now.names) }
-{
-    data_names_among(alloc, roles, own, roles.names.keys())
-}
-
 fn function_name(scope: &Scoped, name: Name) -> FunctionName
-    ensures { result ≡ function_name_in (scope_by scope.now) name }
+    ensures { result ≡ function_name_by (scope_by scope.now) name }
 {
     FunctionName {
         name,
@@ -130,16 +68,13 @@ fn function_name(scope: &Scoped, name: Name) -> FunctionName
 pub(crate) fn functions(
     alloc: Global,
     scope: &Scoped,
-    keys: &[Key],
+    names: &[Name],
 ) -> Result<List<FunctionName>, NoMemory>
-    ensures { IfOk result (λ functions. functions ≡ functions_in (scope_by scope.now) keys.now) }
+    ensures { IfOk result (λ functions. functions ≡ functions_by (scope_by scope.now) names.now) }
 {
     let mut all = Vec::new(alloc);
-    for key in keys {
-        let Some(name) = key.name() else {
-            return Err(NoMemory);
-        };
-        if !is_intrinsic_name(&name) && all.push(function_name(scope, name)).is_err() {
+    for name in names {
+        if !is_intrinsic_name(name) && all.push(function_name(scope, *name)).is_err() {
             return Err(NoMemory);
         }
     }
@@ -147,11 +82,11 @@ pub(crate) fn functions(
 }
 
 /// The type of a FUNCTION.
-pub(crate) fn function_sort(roles: &Roles, own: &Name) -> Option<Sort>
-    ensures { result ≡ sort_in roles.now own.now }
+pub(crate) fn value_sort(roles: &Roles) -> Option<Sort>
+    ensures { result ≡ value_sort_by roles.now }
 {
     if roles.function {
-        Some(sort_or_integer(roles.scope.sort(own)))
+        Some(sort_or_integer(roles.scope.sort(&roles.own)))
     } else {
         None
     }

@@ -1,32 +1,11 @@
-// The head, the dummies, the executable statements and the END of a unit.
-ghost use Rattle.std.specs.Prelude.{◌≡◌, [], ◌∷◌, ◌++◌, IfSome, IfOk, OnOk};
-ghost use Rattle.fort_syntax.specs.Units.{class_of, is_performing, headed_by, own_name, dummies_of, executables, card_of_first, card_of_last};
+// The dummies, the executable statements and the END of a unit.
+ghost use Rattle.std.specs.Prelude.{◌≡◌, [], ◌∷◌, ◌++◌, IfOk, OnOk};
+ghost use Rattle.fort_syntax.specs.Units.{class_of, is_performing, dummies_of, executables, card_of_first, card_of_last};
 
-use crate::heads::dummies_by;
 use edge_io::{List, NoMemory};
-use fort_syntax::{Class, Line, Name, Plain, Stmt};
+use fort_syntax::{Class, Line, Name, Plain};
 use std::alloc::Global;
-
-fn head_name(stmt: &Stmt) -> Option<Name>
-    ensures { IfSome result (λ name. name ≡ headed_by stmt.now) }
-{
-    match stmt {
-        Stmt::Subroutine(name, _) => Some(*name),
-        Stmt::Function(_, name, _) => Some(*name),
-        _ => None,
-    }
-}
-
-/// The name of a unit, where its first statement is a head.
-pub(crate) fn unit_name(unit: &[Line]) -> Option<Name>
-    ensures { IfSome result (λ name. name ≡ own_name unit.now) }
-{
-    if unit.is_empty() {
-        None
-    } else {
-        head_name(&unit[0].stmt)
-    }
-}
+use unit_scopes::dummies_by;
 
 pub(crate) fn first_card(unit: &[Line]) -> u32
     ensures { result ≡ card_of_first unit.now }

@@ -4,13 +4,14 @@ use Rattle.std.specs.List.{All}
 use Rattle.std.specs.Option.{option_map}
 use Rattle.std.proofs.lemmas.List.Elements.{All-nil, All-cons}
 use Rattle.std.proofs.lemmas.Bool.{le-leb}
+use Rattle.fort_syntax.specs.Conditions.{ConditionTree}
 use Rattle.formula.specs.declared.node.Node.{Node}
 use Rattle.formula.specs.declared.node.TermId.{TermId}
 use Rattle.formula.specs.Tree.{Tree}
 use Rattle.formula.specs.Pool.{AllBelow, Grows}
 use Rattle.formula.proofs.Grown.{AllBelow-Grows, Grows-trans}
 use Rattle.fort_syntax.specs.declared.condition.Condition.{Condition}
-use Rattle.event_text.specs.Conditions.{ConditionTree, condition_tree, IsConditionIn}
+use Rattle.event_text.specs.Conditions.{condition_tree, IsConditionIn}
 use Rattle.vcg_top.specs.declared.check.Binding.{Binding}
 use Rattle.vcg_top.specs.declared.check.Check.{Check}
 use Rattle.vcg_top.specs.declared.first_form.FirstDeck.{FirstDeck}

@@ -2,6 +2,7 @@
 use Rattle.std.specs.Prelude.{ℕ, ◌≡◌, ◌⊎◌, ◌&&◌, if◌then◌else◌, Option, Some, None, List, [], ◌∷◌, length, map, replicate, codes, string_bytes}
 use Rattle.std.specs.Io.KnownBytes.{Appends}
 use Rattle.std.specs.declared.string.String.{String}
+use Rattle.fort_syntax.specs.Conditions.{ConditionTree}
 use Rattle.formula.specs.Atoms.{same_bytes}
 use Rattle.fort_syntax.specs.CardRules.{card_fault}
 use Rattle.fort_syntax.specs.Cards.{entries_of}
@@ -10,9 +11,7 @@ use Rattle.fort_syntax.specs.declared.deck.Deck.{Deck}
 use Rattle.fort_syntax.specs.declared.dialect.Dialect.{Dialect}
 use Rattle.fort_syntax.specs.declared.dialect.Dialect.TheVariants.{Common, SeventySeven}
 use Rattle.fort_syntax.specs.declared.refusal.Fault.{Fault}
-use Rattle.fort_syntax.specs.declared.rule.Rule.TheVariants.{NotBuilt}
 use Rattle.unit_decl.specs.Decks.{IsDeckOf, IsFirstFault}
-use Rattle.event_text.specs.Conditions.{ConditionTree}
 use Rattle.event_text.specs.EventText.{event_text}
 use Rattle.event_text.specs.Sending.{AppendsPart}
 use Rattle.event_text.specs.declared.marks.Marks.{Marks}
@@ -55,9 +54,9 @@ unmarked count = record { letters = replicate count 45; asked = [] }
 abbrev pub conditions_text : List ConditionTree → List ℕ
 conditions_text conditions = event_text [] conditions (unmarked (length conditions))
 
--- the deck has not the first form
-abbrev pub not_built : Fault
-not_built = record { rule = NotBuilt; card = 1 }
+-- the line for a deck that has not the first form
+abbrev pub not_built_line : List ℕ
+not_built_line = codes "REFUSED 0 NotBuilt CARD 1\n"
 
 -- the conditions of a deck of the first form
 abbrev pub IsConditionsText : Deck → List ℕ → Type 0
@@ -65,7 +64,7 @@ IsConditionsText deck text = (first : FirstTree) × (first_deck deck ≡ Some fi
 
 -- a deck has not the first form
 abbrev pub IsNotBuiltText : Deck → List ℕ → Type 0
-IsNotBuiltText deck text = (first_deck deck ≡ None) × (text ≡ fault_line not_built)
+IsNotBuiltText deck text = (first_deck deck ≡ None) × (text ≡ not_built_line)
 
 -- the text for bytes whose deck has the first form
 abbrev pub IsDoneText : Dialect → List ℕ → List ℕ → Type 0

@@ -1,5 +1,6 @@
 -- The conditions of a deck of the first form, term by term.
 use Rattle.std.specs.Prelude.{ℕ, pos, negsuc, ◌+◌, if◌then◌else◌, nat_le, Option, Some, None, List, [], ◌∷◌, ◌++◌, length, map, codes}
+use Rattle.fort_syntax.specs.Conditions.{ConditionTree}
 use Rattle.formula.specs.declared.function.Func.TheVariants.{BuiltIn}
 use Rattle.formula.specs.declared.function.BuiltIn.{BuiltIn as Builtin}
 use Rattle.formula.specs.declared.function.BuiltIn.TheVariants.{And, Plus, Difference, Times, Quotient, AtMost, Defined as IsDefined, IntegerCell}
@@ -13,7 +14,6 @@ use Rattle.fort_syntax.specs.declared.condition.Kind.TheVariants.{DefinedCheck, 
 use Rattle.vcg_top.specs.declared.expression.Expression.{Expression, fold-Expression}
 use Rattle.vcg_top.specs.declared.expression.Expression.TheOpen.{Expression-F}
 use Rattle.vcg_top.specs.declared.assignment.Assigned.{Assigned}
-use Rattle.event_text.specs.Conditions.{ConditionTree}
 use Rattle.vcg_top.specs.FirstForm.{FirstTree, first_form, when}
 use Rattle.fort_syntax.specs.declared.deck.Deck.{Deck}
 

@@ -7,7 +7,7 @@ use Rattle.formula.specs.declared.function.BuiltIn.TheVariants.{And, Or, Not, Eq
 use Rattle.formula.specs.Tree.{Tree, num, truth, symbol, old, apply, Row, none, more}
 use Rattle.formula.specs.Atoms.{same_bytes, starts}
 use Rattle.formula.specs.Reading.{Reading, got, fault, reads, head_named}
-use Rattle.fort_syntax.specs.Scopes.{same_name, begins_with_i_to_n, is_intrinsic_name}
+use Rattle.fort_syntax.specs.Scopes.{begins_with_i_to_n, is_intrinsic_name}
 use Rattle.fort_syntax.specs.TreePatterns.{only}
 use Rattle.fort_syntax.specs.declared.deck.Deck.{Deck}
 use Rattle.fort_syntax.specs.declared.deck.Placed.{Placed}
@@ -37,7 +37,7 @@ is_none_left (x ∷ xs) = false
 
 -- a name is one of these
 abbrev pub is_listed : List Name → Name → Bool
-is_listed names name = list_any (λ n. same_name n name) names
+is_listed names name = list_any (λ n. same_bytes n name) names
 
 -- ---- expressions
 
@@ -158,7 +158,7 @@ plain_read dummies entries (fault e) = None
 
 -- the plain term that a text begins with; no definitions are there
 abbrev pub plain_term : List Name → Bool → List ℕ → Option (Tree × ℕ)
-plain_term dummies entries text = plain_read dummies entries (reads (head_named [] None) text)
+plain_term dummies entries text = plain_read dummies entries (reads (head_named [] None) (Some 64) text)
 
 -- these terms, and those of the text behind them, up to its end; they are fewer than `fuel`
 abbrev pub terms_from : List Name → Bool → List Tree → ℕ → List ℕ → Option (List Tree)
@@ -224,7 +224,7 @@ is_integer Logical = false
 
 -- a data name is this one, and an integer scalar by its first letter too
 abbrev pub is_integer_dummy : Name → DataName → Bool
-is_integer_dummy x d = same_name d.name x && is_integer d.sort && is_none_left d.dims && begins_with_i_to_n d.name
+is_integer_dummy x d = same_bytes d.name x && is_integer d.sort && is_none_left d.dims && begins_with_i_to_n d.name
 
 -- the data names are the dummies, and each is an integer scalar
 abbrev pub are_integer_dummies : List Name → List DataName → Bool

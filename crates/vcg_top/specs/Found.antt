@@ -1,6 +1,7 @@
 -- What is found in the text of a deck.
 use Rattle.std.specs.Prelude.{List, map}
-use Rattle.event_text.specs.Conditions.{ConditionTree, condition_tree}
+use Rattle.fort_syntax.specs.Conditions.{ConditionTree}
+use Rattle.event_text.specs.Conditions.{condition_tree}
 use Rattle.vcg_top.specs.declared.deck_conditions.Conditions.{Conditions}
 
 -- the conditions as trees

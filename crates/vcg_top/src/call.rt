@@ -7,7 +7,7 @@ ghost use Rattle.event_text.specs.Conditions.{IsConditionIn};
 ghost use Rattle.event_text.specs.Sending.{AppendsPart};
 ghost use Rattle.fort_syntax.specs.FaultLine.{fault_line};
 ghost use Rattle.fort_syntax.specs.declared.dialect.Dialect.{Dialect};
-ghost use Rattle.vcg_top.specs.Answers.{AppendsOf, AppendsPartOf, IsConditionsText, IsDeckIn, IsDoneText, IsNotBuiltText, IsRefusedText, conditions_text, dialect_of as asked, most_read, unmarked as no_marks};
+ghost use Rattle.vcg_top.specs.Answers.{AppendsOf, AppendsPartOf, IsConditionsText, IsDeckIn, IsDoneText, IsNotBuiltText, IsRefusedText, conditions_text, dialect_of as asked, most_read, not_built_line, unmarked as no_marks};
 ghost use Rattle.fort_syntax.specs.declared.deck.Deck.{Deck};
 ghost use Rattle.vcg_top.specs.Conditions.{first_deck};
 ghost use Rattle.vcg_top.specs.Found.{condition_trees_of};
@@ -18,10 +18,10 @@ use crate::deck_conditions::{Conditions, conditions_of_deck};
 use crate::judging::read_deck;
 use crate::reading::{ReadError, read_all};
 use crate::words::dialect_of;
-use edge_io::{List, NoMemory, Sink, Source};
-use event_text::{Marks, write_events, write_fault};
+use edge_io::{Keys, List, NoMemory, Sink, Source, write_all};
+use event_text::{Marks, WritingStack, write_events, write_fault};
 use formula::Definitions;
-use fort_syntax::{Deck, Dialect, Fault, Refusal, Rule};
+use fort_syntax::{Deck, Dialect, Fault, Refusal};
 use std::alloc::Global;
 
 /// No prover was asked for any of so many conditions.
@@ -49,6 +49,20 @@ fn refuse<K: Sink>(sink: &mut K, fault: &Fault) -> Status
     Status::Refused
 }
 
+/// Writes that a deck has not the first form. It takes no memory.
+fn decline<K: Sink>(sink: &mut K) -> Status
+    ensures only { (result ≡ Refused) ⊎ (result ≡ WriteFault) }
+    ensures refused { result ≡ Refused → Appends (K.written sink.old) (K.written sink.new) not_built_line }
+    ensures part { result ≡ WriteFault → AppendsPart (K.written sink.old) (K.written sink.new) not_built_line }
+    ensures cause { result ≡ WriteFault → Rose (K.faults sink.old) (K.faults sink.new) }
+    ensures later { K.faults sink.old ≤ K.faults sink.new }
+{
+    let Ok(()) = write_all(sink, b"REFUSED 0 NotBuilt CARD 1\n") else {
+        return Status::WriteFault;
+    };
+    Status::Refused
+}
+
 /// Writes the text of conditions.
 fn tell<K: Sink>(alloc: Global, sink: &mut K, found: &Conditions) -> Status
     requires { All (IsConditionIn found.now.pool) found.now.conditions }
@@ -62,15 +76,25 @@ fn tell<K: Sink>(alloc: Global, sink: &mut K, found: &Conditions) -> Status
     let Ok(marks) = unmarked(alloc, found.conditions.as_slice().len()) else {
         return Status::NoMemory;
     };
-    let definitions = Definitions::new(alloc);
-    let Ok(()) = write_events(sink, &found.pool, &definitions, &found.conditions, &marks) else {
+    let definitions = Definitions::new(alloc, found.pool.keys());
+    let Ok(mut stack) = WritingStack::new(alloc, &found.pool) else {
+        return Status::NoMemory;
+    };
+    let Ok(()) = write_events(
+        sink,
+        &found.pool,
+        &definitions,
+        &found.conditions,
+        &marks,
+        &mut stack,
+    ) else {
         return Status::WriteFault;
     };
     Status::Done
 }
 
 /// Writes the conditions of a deck, or that it has not the first form.
-fn tell_deck<K: Sink>(alloc: Global, sink: &mut K, deck: &Deck) -> Status
+fn tell_deck<K: Sink>(alloc: Global, keys: Keys, sink: &mut K, deck: &Deck) -> Status
     ensures only { (result ≡ Done) ⊎ ((result ≡ Refused) ⊎ ((result ≡ WriteFault) ⊎ (result ≡ Starved))) }
     ensures done { result ≡ Done → AppendsOf (IsConditionsText deck.now) (K.written sink.old) (K.written sink.new) }
     ensures refused { result ≡ Refused → AppendsOf (IsNotBuiltText deck.now) (K.written sink.old) (K.written sink.new) }
@@ -79,13 +103,9 @@ fn tell_deck<K: Sink>(alloc: Global, sink: &mut K, deck: &Deck) -> Status
     ensures nothing { result ≡ Starved → sink.new ≡ sink.old }
     ensures later { K.faults sink.old ≤ K.faults sink.new }
 {
-    let not_built = Fault {
-        rule: Rule::NotBuilt,
-        card: 1,
-    };
-    match conditions_of_deck(alloc, deck) {
+    match conditions_of_deck(alloc, keys, deck) {
         Err(NoMemory) => Status::NoMemory,
-        Ok(None) => refuse(sink, &not_built),
+        Ok(None) => decline(sink),
         Ok(Some(found)) => tell(alloc, sink, &found),
     }
 }
@@ -101,7 +121,7 @@ fn answer<K: Sink>(alloc: Global, dialect: Dialect, sink: &mut K, bytes: &[u8]) 
     ensures later { K.faults sink.old ≤ K.faults sink.new }
 {
     match read_deck(alloc, dialect, bytes) {
-        Ok(deck) => tell_deck(alloc, sink, &deck),
+        Ok(deck) => tell_deck(alloc, Keys::of(bytes), sink, &deck),
         Err(Refusal::Broken(fault)) => refuse(sink, &fault),
         Err(Refusal::NoMemory) => Status::NoMemory,
     }

@@ -10,7 +10,7 @@ ghost use Rattle.vcg_top.specs.Found.{condition_trees_of};
 use crate::first_form::{FirstDeck, first_form};
 use crate::numbering::number_all;
 use crate::path::{Path, path_of};
-use edge_io::{List, NoMemory};
+use edge_io::{Keys, List, NoMemory};
 use formula::TermPool;
 use fort_syntax::{Condition, Deck};
 use std::alloc::Global;
@@ -48,12 +48,16 @@ fn number_path(
     }))
 }
 
-/// The conditions of a deck; none where it is not of the first form.
-pub(crate) fn conditions_of_deck(alloc: Global, deck: &Deck) -> Result<Option<Conditions>, NoMemory>
+/// The conditions of a deck; none where it is not of the first form. The tables of terms have these keys.
+pub(crate) fn conditions_of_deck(
+    alloc: Global,
+    keys: Keys,
+    deck: &Deck,
+) -> Result<Option<Conditions>, NoMemory>
     ensures value { IfOk result (λ o. option_map condition_trees_of o ≡ option_map conditions_of (first_deck deck.now)) }
     ensures known { IfOk result (λ o. IfSome o (λ c. All (IsConditionIn c.pool) c.conditions)) }
 {
-    let mut pool = TermPool::new(alloc);
+    let mut pool = TermPool::new(alloc, keys);
     let Some(deck) = first_form(alloc, &mut pool, deck)? else {
         return Ok(None);
     };

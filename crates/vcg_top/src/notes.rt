@@ -9,7 +9,7 @@ ghost use Rattle.vcg_top.specs.Drafts.{tree_read, trees_in};
 
 use crate::plain::is_plain;
 use edge_io::{List, NoMemory};
-use formula::{Definitions, ReadFault, TermId, TermPool, read_term};
+use formula::{Headings, ReadFault, TermId, TermPool, read_term};
 use fort_syntax::{Name, Placed};
 use std::alloc::Global;
 
@@ -38,7 +38,8 @@ fn plain_term(
     ensures taken { IfOk result (λ o. IfSome o (λ r. r.1 ≤ length text.now)) }
     ensures grows { Grows pool.old pool.new }
 {
-    match read_term(alloc, pool, &Definitions::new(alloc), None, text) {
+    let headings = Headings::new(alloc, pool.keys());
+    match read_term(alloc, pool, &headings, None, Some(64), text) {
         Ok((id, taken)) => {
             if is_plain(pool, dummies, entries, id) {
                 Ok(Some((id, taken)))

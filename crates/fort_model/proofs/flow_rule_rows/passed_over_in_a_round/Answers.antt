@@ -1,9 +1,10 @@
 use Rattle.std.specs.Prelude.{refl, [], ◌∷◌, None}
+use Rattle.fort_syntax.specs.SmallDecks.{J}
 use Rattle.fort_syntax.specs.declared.stmt.Param.TheVariants.{Fixed}
 use Rattle.fort_syntax.specs.declared.stmt.Stmt.TheVariants.{Do}
 use Rattle.fort_model.specs.Decks.{line}
 use Rattle.fort_model.specs.Paths.{one}
-use Rattle.fort_model.specs.Rows.{J, twice}
+use Rattle.fort_model.specs.Rows.{twice}
 use Rattle.fort_model.proofs.flow_rule_rows.passed_over_in_a_round.Goals as goal
 
 -- src/flow_rule_rows.rt:30:1

@@ -1,10 +1,10 @@
 use Rattle.std.specs.Prelude.{refl, false, [], ◌∷◌, codes}
+use Rattle.fort_syntax.specs.SmallDecks.{I}
 use Rattle.fort_syntax.specs.declared.expr.Expr.TheVariants.{Var}
 use Rattle.fort_syntax.specs.declared.stmt.Stmt.TheVariants.{Call}
 use Rattle.fort_model.specs.Calls.{directly}
 use Rattle.fort_model.specs.Decks.{line}
 use Rattle.fort_model.specs.RuleRows.{endless}
-use Rattle.fort_model.specs.Rows.{I}
 use Rattle.fort_model.proofs.rule_rows.calls_of_itself.Goals as goal
 
 -- src/rule_rows.rt:35:1

@@ -1,9 +1,10 @@
 use Rattle.std.specs.Prelude.{refl, false, [], ◌∷◌, codes}
+use Rattle.fort_syntax.specs.SmallDecks.{I, J, K}
 use Rattle.fort_syntax.specs.declared.expr.Expr.TheVariants.{Var}
 use Rattle.fort_syntax.specs.declared.stmt.Stmt.TheVariants.{Assign, Call}
 use Rattle.fort_model.specs.Calls.{Calls}
 use Rattle.fort_model.specs.Decks.{line}
-use Rattle.fort_model.specs.Rows.{I, J, K, swap, rotate}
+use Rattle.fort_model.specs.Rows.{swap, rotate}
 use Rattle.fort_model.specs.Smashes.{Smashes, sets, passes}
 use Rattle.fort_model.proofs.smash_rows.smashed_by_calls.Goals as goal
 

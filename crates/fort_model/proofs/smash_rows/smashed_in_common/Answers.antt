@@ -1,9 +1,10 @@
 use Rattle.std.specs.Prelude.{refl, false, [], ◌∷◌, codes}
+use Rattle.fort_syntax.specs.SmallDecks.{K}
 use Rattle.fort_syntax.specs.declared.expr.Expr.TheVariants.{Const, Var}
 use Rattle.fort_syntax.specs.declared.stmt.Stmt.TheVariants.{Assign, Call}
 use Rattle.fort_model.specs.Calls.{Calls}
 use Rattle.fort_model.specs.Decks.{line}
-use Rattle.fort_model.specs.Rows.{K, set_common, pass_common}
+use Rattle.fort_model.specs.Rows.{set_common, pass_common}
 use Rattle.fort_model.specs.Smashes.{Smashes, sets, shares}
 use Rattle.fort_model.proofs.smash_rows.smashed_in_common.Goals as goal
 

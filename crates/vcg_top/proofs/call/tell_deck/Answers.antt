@@ -1,17 +1,16 @@
 use Rattle.std.proofs.Common.{inl, inr, refl}
-use Rattle.fort_syntax.specs.FaultLine.{fault_line}
-use Rattle.vcg_top.specs.Answers.{conditions_text, not_built}
+use Rattle.vcg_top.specs.Answers.{conditions_text, not_built_line}
 use Rattle.vcg_top.specs.Found.{condition_trees_of}
 use Rattle.vcg_top.proofs.Replies.{none_of, some_of}
 use Rattle.vcg_top.proofs.call.tell_deck.Goals as goal
 
 pub returns-in-Ok-None-clause-part : goal.returns-in-Ok-None-clause-part
 returns-in-Ok-None-clause-part g c is =
-    (fault_line not_built, inr (none_of _ _ c.in-Ok-None.field-0-is c.in-Ok-None.ensures.value, refl), c.refuse.ensures.part is)
+    (not_built_line, inr (none_of _ _ c.in-Ok-None.field-0-is c.in-Ok-None.ensures.value, refl), c.decline.ensures.part is)
 
 pub returns-in-Ok-None-clause-refused : goal.returns-in-Ok-None-clause-refused
 returns-in-Ok-None-clause-refused g c is =
-    (fault_line not_built, (none_of _ _ c.in-Ok-None.field-0-is c.in-Ok-None.ensures.value, refl), c.refuse.ensures.refused is)
+    (not_built_line, (none_of _ _ c.in-Ok-None.field-0-is c.in-Ok-None.ensures.value, refl), c.decline.ensures.refused is)
 
 pub returns-in-Ok-Some-clause-done : goal.returns-in-Ok-Some-clause-done
 returns-in-Ok-Some-clause-done g c is =

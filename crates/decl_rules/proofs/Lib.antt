@@ -1,0 +1,4 @@
+pub mod Shapes
+pub mod NameScanned
+pub mod SameMembers
+pub mod NameUnits

@@ -1,0 +1,4 @@
+pub mod Sizes
+pub mod NameScans
+pub mod Commons
+pub mod Facts

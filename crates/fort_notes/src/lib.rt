@@ -1,0 +1,11 @@
+//! What the notes of a deck become: assertions, runs, assignments to conditions, and certificates.
+#![tactic(auto)]
+
+mod cases;
+mod certificates;
+mod notes;
+mod plain;
+
+pub use cases::{Given, Passing, RunCard, Site, TryCard};
+pub use certificates::{ProofCard, Step};
+pub use notes::{AssertSpec, Specs, UnitSpec};

@@ -1,0 +1,94 @@
+-- Entries make one deck, or have a first fault, and not both.
+use Rattle.std.proofs.Common.{◌≡◌, ◌⊎◌, inl, inr, ℕ, List, [], ◌∷◌, Some, None, refl, sym, ap, ◌∙◌}
+use Rattle.std.specs.Prelude.{Option}
+use Rattle.fort_syntax.specs.Misspelled.{refusal_of}
+use Rattle.fort_syntax.specs.UnitRules.{unit_fault}
+use Rattle.fort_syntax.specs.Units.{Piece, stated, remarked, deck_of}
+use Rattle.fort_syntax.specs.declared.cards.Entry.{Entry}
+use Rattle.fort_syntax.specs.declared.cards.Entry.TheVariants.{Statement, Note}
+use Rattle.fort_syntax.specs.declared.deck.Deck.{Deck}
+use Rattle.fort_syntax.specs.declared.dialect.Dialect.{Dialect}
+use Rattle.fort_syntax.specs.declared.refusal.Fault.{Fault}
+use Rattle.fort_syntax.specs.declared.stmt.Stmt.{Stmt}
+use Rattle.stmt_parse.specs.Statements.{statement_of}
+use Rattle.stmt_parse.proofs.StatementsAgree.{found_is_spelled, none_is_spelled, text_spells_one_statement}
+use Rattle.unit_decl.specs.Decks.{IsReadAs, AreReadAs, IsMisspelled, IsFirstMisspelled, IsFirstFault, IsDeckOf, MakeDeckOrFault}
+
+-- an entry is read in one way
+piece_one : (d : Dialect) (e : Entry) (p q : Piece) → IsReadAs d e p → IsReadAs d e q → p ≡ q
+piece_one d (Statement card label text) (stated l) (stated m) h k =
+    let cards : l.card ≡ m.card = h.0 ∙ sym k.0 in
+    let labels : l.label ≡ m.label = h.1 ∙ sym k.1 in
+    let statements = text_spells_one_statement d text l.stmt m.stmt h.2 k.2 in
+    λ i. stated (record { card = cards i; label = labels i; stmt = statements i })
+piece_one d (Statement card label text) (stated l) (remarked n t) h k = absurd k
+piece_one d (Statement card label text) (remarked n t) q h k = absurd h
+piece_one d (Note card text) (stated l) q h k = absurd h
+piece_one d (Note card text) (remarked n t) (stated m) h k = absurd k
+piece_one d (Note card text) (remarked n t) (remarked m u) h k = λ i. remarked ((h.0 ∙ sym k.0) i) ((h.1 ∙ sym k.1) i)
+
+pieces_one : (d : Dialect) (es : List Entry) (ps qs : List Piece) → AreReadAs d es ps → AreReadAs d es qs → ps ≡ qs
+pieces_one d [] [] [] h k = refl
+pieces_one d [] [] (q ∷ qs) h k = absurd k
+pieces_one d [] (p ∷ ps) qs h k = absurd h
+pieces_one d (e ∷ es) [] qs h k = absurd h
+pieces_one d (e ∷ es) (p ∷ ps) [] h k = absurd k
+pieces_one d (e ∷ es) (p ∷ ps) (q ∷ qs) h k = λ i. piece_one d e p q h.0 k.0 i ∷ pieces_one d es ps qs h.1 k.1 i
+
+-- what is read is not misspelled
+read_not_misspelled : (d : Dialect) (e : Entry) (p : Piece) (fault : Fault) → IsReadAs d e p → ¬ IsMisspelled d e fault
+read_not_misspelled d (Statement card label text) (stated l) fault h k = k.0 l.stmt h.2
+read_not_misspelled d (Statement card label text) (remarked n t) fault h k = h
+read_not_misspelled d (Note card text) p fault h k = k
+
+all_read : (d : Dialect) (es : List Entry) (ps : List Piece) (fault : Fault) → AreReadAs d es ps → ¬ IsFirstMisspelled d es fault
+all_read d [] ps fault h k = k
+all_read d (e ∷ es) [] fault h k = h
+all_read d (e ∷ es) (p ∷ ps) fault h (inl k) = read_not_misspelled d e p fault h.0 k
+all_read d (e ∷ es) (p ∷ ps) fault h (inr k) = all_read d es ps fault h.1 k.1
+
+pub deck_unfaulted : (d : Dialect) (es : List Entry) (deck : Deck) (fault : Fault) → IsDeckOf d es deck → ¬ IsFirstFault d es fault
+deck_unfaulted d es deck fault h (inl k) = all_read d es h.0 fault h.1 k
+deck_unfaulted d es deck fault h (inr k) =
+    let same : unit_fault d h.0 ≡ unit_fault d k.0 = ap (unit_fault d) (pieces_one d es h.0 k.0 h.1 k.1) in
+    let both : None ≡ Some fault = sym h.2 ∙ same ∙ k.2 in
+    absurd (cc)
+
+pub deck_one : (d : Dialect) (es : List Entry) (a b : Deck) → IsDeckOf d es a → IsDeckOf d es b → a ≡ b
+deck_one d es a b h k = h.3 ∙ ap deck_of (pieces_one d es h.0 k.0 h.1 k.1) ∙ sym k.3
+
+-- ---- one of both
+
+-- all entries are read, or one is the first whose text spells none
+all_or_first : (d : Dialect) (es : List Entry)
+    → ((ps : List Piece) × AreReadAs d es ps) ⊎ ((fault : Fault) × IsFirstMisspelled d es fault)
+all_or_first d [] = inl ([], tt)
+all_or_first d (Statement card label text ∷ es) = by (statement_of d text) refl (all_or_first d es)
+  where
+    by : (o : Option Stmt) → statement_of d text ≡ o → ((ps : List Piece) × AreReadAs d es ps) ⊎ ((fault : Fault) × IsFirstMisspelled d es fault)
+        → ((ps : List Piece) × AreReadAs d (Statement card label text ∷ es) ps) ⊎ ((fault : Fault) × IsFirstMisspelled d (Statement card label text ∷ es) fault)
+    by None e rest = inr (record { rule = refusal_of d text; card = card }, inl (none_is_spelled d text e, refl))
+    by (Some s) e (inl h) = inl (stated (record { card = card; label = label; stmt = s }) ∷ h.0, ((refl, refl, found_is_spelled d text s e), h.1))
+    by (Some s) e (inr h) = inr (h.0, inr ((stated (record { card = card; label = label; stmt = s }), (refl, refl, found_is_spelled d text s e)), h.1))
+all_or_first d (Note card text ∷ es) = by (all_or_first d es)
+  where
+    by : ((ps : List Piece) × AreReadAs d es ps) ⊎ ((fault : Fault) × IsFirstMisspelled d es fault)
+        → ((ps : List Piece) × AreReadAs d (Note card text ∷ es) ps) ⊎ ((fault : Fault) × IsFirstMisspelled d (Note card text ∷ es) fault)
+    by (inl h) = inl (remarked card text ∷ h.0, ((refl, refl), h.1))
+    by (inr h) = inr (h.0, inr ((remarked card text, (refl, refl)), h.1))
+
+one_of_both : (d : Dialect) (es : List Entry) → ((deck : Deck) × IsDeckOf d es deck) ⊎ ((fault : Fault) × IsFirstFault d es fault)
+one_of_both d es = by (all_or_first d es)
+  where
+    judged : (ps : List Piece) → AreReadAs d es ps → (f : Option Fault) → unit_fault d ps ≡ f
+        → ((deck : Deck) × IsDeckOf d es deck) ⊎ ((fault : Fault) × IsFirstFault d es fault)
+    judged ps h None e = inl (deck_of ps, (ps, h, e, refl))
+    judged ps h (Some fault) e = inr (fault, inr (ps, h, e))
+
+    by : ((ps : List Piece) × AreReadAs d es ps) ⊎ ((fault : Fault) × IsFirstMisspelled d es fault)
+        → ((deck : Deck) × IsDeckOf d es deck) ⊎ ((fault : Fault) × IsFirstFault d es fault)
+    by (inl h) = judged h.0 h.1 (unit_fault d h.0) refl
+    by (inr h) = inr (h.0, inl h.1)
+
+pub entries_make_deck_or_fault : MakeDeckOrFault
+entries_make_deck_or_fault = record { either = one_of_both; apart = deck_unfaulted }

@@ -1,0 +1,5 @@
+pub mod Scopings
+pub mod Gathered
+pub mod Given
+pub mod BlockNames
+pub mod Listed

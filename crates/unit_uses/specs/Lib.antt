@@ -1,0 +1,3 @@
+pub mod Usings
+pub mod UseFacts
+pub mod Roles

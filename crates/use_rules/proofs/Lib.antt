@@ -1,0 +1,2 @@
+pub mod UseScanned
+pub mod CarriedLabels

@@ -1,0 +1,12 @@
+use Rattle.std.proofs.Common.{ap, sym, ◌∙◌}
+use Rattle.fort_syntax.specs.Uses.{used_labels}
+use Rattle.unit_uses.specs.UseFacts.{has_label_in}
+use Rattle.use_rules.specs.UseScans.{lacks_label}
+use Rattle.use_rules.proofs.CarriedLabels.{labels_by_if}
+use Rattle.use_rules.proofs.usage.+lacks_label.Goals as goal
+
+pub returns-in-LogicalIf : goal.returns-in-LogicalIf
+returns-in-LogicalIf t c =
+    let lacks = lacks_label (has_label_in c.args.lines.now) in
+    c.lacks_label.ensures ∙ ap (λ s. lacks (used_labels s)) c.get.ensures
+    ∙ sym (ap (λ s. lacks (used_labels s)) c.in-LogicalIf.is ∙ ap lacks (labels_by_if c.in-LogicalIf.field-0 c.in-LogicalIf.carried))
