@@ -20,13 +20,13 @@ use Rattle.name_tables.proofs.Told.{same_names, told_of}
 use Rattle.name_tables.proofs.Among.{any_both, among_both}
 use Rattle.name_tables.proofs.SetNames.{with_names_of}
 use Rattle.unit_scopes.specs.Blocks.{names_of_block, tabled}
-use Rattle.unit_scopes.proofs.BlockNames.{tabled_of}
+use Rattle.unit_scopes.proofs.BlockMembers.{tabled_of}
 use Rattle.unit_uses.specs.Roles.{use_facts_by}
 use Rattle.unit_uses.specs.UseFacts.{use_facts_of}
 use Rattle.unit_uses.specs.declared.roles.Roles.{Roles}
 use Rattle.decl_rules.specs.declared.declarations.Declarations.{Declarations}
 use Rattle.decl_rules.specs.declared.rules.Breaches.{Breaches}
-use Rattle.decl_rules.specs.NameScans.{Facts, facts_of, no_declarations, declarations_with, first_rule, breaches, name_rule, name_scan}
+use Rattle.decl_rules.specs.NameScans.{Facts, facts_of, no_declarations, declarations_with, first_rule, breaches_of, name_rule, name_scan}
 use Rattle.decl_rules.specs.Commons.{differs, is_bad_with, remembered, remembered_from, Agrees, facts_with}
 use Rattle.decl_rules.specs.Facts.{members_by, facts_by}
 use Rattle.decl_rules.proofs.NameScanned.{new_bad_any, names_scanned}
@@ -129,7 +129,7 @@ good dialect facts done (line ∷ lines) h b m =
     here : list_any (λ c. not (is_among c done.blocks) && facts.is_bad_block c) (blocks_by line.stmt) ≡ false
     here =
         sym (new_bad_any facts.is_bad_block done.blocks (blocks_by line.stmt))
-        ∙ no_block (breaches dialect facts done line.stmt)
+        ∙ no_block (breaches_of dialect facts done line.stmt)
         (rule_none (name_rule dialect facts done line.stmt) line.card (name_scan dialect facts (declarations_with done line.stmt) lines) h)
 
     by : (is_among b (gathered blocks_by lines) ≡ true → (not (is_among b (with_names done.blocks (blocks_by line.stmt))) && facts.is_bad_block b) ≡ false)

@@ -103,8 +103,8 @@ first_rule b =
     (cond b.adjustable (Some BadAdjustable) None))))
 
 -- which rules on declarations a statement breaks, by what the ones before it declare
-abbrev pub breaches : Dialect → Facts → Declarations → Stmt → Breaches
-breaches dialect facts done s = record {
+abbrev pub breaches_of : Dialect → Facts → Declarations → Stmt → Breaches
+breaches_of dialect facts done s = record {
   twice = names_twice facts.own facts.is_dummy done s (declaration_of s);
   untyped = has_untyped facts.scope (names_in s);
   shape = has_bad_shape dialect (items_by s);
@@ -113,7 +113,7 @@ breaches dialect facts done s = record {
 }
 
 abbrev pub name_rule : Dialect → Facts → Declarations → Stmt → Option Rule
-name_rule dialect facts done s = first_rule (breaches dialect facts done s)
+name_rule dialect facts done s = first_rule (breaches_of dialect facts done s)
 
 -- the first fault of statements by these rules, behind others of their unit
 abbrev pub name_scan : Dialect → Facts → Declarations → List Line → Option Fault

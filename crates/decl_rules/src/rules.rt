@@ -8,7 +8,7 @@ ghost use Rattle.name_tables.specs.Sets.{with_names};
 ghost use Rattle.unit_scopes.specs.Scoping.{scope_by};
 ghost use Rattle.decl_rules.specs.Commons.{is_bad_with};
 ghost use Rattle.decl_rules.specs.Facts.{members_by, facts_by};
-ghost use Rattle.decl_rules.specs.NameScans.{declaration_of, no_declarations, declares, declarations_with, names_twice, has_untyped, has_bad_shape, has_new_bad, is_bad_item, first_rule, breaches, name_rule, name_scan};
+ghost use Rattle.decl_rules.specs.NameScans.{declaration_of, no_declarations, declares, declarations_with, names_twice, has_untyped, has_bad_shape, has_new_bad, is_bad_item, first_rule, breaches_of, name_rule, name_scan};
 
 use crate::declarations::{Declaration, Declarations, declaration_of};
 use crate::dims::is_bad_shape;
@@ -213,14 +213,14 @@ fn stmt_is_twice(
 }
 
 /// Which rules on declarations a statement breaks.
-fn breaches(
+fn breaches_of(
     setting: Setting,
     earlier: &BlockTable<List<BlockMember>>,
     roles: &Roles,
     done: &mut Declarations,
     stmt: &Stmt,
 ) -> Result<Breaches, NoMemory>
-    ensures breaches { IfOk result (λ found. found ≡ breaches setting.dialect (facts_by earlier.now roles.now) done.old stmt.now) }
+    ensures found { IfOk result (λ found. found ≡ breaches_of setting.dialect (facts_by earlier.now roles.now) done.old stmt.now) }
     ensures done { OnOk result (done.new ≡ declarations_with done.old stmt.now) }
 {
     let Ok(items) = items_by(setting.alloc, stmt) else {
@@ -257,7 +257,7 @@ pub(crate) fn scan(
 {
     let mut done = Declarations::new(setting);
     for i in 0..unit.len() {
-        let Ok(found) = breaches(setting, earlier, roles, &mut done, &unit[i].stmt) else {
+        let Ok(found) = breaches_of(setting, earlier, roles, &mut done, &unit[i].stmt) else {
             return Err(NoMemory);
         };
         if let Some(rule) = found.first() {

@@ -6,6 +6,7 @@ mod condition;
 mod definition;
 mod events;
 mod fault;
+mod laws;
 mod marks;
 mod out;
 mod page;
@@ -15,5 +16,6 @@ mod writing_stack;
 
 pub use events::write_events;
 pub use fault::write_fault;
+pub use laws::one_text_is_one_list;
 pub use marks::Marks;
 pub use writing_stack::WritingStack;

@@ -15,8 +15,7 @@ use Rattle.formula.specs.Atoms.{is_among}
 use Rattle.formula.specs.Headings.{heading_with, is_headed}
 use Rattle.formula.specs.Reach.{IsReached, itself, below, AreReached}
 use Rattle.formula.specs.Passing.{all_pass, both, names_are_own, term_results, use_results, top_results, results_of}
-use Rattle.formula.specs.Pool.{AllBelow, HasArgumentsBelow, IsPool, row_in, tree_at, tree_in, trees}
-use Rattle.formula.specs.Substitution.{arguments_of}
+use Rattle.formula.specs.Pool.{AllBelow, HasArgumentsBelow, IsPool, row_in, tree_at, tree_in, trees, arguments_of}
 use Rattle.formula.specs.TermTests.{uses_pass, row_uses_pass, row_names_pass}
 use Rattle.formula.specs.Tree.{Tree, num, truth, symbol, old, apply, Row, none, more}
 use Rattle.formula.proofs.Growth.{below_at, tree_at-trees}

@@ -8,9 +8,8 @@ use Rattle.std.proofs.lemmas.Map.Steps.{length-le_from_distinct_below}
 use Rattle.indexmap.specs.IndexSet.{insert_key}
 use Rattle.formula.specs.declared.node.Node.{Node}
 use Rattle.formula.specs.declared.node.TermId.{TermId}
-use Rattle.formula.specs.Pool.{IsPool}
+use Rattle.formula.specs.Pool.{IsPool, arguments_of}
 use Rattle.formula.specs.Reach.{IsReached, itself, below, AreReached, seen_all}
-use Rattle.formula.specs.Substitution.{arguments_of}
 use Rattle.formula.proofs.NodeTests.{reached_in, same_default}
 
 -- ---- members

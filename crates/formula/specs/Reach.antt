@@ -3,8 +3,7 @@ use Rattle.std.specs.Prelude.{ℕ, ◌<◌, ◌≡◌, List, [], ◌∷◌, Some
 use Rattle.indexmap.specs.IndexSet.{insert_key}
 use Rattle.formula.specs.declared.node.Node.{Node}
 use Rattle.formula.specs.declared.node.TermId.{TermId}
-use Rattle.formula.specs.Pool.{IsPool}
-use Rattle.formula.specs.Substitution.{arguments_of}
+use Rattle.formula.specs.Pool.{IsPool, arguments_of}
 
 -- the node at a place is reached from that at the place `top`
 pub data IsReached (pool : List Node) (top : ℕ) : ℕ → Type 0 where

@@ -1,8 +1,7 @@
 // The nodes that a term reaches.
 ghost use Rattle.std.specs.Prelude.{◌≡◌, IfOk, OnOk};
-ghost use Rattle.formula.specs.Pool.{IsIn};
+ghost use Rattle.formula.specs.Pool.{IsIn, arguments_of};
 ghost use Rattle.formula.specs.Reach.{AreReached, seen_all};
-ghost use Rattle.formula.specs.Substitution.{arguments_of};
 
 use crate::{Node, TermId, TermPool};
 use edge_io::{Keys, NoMemory};

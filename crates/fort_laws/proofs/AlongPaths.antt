@@ -1,20 +1,18 @@
 -- The points along a path, and flat lists of choices.
-use Rattle.std.proofs.Common.{◌≡◌, ℕ, zero, suc, ◌==◌, Bool, true, false, cond, List, [], ◌∷◌, ◌++◌, map, length, Option, Some, None, slice_get, refl, sym, ap, ◌∙◌, subst, append_assoc, arith}
+use Rattle.std.proofs.Common.{◌≡◌, ℕ, zero, suc, ◌==◌, Bool, true, false, cond, List, [], ◌∷◌, ◌++◌, map, length, Option, Some, None, slice_get, refl, sym, ap, ◌∙◌, subst}
 use Rattle.std.specs.List.{concat}
 use Rattle.std.proofs.lemmas.List.{append_cancel_left}
 use Rattle.fort_syntax.specs.TreePatterns.{carried}
 use Rattle.fort_syntax.specs.declared.dialect.Dialect.{Dialect}
 use Rattle.fort_syntax.specs.declared.dialect.Dialect.TheVariants.{Common, SeventySeven}
-use Rattle.fort_syntax.specs.declared.stmt.Stmt.{Stmt}
 use Rattle.fort_syntax.specs.declared.stmt.Stmt.TheVariants.{Subroutine, Function, Declare, Dimension, Common as CommonBlock, Assign, GoTo, Computed, ArithIf, LogicalIf', Do, Continue, Call, Return, End, BlockIf, ElseIf, Else, EndIf}
 use Rattle.fort_syntax.specs.declared.unit.Line.{Line}
 use Rattle.fort_syntax.specs.declared.unit.Unit.{Unit as Routine}
-use Rattle.fort_model.specs.Flow.{Loop, target, one_way, one_of, chosen, through, behind, passed_over, leads_do, leads_computed, leads, leads_by, leads_at, loops_at, loops_around, next_point, next_branch}
-use Rattle.fort_model.specs.PathPoints.{on_from, points_from, point_in, start_point, points_of}
-use Rattle.fort_model.specs.Paths.{Cut, NoCut, AtEnd, AtAssert, cut_at, over_or, goes_on, goes_from, IsWay, IsWayIn, Path, IsPath, is_path_from, starts_at}
+use Rattle.fort_model.specs.Flow.{Loop, target, one_way, one_of, through, behind, leads_do, leads_computed, leads, leads_by, leads_at, loops_at, loops_around, next_point, next_branch}
+use Rattle.fort_model.specs.PathPoints.{on_from, points_from, point_in, start_point}
+use Rattle.fort_model.specs.Paths.{Cut, NoCut, AtEnd, AtAssert, cut_at, over_or, goes_on, goes_from, IsWay, is_path_from, starts_at}
 use Rattle.fort_notes.specs.Assertions.{Assertion, Notes}
 use Rattle.fort_laws.specs.Trails.{LeadThrough, IsCut, StopAtCut, GoToCut, PathsLeadThrough, ChoicesEnd, FlatChoicesTellPaths}
-use Rattle.fort_laws.proofs.Near.{known}
 
 -- ---- choices that lead on are no front of others
 
@@ -273,6 +271,7 @@ module _ (dialect : Dialect) (u : Routine) (notes : Notes) where
           let same_to : s.to ≡ t.to = same_some (sym s.leads ∙ ap (leads_at dialect u pc) e ∙ t.leads) in
           let rest = left_alike t.to a b rec (subst (λ (q : ℕ). Left dialect u notes q a) same_to (left_of dialect u notes s.to a s.on)) (left_of dialect u notes t.to b t.on) f in
           ap (λ (l : List ℕ). l ∷ a) e ∙ ap (λ (l : List (List ℕ)). ds ∷ l) rest
+
   from_alike : (start : ℕ) (a b : List (List ℕ)) → is_path_from dialect u notes start a → is_path_from dialect u notes start b → concat a ≡ concat b → a ≡ b
   from_alike zero a b v w h = left_alike 0 a b (ways_alike a) (left_of dialect u notes 0 a v) (left_of dialect u notes 0 b w) h
   from_alike (suc k) a b v w h = go (slice_get notes.asserts k) v w

@@ -1,12 +1,11 @@
 -- Rules that are judged by the units of a program alone.
-use Rattle.std.proofs.Common.{◌≡◌, ℕ, zero, suc, List, [], ◌∷◌, Some, slice_get, refl, sym, ap, ◌∙◌, subst}
+use Rattle.std.proofs.Common.{◌≡◌, ℕ, zero, suc, List, subst}
 use Rattle.fort_syntax.specs.declared.rule.Rule.{Rule}
 use Rattle.fort_syntax.specs.declared.rule.Rule.TheVariants.{UnitTwice, UnknownUnit, Recursion, BadArguments, BlockMissing}
 use Rattle.fort_syntax.specs.declared.unit.Unit.{Unit as Routine}
-use Rattle.fort_model.specs.Calls.{Reaches}
 use Rattle.fort_model.specs.Lists.{IsAmong}
 use Rattle.fort_model.specs.Program.{Program}
-use Rattle.fort_model.specs.Rules.{CallsItself, Breaks, IsBroken}
+use Rattle.fort_model.specs.Rules.{Breaks, IsBroken}
 use Rattle.fort_model.specs.Stages.{rules_of_calls}
 use Rattle.fort_laws.specs.Judged.{CallsAreJudgedByUnits}
 

@@ -32,7 +32,7 @@ decks_are_correct dialect deck p well units keeps table fitting list exact valid
   where
     ready : (i : ℕ) (u : Routine) → slice_get p.units i ≡ Some u → IsReady p i u
     ready i u is =
-        let w : IsWellFormedUnit dialect u = well_at dialect p.units i u (subst (AreWellFormedUnits dialect) units well.0) is in
+        let w : IsWellFormedUnit dialect u = well_at dialect p.units i u (subst (AreWellFormedUnits dialect) units well.units) is in
         record {
           names = names_are_held dialect u w;
           blocks = blocks_hold_commons dialect u w;

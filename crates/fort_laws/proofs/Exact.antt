@@ -5,7 +5,7 @@ use Rattle.std.specs.List.{list_all}
 use Rattle.fort_syntax.specs.Conditions.{ConditionTree}
 use Rattle.formula.specs.declared.value.Value.{Value}
 use Rattle.formula.specs.Substitution.{substituted, row_substituted}
-use Rattle.formula.specs.Tree.{Tree, num, truth, symbol, old, apply, Row, none, more, row_of}
+use Rattle.formula.specs.Tree.{Tree, num, truth, symbol, old, apply, Row, none, more, tree_row}
 use Rattle.formula.specs.Values.{holds, applied}
 use Rattle.formula.specs.Worth.{Function, Valuation, used, worth, worth_by, worths_by, function_worth, nothing_known, is_true_under}
 use Rattle.fort_syntax.specs.declared.name.Name.{Name}
@@ -27,12 +27,12 @@ module _ (fs : List Function) (words : Valuation) where
   abbrev Worth : Tree → Value → Type 0
   Worth t v = worth fs words nothing_known t ≡ v
 
-  worths_row : (ts : List Tree) (vs : List Value) → Pairwise Worth ts vs → worths_by (used fs) words nothing_known (row_of ts) ≡ vs
+  worths_row : (ts : List Tree) (vs : List Value) → Pairwise Worth ts vs → worths_by (used fs) words nothing_known (tree_row ts) ≡ vs
   worths_row [] [] h = refl
   worths_row [] (v ∷ vs) h = absurd h
   worths_row (t ∷ ts) [] h = absurd h
   worths_row (t ∷ ts) (v ∷ vs) h =
-      ap (λ (x : Value). x ∷ worths_by (used fs) words nothing_known (row_of ts)) h.0 ∙ ap (λ (xs : List Value). v ∷ xs) (worths_row ts vs h.1)
+      ap (λ (x : Value). x ∷ worths_by (used fs) words nothing_known (tree_row ts)) h.0 ∙ ap (λ (xs : List Value). v ∷ xs) (worths_row ts vs h.1)
 
   module _ (now : List ℕ → Tree) (now' : Valuation) (entry : List ℕ → Tree) (entry' : Valuation) (h : (w : List ℕ) → Worth (now w) (now' w)) (k : (w : List ℕ) → Worth (entry w) (entry' w)) where
     mutual

@@ -12,7 +12,8 @@ use Rattle.fort_syntax.specs.declared.name.Name.{Name}
 use Rattle.fort_syntax.specs.declared.unit.Role.{Role}
 use Rattle.fort_syntax.specs.declared.unit.Unit.{Unit as Routine}
 use Rattle.fort_model.specs.Correct.{bounds_of}
-use Rattle.fort_model.specs.Fitting.{names_pass, row_names_pass, may_name}
+use Rattle.formula.specs.TermTests.{names_pass, row_names_pass}
+use Rattle.fort_model.specs.Fitting.{may_name}
 use Rattle.fort_model.specs.Processor.{Processor}
 use Rattle.fort_model.specs.Seen.{Named}
 use Rattle.fort_model.specs.Senses.{of_values, note, with_bounds}

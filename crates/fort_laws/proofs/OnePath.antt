@@ -1,19 +1,12 @@
 -- The paths of a unit in order are one list.
-use Rattle.std.proofs.Common.{◌≡◌, ◌↔◌, ℕ, zero, suc, List, [], ◌∷◌, Option, Some, None, slice_get, refl, sym, ap, ◌∙◌, subst}
+use Rattle.std.proofs.Common.{◌≡◌, ℕ, zero, suc, List, [], ◌∷◌, Some, slice_get, refl, sym, ap, ◌∙◌, subst}
 use Rattle.std.specs.List.{concat}
-use Rattle.std.specs.Cmp.{IsTotalOrder}
-use Rattle.std.specs.Cmp.Lexicographic.{slice_cmp}
-use Rattle.std.specs.Ordering.{nat_cmp}
-use Rattle.std.specs.declared.cmp.Ordering.{Ordering}
-use Rattle.std.specs.declared.cmp.Ordering.TheVariants.{Less, Equal, Greater}
 use Rattle.std.proofs.lemmas.Cmp.{nat_list_cmp_total}
-use Rattle.fort_syntax.specs.declared.dialect.Dialect.{Dialect}
 use Rattle.fort_syntax.specs.declared.unit.Unit.{Unit as Routine}
-use Rattle.fort_model.specs.Conditions.{are_all_paths, AreAllPaths}
+use Rattle.fort_model.specs.Conditions.{are_all_paths}
 use Rattle.fort_model.specs.Lists.{IsAmong}
 use Rattle.fort_model.specs.OnePath.{PathsAreOne, AllPathsAreOne}
-use Rattle.fort_model.specs.Paths.{Path, IsPath, comes_before, ascend_from, Ascend, ArePathsInOrder}
-use Rattle.fort_notes.specs.Assertions.{Notes}
+use Rattle.fort_model.specs.Paths.{Path, comes_before, ascend_from, Ascend}
 use Rattle.fort_model.specs.Program.{Program, notes_of}
 
 -- ---- the order of paths

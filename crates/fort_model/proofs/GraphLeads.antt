@@ -1,5 +1,5 @@
 -- A graph says where choices lead.
-use Rattle.std.proofs.Common.{◌≡◌, ℕ, zero, suc, Bool, true, false, cond, List, [], ◌∷◌, ◌++◌, map, length, ◌+◌, Option, Some, None, slice_get, refl, sym, ap, ◌∙◌, subst, arith}
+use Rattle.std.proofs.Common.{◌≡◌, ℕ, zero, suc, Bool, false, cond, List, [], ◌∷◌, ◌++◌, map, length, ◌+◌, Option, Some, None, slice_get, refl, sym, ap, ◌∙◌, arith}
 use Rattle.std.specs.Prelude.{◌==◌}
 use Rattle.std.proofs.lemmas.Bool.Decides.{nat_tests}
 use Rattle.fort_syntax.specs.TreePatterns.{carried}
@@ -10,11 +10,10 @@ use Rattle.fort_syntax.specs.declared.stmt.Stmt.TheVariants.{Subroutine, Functio
 use Rattle.fort_syntax.specs.declared.unit.Line.{Line}
 use Rattle.fort_syntax.specs.declared.unit.Unit.{Unit as Routine}
 use Rattle.fort_model.specs.declared.graph.Fork.{Fork}
-use Rattle.fort_model.specs.declared.graph.Graph.{Graph}
 use Rattle.fort_model.specs.declared.graph.Target.{Target}
 use Rattle.fort_model.specs.declared.graph.Target.TheVariants.{Point, Fork as AtFork}
-use Rattle.fort_model.specs.Flow.{target, Loop, one_way, one_of, chosen, through, behind, passed_over, leads_do, leads_computed, leads, leads_by, leads_at, loops_at, loops_around, next_point, next_branch}
-use Rattle.fort_model.specs.Graphs.{taken, goes_to, follow, graph_leads, IsForkTo, AreTests, IsBehind, points_of_labels, IsDoTarget, IsComputedTarget, IsTargetOf, AreTargetsOf, IsGraphOf, GraphsLead}
+use Rattle.fort_model.specs.Flow.{target, Loop, one_way, one_of, through, behind, leads_do, leads_computed, leads, leads_by, loops_at, loops_around, next_point, next_branch}
+use Rattle.fort_model.specs.Graphs.{taken, goes_to, follow, IsForkTo, AreTests, IsBehind, IsDoTarget, IsComputedTarget, IsTargetOf, AreTargetsOf, GraphsLead}
 
 module _ (forks : List Fork) where
   -- ---- a choice at a fork

@@ -3,25 +3,13 @@ use Rattle.std.specs.Prelude.{◌≡◌, ◌<◌, ℕ, Bool, true, false, not, �
 use Rattle.std.specs.List.{list_all}
 use Rattle.fort_syntax.specs.Names.{data_name, is_own, has_role, is_local}
 use Rattle.formula.specs.Atoms.{same_bytes}
-use Rattle.formula.specs.Tree.{Tree, num, truth, symbol, old, apply, Row, none, more}
+use Rattle.formula.specs.TermTests.{names_pass}
+use Rattle.formula.specs.Tree.{Tree}
 use Rattle.fort_syntax.specs.declared.unit.Role.{Role}
 use Rattle.fort_syntax.specs.declared.unit.Unit.{Unit as Routine}
 use Rattle.fort_model.specs.Lists.{IsAmong}
 use Rattle.fort_notes.specs.Assertions.{Notes, Assertion}
 use Rattle.fort_model.specs.Program.{Program, assertion_at}
-
-abbrev mutual
-  -- each symbol of a term passes a test, and each name whose entry value stands in it another one
-  pub names_pass : (List ℕ → Bool) → (List ℕ → Bool) → Tree → Bool
-  names_pass now entry (num z) = true
-  names_pass now entry (truth b) = true
-  names_pass now entry (symbol x) = now x
-  names_pass now entry (old x) = entry x
-  names_pass now entry (apply f row) = row_names_pass now entry row
-
-  pub row_names_pass : (List ℕ → Bool) → (List ℕ → Bool) → Row → Bool
-  row_names_pass now entry none = true
-  row_names_pass now entry (more t rest) = names_pass now entry t && row_names_pass now entry rest
 
 -- the processor's bounds
 abbrev pub is_bound : List ℕ → Bool

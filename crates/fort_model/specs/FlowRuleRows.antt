@@ -66,13 +66,13 @@ LoopsKeepTheirNames =
     × (cards_alone DoSmashed Common locals (counts 4 10 M ∷ labelled 5 10 Continue ∷ line 6 Return ∷ []) ≡ 4 ∷ [])
     × (cards_alone DoSmashed Common locals (counts 4 10 I ∷ counts 5 10 I ∷ labelled 6 10 Continue ∷ line 7 Return ∷ []) ≡ 5 ∷ [])
 
--- a computed GO TO may end a unit only without 77
+-- a computed GO TO may end a unit only without 77; a unit without statements is at fault at its END
 abbrev pub UnitsEnd : Type 0
 UnitsEnd =
     (cards_alone FallsOffEnd Common locals (labelled 4 10 Continue ∷ line 5 (Computed (10 ∷ []) M) ∷ []) ≡ [])
     × (cards_alone FallsOffEnd SeventySeven locals (labelled 4 10 Continue ∷ line 5 (Computed (10 ∷ []) M) ∷ []) ≡ 5 ∷ [])
     × (cards_alone FallsOffEnd Common locals (line 4 Continue ∷ []) ≡ 4 ∷ [])
-    × (cards_alone FallsOffEnd Common locals [] ≡ 0 ∷ [])
+    × (cards_alone FallsOffEnd Common locals [] ≡ 1 ∷ [])
 
 -- ---- a round without an ASSERT
 

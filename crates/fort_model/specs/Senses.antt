@@ -10,7 +10,7 @@ use Rattle.formula.specs.declared.value.Value.{Value}
 use Rattle.formula.specs.declared.value.Value.TheVariants.{Int, Logical}
 use Rattle.formula.specs.Atoms.{same_bytes}
 use Rattle.formula.specs.Substitution.{substituted}
-use Rattle.formula.specs.Tree.{Tree, num, truth, symbol, apply, row_of}
+use Rattle.formula.specs.Tree.{Tree, num, truth, symbol, apply, tree_row}
 use Rattle.formula.specs.Values.{applied}
 use Rattle.formula.specs.Worth.{Function, Valuation, worth}
 use Rattle.fort_model.specs.Symbols.{Symbol, LeastInteger, GreatestInteger, word_of}
@@ -43,7 +43,7 @@ abbrev pub of_terms : Sense Tree
 of_terms = record {
   number = num;
   truth_value = truth;
-  make = λ g ts. apply (BuiltIn g) (row_of ts);
+  make = λ g ts. apply (BuiltIn g) (tree_row ts);
   told = substituted;
   named = λ s. symbol (word_of s);
 }

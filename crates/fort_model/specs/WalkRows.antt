@@ -5,7 +5,7 @@ use Rattle.fort_syntax.specs.SmallDecks.{I}
 use Rattle.formula.specs.declared.function.BuiltIn.{BuiltIn as Builtin}
 use Rattle.formula.specs.declared.function.BuiltIn.TheVariants as f
 use Rattle.formula.specs.declared.function.Func.TheVariants.{BuiltIn}
-use Rattle.formula.specs.Tree.{Tree, num, truth, symbol, old, apply, row_of}
+use Rattle.formula.specs.Tree.{Tree, num, truth, symbol, old, apply, tree_row}
 use Rattle.fort_syntax.specs.declared.condition.Kind.{Kind}
 use Rattle.fort_syntax.specs.declared.condition.Kind.TheVariants.{DefinedCheck, RangeCheck, OutputCheck}
 use Rattle.fort_syntax.specs.declared.dialect.Dialect.{Dialect}
@@ -21,7 +21,7 @@ use Rattle.fort_model.specs.Rows.{inc}
 -- ---- notes
 
 abbrev pub term : Builtin → List Tree → Tree
-term g ts = apply (BuiltIn g) (row_of ts)
+term g ts = apply (BuiltIn g) (tree_row ts)
 
 abbrev pub defined : Name → Tree
 defined x = term f.Defined (symbol x ∷ [])

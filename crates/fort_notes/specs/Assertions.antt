@@ -1,5 +1,5 @@
 -- What the notes of a unit say, with terms as trees.
-use Rattle.std.specs.Prelude.{ℕ, List, [], ◌∷◌, map}
+use Rattle.std.specs.Prelude.{ℕ, List, [], map}
 use Rattle.formula.specs.declared.node.Node.{Node}
 use Rattle.formula.specs.Pool.{tree_of}
 use Rattle.formula.specs.Tree.{Tree}

@@ -1,5 +1,6 @@
 // A set of blocks.
 ghost use Rattle.std.specs.Prelude.{◌≡◌, [], not, IfOk, OnOk};
+ghost use Rattle.formula.specs.Atoms.{is_among};
 ghost use Rattle.fort_syntax.specs.Units.{name_of_block};
 ghost use Rattle.name_tables.specs.Sets.{with_name};
 
@@ -18,7 +19,6 @@ pub struct BlockSet {
 
 impl Model for BlockSet {
     ghost use Rattle.std.specs.Prelude.{List, ℕ};
-ghost use Rattle.formula.specs.Atoms.{is_among};
 
     ghost Value = { List (List ℕ) };
 

@@ -1,5 +1,6 @@
 // Tables of blocks.
 ghost use Rattle.std.specs.Prelude.{◌≡◌, [], option_copied, IfOk, OnOk};
+ghost use Rattle.formula.specs.Atoms.{same_bytes};
 ghost use Rattle.indexmap.specs.IndexMap.{insert_entry};
 ghost use Rattle.fort_syntax.specs.Units.{name_of_block};
 ghost use Rattle.name_tables.specs.Tables.{first_of, told};
@@ -20,7 +21,6 @@ pub struct BlockTable<V> {
 impl<V> Model for BlockTable<V> {
     ghost use Rattle.std.specs.Prelude.{List, ℕ};
     ghost use Rattle.std.specs.Coded.{coded_list, coded×, coded_ℕ};
-ghost use Rattle.formula.specs.Atoms.{same_bytes};
 
     ghost Value = { List (List ℕ × V) };
 

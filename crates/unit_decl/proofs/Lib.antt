@@ -1,5 +1,3 @@
-pub mod UnitMade
-pub mod Passing
 pub mod NotePlaces
 pub mod EntriesRead
 pub mod WellFormedDecks

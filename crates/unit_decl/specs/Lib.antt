@@ -1,4 +1,2 @@
-pub mod UnitParts
-pub mod Walks
 pub mod Decks
 pub mod Readings

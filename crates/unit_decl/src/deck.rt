@@ -7,12 +7,12 @@ ghost use Rattle.fort_syntax.specs.declared.refusal.Refusal.TheVariants.{Broken}
 ghost use Rattle.unit_decl.specs.Decks.{IsDeckOf, IsFirstFault};
 
 use crate::reading::read;
-use crate::walk::units_or_fault;
 use edge_io::{Keys, List};
 use fort_syntax::{Deck, Dialect, Entry, Refusal};
 use name_tables::Setting;
 use std::alloc::Global;
 use std::hash::{DefaultHasher, Hasher};
+use unit_making::units_or_fault;
 
 /// The keys that the texts of a deck give.
 fn keys_of(cards: &[Entry]) -> Keys {

@@ -3,13 +3,8 @@
 
 mod deck;
 mod laws;
-mod making;
 mod reading;
 mod spot;
-mod unit_blocks;
-mod unit_names;
-mod unit_parts;
-mod walk;
 
 pub use deck::units;
 pub use laws::entries_make_deck_or_fault;

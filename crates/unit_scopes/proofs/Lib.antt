@@ -1,5 +1,5 @@
 pub mod Scopings
 pub mod Gathered
 pub mod Given
-pub mod BlockNames
+pub mod BlockMembers
 pub mod Listed

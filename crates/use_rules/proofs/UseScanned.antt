@@ -27,7 +27,7 @@ use Rattle.unit_uses.specs.declared.roles.Roles.{Roles}
 use Rattle.unit_uses.proofs.RoleFacts.{known_more, labels_swapped}
 use Rattle.use_rules.specs.declared.rules.Breaches.{Breaches}
 use Rattle.use_rules.specs.declared.usage.Usage.{Usage}
-use Rattle.use_rules.specs.UseScans.{nothing_used, bares_in, used_with, is_both, is_of_other_kind, is_bad_use, has_bad_use, first_rule, breaches, use_rule, use_scan}
+use Rattle.use_rules.specs.UseScans.{nothing_used, bares_in, used_with, is_both, is_of_other_kind, is_bad_use, has_bad_use, first_rule, breaches_of, use_rule, use_scan}
 
 or_false : (b : Bool) → (b || false) ≡ b
 or_false true = refl
@@ -192,7 +192,7 @@ scanned dialect earlier unit before (line ∷ lines) used u apart =
     (λ h.
     scanned dialect earlier unit (before ++ line ∷ []) lines after (used_more (scope_of unit) used before line u)
     (apart_more facts used (uses_of line.stmt) line.label apart
-    (no_bad_use (breaches dialect facts (is_empty before) used line) h))
+    (no_bad_use (breaches_of dialect facts (is_empty before) used line) h))
     ∙ ap (λ b. use_scan dialect facts b after lines) (not_empty before line))
 
 -- one pass over a unit finds its fault

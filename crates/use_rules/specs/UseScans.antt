@@ -65,8 +65,8 @@ first_rule b =
     (cond b.unset (Some BadResult) None))))
 
 -- which rules on uses a statement breaks, by what the ones before it have used
-abbrev pub breaches : Dialect → UseFacts → Bool → Usage → Line → Breaches
-breaches dialect facts first used line = record {
+abbrev pub breaches_of : Dialect → UseFacts → Bool → Usage → Line → Breaches
+breaches_of dialect facts first used line = record {
   misuse = has_bad_use facts (used_with facts.scope used (uses_of line.stmt) line.label) (uses_of line.stmt);
   subscript = wants_plain_subscripts dialect && not (all_plain_subscripts facts.scope line.stmt);
   twice = has_label_in used.labels line.label;
@@ -75,7 +75,7 @@ breaches dialect facts first used line = record {
 }
 
 abbrev pub use_rule : Dialect → UseFacts → Bool → Usage → Line → Option Rule
-use_rule dialect facts first used line = first_rule (breaches dialect facts first used line)
+use_rule dialect facts first used line = first_rule (breaches_of dialect facts first used line)
 
 -- the first fault of statements by these rules, behind others of their unit
 abbrev pub use_scan : Dialect → UseFacts → Bool → Usage → List Line → Option Fault

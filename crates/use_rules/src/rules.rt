@@ -11,7 +11,7 @@ ghost use Rattle.fort_syntax.specs.Uses.{uses_of};
 ghost use Rattle.unit_scopes.specs.Scoping.{scope_by};
 ghost use Rattle.unit_uses.specs.Roles.{is_data_in, use_facts_by};
 ghost use Rattle.unit_uses.specs.UseFacts.{use_facts_of};
-ghost use Rattle.use_rules.specs.UseScans.{nothing_used, is_of_other_kind, is_bad_use, has_bad_use, used_with, first_rule, breaches, use_scan};
+ghost use Rattle.use_rules.specs.UseScans.{nothing_used, is_of_other_kind, is_bad_use, has_bad_use, used_with, first_rule, breaches_of, use_scan};
 
 use crate::usage::{Usage, has_label_in, is_misused, lacks_label};
 use edge_io::NoMemory;
@@ -133,14 +133,14 @@ fn is_unset(roles: &Roles, first: bool) -> bool
 }
 
 /// Which rules on uses a statement breaks.
-fn breaches(
+fn breaches_of(
     setting: Setting,
     roles: &Roles,
     first: bool,
     used: &mut Usage,
     line: &Line,
 ) -> Result<Breaches, NoMemory>
-    ensures breaches { IfOk result (λ found. found ≡ breaches setting.dialect (use_facts_by roles.now) first used.old line.now) }
+    ensures found { IfOk result (λ found. found ≡ breaches_of setting.dialect (use_facts_by roles.now) first used.old line.now) }
     ensures used { OnOk result (used.new ≡ used_with (scope_by roles.now.scope) used.old (uses_of line.now.stmt) line.now.label) }
 {
     let twice = has_label_in(&used.labels, line.label);
@@ -164,7 +164,7 @@ fn scan(setting: Setting, roles: &Roles, unit: &[Line]) -> Result<Option<Fault>,
 {
     let mut used = Usage::new(setting);
     for i in 0..unit.len() {
-        let Ok(found) = breaches(setting, roles, i == 0, &mut used, &unit[i]) else {
+        let Ok(found) = breaches_of(setting, roles, i == 0, &mut used, &unit[i]) else {
             return Err(NoMemory);
         };
         if let Some(rule) = found.first() {

@@ -1,4 +1,4 @@
-use Rattle.std.proofs.Common.{◌≡◌, ℕ, zero, suc, ◌<◌, ◌≤◌, List, [], ◌∷◌, Option, Some, None, slice_get, refl, sym, ap, ◌∙◌, subst, arith}
+use Rattle.std.proofs.Common.{◌≡◌, ℕ, zero, suc, ◌<◌, List, [], ◌∷◌, Option, Some, slice_get, refl, sym, ap, ◌∙◌, subst, arith}
 use Rattle.std.specs.Prelude.{get_or}
 use Rattle.fort_syntax.specs.declared.dialect.Dialect.TheVariants.{Common}
 use Rattle.fort_syntax.specs.declared.unit.Line.{Line}
@@ -10,7 +10,7 @@ use Rattle.fort_model.specs.Flow.{leads_by, leads_at}
 use Rattle.fort_model.specs.GraphRows.{twice_graph}
 use Rattle.fort_model.specs.Graphs.{IsWithin}
 use Rattle.fort_model.specs.Lists.{IsAmong}
-use Rattle.fort_model.specs.Paths.{Cut, NoCut, AtEnd, AtAssert, cut_at, Edge}
+use Rattle.fort_model.specs.Paths.{NoCut, cut_at, Edge}
 use Rattle.fort_model.specs.Rows.{twice}
 use Rattle.fort_model.proofs.graph_rows.graph_of_twice.Goals as goal
 

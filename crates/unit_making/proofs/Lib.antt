@@ -1,0 +1,2 @@
+pub mod UnitMade
+pub mod Passing
