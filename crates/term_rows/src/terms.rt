@@ -1,8 +1,8 @@
 // The text of a term.
-use crate::prefix::put_word;
 use anyhow::{Result, bail};
 use formula::{Definitions, Func, Node, TermId, TermPool};
 use std::alloc::Global;
+use test_rows::put_word;
 
 /// The most pieces of a term.
 const ROUNDS: u32 = 1 << 20;

@@ -1,5 +1,5 @@
 // Definitions, values of symbols, terms, and what they are worth: one line each.
-ghost use Rattle.std.specs.Prelude.{IfOk};
+ghost use Rattle.std.specs.Prelude.{IfOk, OnOk};
 ghost use Rattle.formula.specs.Adding.{AreBodiesIn, IsBodyIn};
 ghost use Rattle.formula.specs.Pool.{Grows};
 
@@ -84,7 +84,7 @@ fn body(
 // Adds a definition of one term or two.
 fn define(alloc: Global, made: &mut Made, head: &[u8], terms: &[u8]) -> Result<String>
     requires { AreBodiesIn made.old.pool made.old.definitions }
-    ensures { AreBodiesIn made.new.pool made.new.definitions }
+    ensures { OnOk result (AreBodiesIn made.new.pool made.new.definitions) }
 {
     let Front { name, params } = read_front(alloc, head)?;
     let heading = Heading {
@@ -115,7 +115,7 @@ fn set(alloc: Global, sheet: &mut Sheet, symbol: &[u8], text: &[u8]) -> Result<S
 // The term that a text begins with, as it is written; and where it ends, if the text goes on.
 fn term(alloc: Global, made: &mut Made, text: &[u8]) -> Result<String>
     requires { AreBodiesIn made.old.pool made.old.definitions }
-    ensures { AreBodiesIn made.new.pool made.new.definitions }
+    ensures { OnOk result (AreBodiesIn made.new.pool made.new.definitions) }
 {
     match read_term(
         alloc,
@@ -139,7 +139,7 @@ fn term(alloc: Global, made: &mut Made, text: &[u8]) -> Result<String>
 // What a term is worth with so many turns.
 fn worth_text(alloc: Global, made: &mut Made, turns: u64, text: &[u8]) -> Result<String>
     requires { AreBodiesIn made.old.pool made.old.definitions }
-    ensures { AreBodiesIn made.new.pool made.new.definitions }
+    ensures { OnOk result (AreBodiesIn made.new.pool made.new.definitions) }
 {
     match read_term(
         alloc,
@@ -162,7 +162,7 @@ fn worth_text(alloc: Global, made: &mut Made, turns: u64, text: &[u8]) -> Result
 // The answer to a line.
 fn answer(alloc: Global, made: &mut Made, line: &[u8]) -> Result<String>
     requires { AreBodiesIn made.old.pool made.old.definitions }
-    ensures { AreBodiesIn made.new.pool made.new.definitions }
+    ensures { OnOk result (AreBodiesIn made.new.pool made.new.definitions) }
 {
     let mut parts = line.split(|byte| *byte == b'=');
     let (Some([left @ .., b' ']), Some([b' ', right @ ..])) = (parts.next(), parts.next()) else {
