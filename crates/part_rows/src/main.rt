@@ -1,31 +1,24 @@
-//! The program `part_rows`: rows of the layers below the top call. The first word of a row says what is asked:
+//! The program `part_rows`: rows of cards and statements. The first word of a row says what is asked:
 //!
 //! - `statement 66` or `statement 77`: each line is a text without blanks. The answer is the statement that it spells, in
 //!   prefix form, and behind it, where the statement is written by another text, that text; or the rule that it breaks.
 //! - `cards`: the text is a deck. The answer is its statements and notes, or its first fault of cards.
-//! - `terms`: each line is one of `DEFN name params = term`, with a second term where the definition counts;
-//!   `SET symbol = value`; `TERM = text`, which asks for the term; and `WORTH turns = text`, which asks what it is worth. The
-//!   answer has a line for each. A value is a number, `T`, `F`, `U` for undefined, or cells in brackets.
 #![tactic(auto)]
 
 mod entries;
 mod expressions;
 mod prefix;
 mod statements;
-mod terms;
 mod texts;
-mod values;
-mod worths;
 
 use crate::entries::put_entries;
 use crate::texts::put_statements;
-use crate::worths::put_answers;
 use anyhow::{Result, bail};
 use fort_syntax::Dialect;
 use std::alloc::Global;
 use test_rows::{Answer, Subject, try_rows};
 
-/// The layers below the top call.
+/// The readers of cards and of statements.
 struct Layers;
 
 // The dialect of a word.
@@ -45,7 +38,6 @@ fn put_answer(alloc: Global, text: &mut Vec<u8>, words: &[String], input: &[u8])
     match (call.as_bytes(), rest) {
         (b"statement", [word]) => put_statements(alloc, text, dialect(word)?, input),
         (b"cards", []) => put_entries(alloc, text, input),
-        (b"terms", []) => put_answers(alloc, text, input),
         _ => bail!("words that ask nothing"),
     }
 }

@@ -4,6 +4,7 @@ use crate::statements::put_stmt;
 use anyhow::{Result, bail};
 use fort_syntax::{Expr, Stmt};
 use std::alloc::{AllocError, Global};
+use test_rows::put_word;
 
 /// The most pieces of a statement.
 const ROUNDS: u32 = 1 << 20;
@@ -37,21 +38,6 @@ impl<'a> Pieces<'a> {
         self.put(Piece::Open)?;
         self.put(Piece::Word(word))
     }
-}
-
-// Puts a blank where something stands before, other than an opening bracket.
-fn put_blank(text: &mut Vec<u8>) -> Result<(), AllocError> {
-    match text.last() {
-        None | Some(b'(') | Some(b'\n') => {}
-        Some(_) => text.push(b' ')?,
-    }
-    Ok(())
-}
-
-/// Puts a word, and a blank before it where one is due.
-pub(crate) fn put_word(text: &mut Vec<u8>, word: &[u8]) -> Result<(), AllocError> {
-    put_blank(text)?;
-    text.extend_from_slice(word)
 }
 
 // Puts a piece that has no pieces of its own; the pieces of any other.

@@ -3,8 +3,8 @@ ghost use Rattle.std.specs.Prelude.{IfOk};
 ghost use Rattle.formula.specs.Adding.{IsBodyIn};
 ghost use Rattle.formula.specs.Pool.{Grows, IsIn};
 
-use edge_io::{List, NoMemory};
-use formula::{Body, BuiltIn, DefFault, Definitions, Func, TermId, TermPool, Word};
+use edge_io::{Keys, List, NoMemory};
+use formula::{Args, Body, BuiltIn, DefFault, Definitions, Func, TermId, TermPool, Word};
 use std::alloc::Global;
 use std::test::Fail;
 
@@ -49,10 +49,10 @@ fn used(alloc: Global, pool: &mut TermPool, k: usize, argument: TermId) -> Resul
     ensures is_in { IfOk result (λ id. IsIn pool.new id) }
     ensures grows { Grows pool.old pool.new }
 {
-    let Ok(args) = Vec::from_slice(alloc, &[argument]) else {
+    let Ok(args) = Args::new(alloc, &[argument]) else {
         return Err("no memory".into());
     };
-    let Ok(id) = pool.apply(Func::Defined(k), List::from_vec(args)) else {
+    let Ok(id) = pool.apply(Func::Defined(k), args) else {
         return Err("no memory".into());
     };
     Ok(id)
@@ -75,8 +75,8 @@ fn doubled(pool: &mut TermPool, first: TermId, times: u32) -> Result<TermId, Fai
 
 #[test]
 fn terms_that_were_made_are_judged(rt: HostRuntime) -> Result<(), Fail> {
-    let mut pool = TermPool::new(rt.alloc());
-    let mut definitions = Definitions::new(rt.alloc());
+    let mut pool = TermPool::new(rt.alloc(), Keys::new(1, 2));
+    let mut definitions = Definitions::new(rt.alloc(), Keys::new(1, 2));
     let k = pool.symbol(word(b"K")?).map_err(full)?;
     let none = used(rt.alloc(), &mut pool, 0, k)?;
     let own = used(rt.alloc(), &mut pool, 1, k)?;

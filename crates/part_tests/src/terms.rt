@@ -1,5 +1,5 @@
 // A term that is put for a symbol.
-use edge_io::NoMemory;
+use edge_io::{Keys, NoMemory};
 use formula::{Binding, TermPool, Word, substitute};
 use std::test::Fail;
 
@@ -9,7 +9,7 @@ fn full(_: NoMemory) -> Fail {
 
 #[test]
 fn symbols_give_way(rt: HostRuntime) -> Result<(), Fail> {
-    let mut pool = TermPool::new(rt.alloc());
+    let mut pool = TermPool::new(rt.alloc(), Keys::new(1, 2));
     let Some(name) = Word::new(b"X") else {
         return Err("no word".into());
     };

@@ -1,5 +1,5 @@
 // One text, and the pieces in which texts go out.
-use edge_io::{List, MemSink};
+use edge_io::{Keys, List, MemSink};
 use event_text::{Marks, WritingStack, write_events};
 use formula::{BuiltIn, Definitions, TermPool, Word};
 use fort_syntax::{Condition, Kind, Name};
@@ -8,16 +8,16 @@ use std::test::Fail;
 
 // Conditions: N and -4 have (ZLEQ N -4) as consequence.
 fn write(alloc: Global, sink: &mut MemSink, unit: Name, word: Word) -> Result<bool, Fail> {
-    let mut pool = TermPool::new(alloc);
+    let mut pool = TermPool::new(alloc, Keys::new(1, 2));
     let n = pool.symbol(word).map_err(|_| "no memory")?;
     let four = pool.number(-4).map_err(|_| "no memory")?;
-    if pool.count() <= n.place {
+    if pool.count() <= n.index() {
         return Err(Fail::from("not in the pool"));
     }
     let goal = pool
         .binary(BuiltIn::AtMost, n, four)
         .map_err(|_| "no memory")?;
-    if pool.count() <= n.place || pool.count() <= four.place {
+    if pool.count() <= n.index() || pool.count() <= four.index() {
         return Err(Fail::from("not in the pool"));
     }
     let mut conditions = Vec::new(alloc);
@@ -34,7 +34,7 @@ fn write(alloc: Global, sink: &mut MemSink, unit: Name, word: Word) -> Result<bo
         letters: List::from_vec(Vec::from_slice(alloc, b"-")?),
         asked: List::from_vec(Vec::from_slice(alloc, &[(b'G', 1)])?),
     };
-    let definitions = Definitions::new(alloc);
+    let definitions = Definitions::new(alloc, Keys::new(1, 2));
     let mut stack = WritingStack::new(alloc, &pool).map_err(|_| "no memory")?;
     Ok(write_events(
         sink,
@@ -73,8 +73,8 @@ fn provers(alloc: Global, count: usize) -> Result<List<(u8, u64)>, Fail> {
 fn written(alloc: Global, fails: &[u64]) -> Result<(bool, usize), Fail> {
     let asked = provers(alloc, 700)?;
     let mut sink = MemSink::new(alloc, 10_000, fails).map_err(|_| "no memory")?;
-    let pool = TermPool::new(alloc);
-    let definitions = Definitions::new(alloc);
+    let pool = TermPool::new(alloc, Keys::new(1, 2));
+    let definitions = Definitions::new(alloc, Keys::new(1, 2));
     let conditions = List::from_vec(Vec::new(alloc));
     let letters = List::from_vec(Vec::new(alloc));
     let mut stack = WritingStack::new(alloc, &pool).map_err(|_| "no memory")?;

@@ -12,6 +12,8 @@ mod report;
 mod row;
 mod rows;
 mod spelling;
+mod words;
 
 pub use row::{Answer, Row};
 pub use rows::{Subject, try_rows};
+pub use words::put_word;

@@ -1,8 +1,8 @@
 // The text of a term.
-use crate::prefix::put_word;
 use anyhow::{Result, bail};
 use formula::{Definitions, Func, Node, TermId, TermPool};
 use std::alloc::Global;
+use test_rows::put_word;
 
 /// The most pieces of a term.
 const ROUNDS: u32 = 1 << 20;
@@ -65,7 +65,7 @@ pub(crate) fn term_text(
             return Ok(String::from_utf8(text)?);
         };
         match next {
-            Some(id) if id.place < pool.count() => {
+            Some(id) if id.index() < pool.count() => {
                 put_node(alloc, &mut text, definitions, pool.node(id), &mut stack)?;
             }
             Some(_) => bail!("no such term"),

@@ -1,10 +1,10 @@
 // Values: a number, `T`, `F`, `U` for undefined, or cells in brackets.
-use crate::prefix::put_word;
 use anyhow::{Result, bail};
 use edge_io::List;
 use formula::{Cell, Value};
 use std::alloc::Global;
 use std::str;
+use test_rows::put_word;
 
 // The cell that a word is.
 fn cell(word: &[u8]) -> Result<Cell> {

@@ -1,15 +1,19 @@
 // Definitions, values of symbols, terms, and what they are worth: one line each.
-ghost use Rattle.std.specs.Prelude.{IfOk};
+ghost use Rattle.std.specs.Prelude.{IfOk, OnOk};
 ghost use Rattle.formula.specs.Adding.{AreBodiesIn, IsBodyIn};
 ghost use Rattle.formula.specs.Pool.{Grows};
 
 use crate::terms::term_text;
 use crate::values::{value, value_text};
 use anyhow::{Result, bail};
-use edge_io::List;
-use formula::{Body, Definitions, Heading, ReadFault, Sheet, TermPool, Word, read_term, worth};
+use edge_io::{Keys, List};
+use formula::{Body, Definitions, Heading, ReadFault, TermPool, Word, read_term};
 use std::alloc::Global;
 use std::str;
+use term_worth::{Sheet, worth};
+
+/// The most brackets that may be open at once.
+const LIMIT: Option<usize> = Some(64);
 
 /// What the lines up to now made.
 #[derive(Drop)]
@@ -26,18 +30,22 @@ fn word(bytes: &[u8]) -> Result<Word> {
     }
 }
 
-// The heading of a definition: its name and its parameters, with a blank between two of them.
-fn heading(alloc: Global, head: &[u8]) -> Result<Heading> {
-    let mut words = head.split(|byte| *byte == b' ');
+// What stands before the `=` of a definition.
+#[derive(Drop)]
+struct Front {
+    name: Word,
+    params: Vec<Word>,
+}
+
+// The name and the parameters of a definition, with a blank between two of them.
+fn read_front(alloc: Global, text: &[u8]) -> Result<Front> {
+    let mut words = text.split(|byte| *byte == b' ');
     let name = word(words.next().unwrap_or(b""))?;
     let mut params = Vec::new(alloc);
     for param in words {
         params.push(word(param)?)?;
     }
-    Ok(Heading {
-        name,
-        params: List::from_vec(params),
-    })
+    Ok(Front { name, params })
 }
 
 // The body of one term, or of two.
@@ -51,26 +59,46 @@ fn body(
     ensures body { IfOk result (λ b. IsBodyIn pool.new b) }
     ensures grows { Grows pool.old pool.new }
 {
-    let (first, end) = read_term(alloc, pool, definitions, Some(heading), text)?;
+    let (first, end) = read_term(
+        alloc,
+        pool,
+        definitions.headings(),
+        Some(heading),
+        LIMIT,
+        text,
+    )?;
     if end == text.len() {
         return Ok(Body::Plain(first));
     }
-    let (second, _) = read_term(alloc, pool, definitions, Some(heading), &text[end..])?;
+    let (second, _) = read_term(
+        alloc,
+        pool,
+        definitions.headings(),
+        Some(heading),
+        LIMIT,
+        &text[end..],
+    )?;
     Ok(Body::Counting(first, second))
 }
 
 // Adds a definition of one term or two.
 fn define(alloc: Global, made: &mut Made, head: &[u8], terms: &[u8]) -> Result<String>
     requires { AreBodiesIn made.old.pool made.old.definitions }
-    ensures { AreBodiesIn made.new.pool made.new.definitions }
+    ensures { OnOk result (AreBodiesIn made.new.pool made.new.definitions) }
 {
-    let heading = heading(alloc, head)?;
+    let Front { name, params } = read_front(alloc, head)?;
+    let heading = Heading {
+        name,
+        count: params.len(),
+    };
     let body = match body(alloc, &mut made.pool, &made.definitions, &heading, terms) {
         Ok(body) => body,
         Err(fault) => return Ok(format!(in alloc; "{fault}")?),
     };
-    let Heading { name, params } = heading;
-    match made.definitions.add(&made.pool, name, params, body) {
+    match made
+        .definitions
+        .add(&made.pool, name, List::from_vec(params), body)
+    {
         Ok(()) => Ok(String::from_str(alloc, "added")?),
         Err(fault) => Ok(format!(in alloc; "{fault}")?),
     }
@@ -87,9 +115,16 @@ fn set(alloc: Global, sheet: &mut Sheet, symbol: &[u8], text: &[u8]) -> Result<S
 // The term that a text begins with, as it is written; and where it ends, if the text goes on.
 fn term(alloc: Global, made: &mut Made, text: &[u8]) -> Result<String>
     requires { AreBodiesIn made.old.pool made.old.definitions }
-    ensures { AreBodiesIn made.new.pool made.new.definitions }
+    ensures { OnOk result (AreBodiesIn made.new.pool made.new.definitions) }
 {
-    match read_term(alloc, &mut made.pool, &made.definitions, None, text) {
+    match read_term(
+        alloc,
+        &mut made.pool,
+        made.definitions.headings(),
+        None,
+        LIMIT,
+        text,
+    ) {
         Ok((id, end)) => {
             let written = term_text(alloc, &made.pool, &made.definitions, id)?;
             if end == text.len() {
@@ -104,9 +139,16 @@ fn term(alloc: Global, made: &mut Made, text: &[u8]) -> Result<String>
 // What a term is worth with so many turns.
 fn worth_text(alloc: Global, made: &mut Made, turns: u64, text: &[u8]) -> Result<String>
     requires { AreBodiesIn made.old.pool made.old.definitions }
-    ensures { AreBodiesIn made.new.pool made.new.definitions }
+    ensures { OnOk result (AreBodiesIn made.new.pool made.new.definitions) }
 {
-    match read_term(alloc, &mut made.pool, &made.definitions, None, text) {
+    match read_term(
+        alloc,
+        &mut made.pool,
+        made.definitions.headings(),
+        None,
+        LIMIT,
+        text,
+    ) {
         Ok((id, _)) => {
             match worth(alloc, &made.pool, &made.definitions, id, &made.sheet, turns) {
                 Ok(value) => value_text(alloc, &value),
@@ -120,7 +162,7 @@ fn worth_text(alloc: Global, made: &mut Made, turns: u64, text: &[u8]) -> Result
 // The answer to a line.
 fn answer(alloc: Global, made: &mut Made, line: &[u8]) -> Result<String>
     requires { AreBodiesIn made.old.pool made.old.definitions }
-    ensures { AreBodiesIn made.new.pool made.new.definitions }
+    ensures { OnOk result (AreBodiesIn made.new.pool made.new.definitions) }
 {
     let mut parts = line.split(|byte| *byte == b'=');
     let (Some([left @ .., b' ']), Some([b' ', right @ ..])) = (parts.next(), parts.next()) else {
@@ -140,10 +182,11 @@ fn answer(alloc: Global, made: &mut Made, line: &[u8]) -> Result<String>
 
 /// Puts the answers to lines, one behind the other.
 pub(crate) fn put_answers(alloc: Global, text: &mut Vec<u8>, input: &[u8]) -> Result<()> {
+    let keys = Keys::of(input);
     let mut made = Made {
-        pool: TermPool::new(alloc),
-        definitions: Definitions::new(alloc),
-        sheet: Sheet::new(alloc),
+        pool: TermPool::new(alloc, keys),
+        definitions: Definitions::new(alloc, keys),
+        sheet: Sheet::new(alloc, keys),
     };
     let lines = input.strip_suffix(b"\n").unwrap_or(input);
     for line in lines.split(|byte| *byte == b'\n') {
