@@ -7,7 +7,7 @@ use Rattle.fort_syntax.specs.Grammar.{is_carried}
 use Rattle.formula.specs.Atoms.{same_bytes, is_among, has_twin, is_name}
 use Rattle.fort_syntax.specs.Names.{data_name, dims_of, sort_or}
 use Rattle.fort_syntax.specs.TreePatterns.{carried}
-use Rattle.fort_syntax.specs.Scopes.{Scope, same_option, same_dims, do_meet, is_array, is_intrinsic, is_intrinsic_name, is_integer_scalar}
+use Rattle.fort_syntax.specs.Scopes.{Scope, same_option, same_dims, do_meet, is_array, is_intrinsic_name, is_integer_scalar}
 use Rattle.fort_syntax.specs.Uses.{Use, read, assigned, assigned_element, counted, applied, argument_of, actual, called, uses_of, all_parts, used_labels}
 use Rattle.fort_syntax.specs.Units.{class_of, is_performing, gathered, name_of_block, names_of_items, names_in_dims}
 use Rattle.fort_syntax.specs.OrderRules.{is_bad_block}
