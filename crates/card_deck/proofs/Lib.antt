@@ -1,3 +1,4 @@
+pub mod Blanks
 pub mod Filled
 pub mod Last
 pub mod LeastFault

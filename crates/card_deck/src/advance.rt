@@ -7,7 +7,7 @@ ghost use Rattle.fort_syntax.specs.declared.refusal.Fault.{Fault};
 ghost use Rattle.card_deck.specs.Held.{finished, before_of, count_of};
 
 use crate::begin::{longer_note, longer_statement, note, statement};
-use crate::columns::{columns, is_plus, kind, without_return};
+use crate::columns::{begins_blank, columns, is_plus, kind, without_return};
 use crate::held::{Held, finish};
 use crate::rules::broken_by;
 use edge_io::NoMemory;
@@ -62,7 +62,7 @@ fn go_on(
     }
 }
 
-/// What is held behind a card of these bytes, if it breaks no rule.
+/// What is held behind a card of these bytes, if it breaks no rule. A card of blanks is not looked at column by column.
 pub(crate) fn take(
     alloc: Global,
     number: u32,
@@ -77,7 +77,14 @@ pub(crate) fn take(
     ensures fits { IfOk result (λ h. count_of h ≤ 19) }
     ensures broken { let card = columns (without_return bytes.now) in (f : Fault) → result ≡ Err (Refusal.Broken f) → (broken_by (before_of held) card ≡ Some f.rule) × (f.card ≡ number) }
 {
-    let card = columns(without_return(bytes));
+    let bytes = without_return(bytes);
+    if begins_blank(bytes) {
+        let Ok(held) = comment(held, done) else {
+            return Err(Refusal::NoMemory);
+        };
+        return Ok(held);
+    }
+    let card = columns(bytes);
     match broken_by(&held, &card) {
         Some(rule) => Err(Refusal::Broken(Fault { rule, card: number })),
         None => {

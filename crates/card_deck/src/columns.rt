@@ -1,5 +1,5 @@
 // The columns of cards.
-ghost use Rattle.std.specs.Prelude.{◌≡◌, length};
+ghost use Rattle.std.specs.Prelude.{◌≡◌, length, take};
 ghost use Rattle.std.specs.List.{list_all};
 ghost use Rattle.fort_syntax.specs.Cards.{columns, without_return, is_c, is_blank, is_plus, kind_of};
 
@@ -43,6 +43,17 @@ pub(crate) fn are_blank(bytes: &[u8]) -> bool
         }
     }
     true
+}
+
+/// Whether a card of these bytes has nothing but blanks in columns 1 to 72.
+#[tactic(auto, using(crate::proofs::Blanks::short_take))]
+pub(crate) fn begins_blank(bytes: &[u8]) -> bool
+    ensures { result ≡ list_all is_blank (take 72 bytes.now) }
+{
+    if bytes.len() < 72 {
+        return are_blank(bytes);
+    }
+    are_blank(&bytes[..72])
 }
 
 /// Whether a note card continues a note.
