@@ -198,11 +198,7 @@ fn scan(setting: Setting, roles: &Roles, unit: &[Line]) -> Result<Option<Fault>,
 
 /// The first fault of a unit by the rules on uses, by its tables.
 #[tactic(auto, using(crate::proofs::UseScanned::uses_found))]
-pub fn use_fault(
-    setting: Setting,
-    roles: &Roles,
-    unit: &[Line],
-) -> Result<Option<Fault>, NoMemory>
+pub fn use_fault(setting: Setting, roles: &Roles, unit: &[Line]) -> Result<Option<Fault>, NoMemory>
     requires { use_facts_by roles.now ≡ use_facts_of unit.now }
     ensures { IfOk result (λ fault. (earlier : List Segment) → fault ≡ fault_in_stage use_rules (places_in setting.dialect earlier unit.now [] unit.now)) }
 {
