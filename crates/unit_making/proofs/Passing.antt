@@ -115,11 +115,11 @@ order_broken dialect lines rest behind unit earlier found units fault some split
     let us = h.passed in
     let later = λ (ps : List Segment). fault_in_stages (block_rules ∷ name_rules ∷ use_rules ∷ type_rules ∷ []) (places dialect ps) in
     sym (
-      some_lines dialect lines some
-      ∙ ap (λ ps. fault_in_stages stages (places dialect ps)) (h.whole ∙ ap (λ more. us ++ more) split)
-      ∙ ap (λ f. fault_before f (later (us ++ unit ∷ segments behind)))
-      (stage_with order_rules dialect us unit (segments behind)
-      ∙ (λ i. fault_before (h.order i) (fault_before (sym (broken us) i) (fault_in_stage order_rules (places_from dialect (us ++ unit ∷ []) (segments behind))))))
+    some_lines dialect lines some
+    ∙ ap (λ ps. fault_in_stages stages (places dialect ps)) (h.whole ∙ ap (λ more. us ++ more) split)
+    ∙ ap (λ f. fault_before f (later (us ++ unit ∷ segments behind)))
+    (stage_with order_rules dialect us unit (segments behind)
+    ∙ (λ i. fault_before (h.order i) (fault_before (sym (broken us) i) (fault_in_stage order_rules (places_from dialect (us ++ unit ∷ []) (segments behind))))))
     )
 
 -- behind the last unit
@@ -128,9 +128,9 @@ pub all_passed : (dialect : Dialect) (lines rest : List Line) (earlier : List (N
 all_passed dialect lines rest earlier found units some none h =
     let us = h.passed in
     sym (
-      some_lines dialect lines some
-      ∙ ap (λ ps. fault_in_stages stages (places dialect ps)) (h.whole ∙ ap (λ r. us ++ segments r) none ∙ append-nil us)
-      ∙ (λ i. fault_before (h.order i) (fault_before (h.blocks i) (fault_before (h.names i) (fault_before (h.uses i) (before_none (h.types i) i)))))
+    some_lines dialect lines some
+    ∙ ap (λ ps. fault_in_stages stages (places dialect ps)) (h.whole ∙ ap (λ r. us ++ segments r) none ∙ append-nil us)
+    ∙ (λ i. fault_before (h.order i) (fault_before (h.blocks i) (fault_before (h.names i) (fault_before (h.uses i) (before_none (h.types i) i)))))
     )
 
 pub all_made : (dialect : Dialect) (lines rest : List Line) (earlier : List (Name × List Member)) (found : Findings) (units : List Routine)

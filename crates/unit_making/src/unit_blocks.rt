@@ -108,12 +108,7 @@ pub(crate) fn unit_groups(
     let Ok(blocks) = blocks_of(setting, unit) else {
         return Err(NoMemory);
     };
-    let Ok(groups) = groups_of(
-        setting.alloc,
-        &roles.scope,
-        &roles.blocks,
-        blocks.blocks(),
-    ) else {
+    let Ok(groups) = groups_of(setting.alloc, &roles.scope, &roles.blocks, blocks.blocks()) else {
         return Err(NoMemory);
     };
     Ok(groups)

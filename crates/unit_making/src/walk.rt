@@ -19,7 +19,7 @@ use unit_uses::roles_of;
 use use_rules::use_fault;
 
 /// The first faults of units in the stages behind the first: on block IFs, on declarations, on uses, on types.
-#[derive(Clone, Copy, Debug, PartialEq, Eq, Hash)]
+#[derive(Clone, Copy)]
 pub(crate) struct Findings {
     pub(crate) blocks: Option<Fault>,
     pub(crate) names: Option<Fault>,

@@ -102,7 +102,11 @@ fn types_of(setting: Setting, unit: &[Line]) -> Result<NameTable<Sort>, NoMemory
 }
 
 /// Tells a table the dimensions that items have.
-fn tell_shapes(alloc: Global, table: &mut NameTable<List<Dim>>, items: &[Item]) -> Result<(), NoMemory>
+fn tell_shapes(
+    alloc: Global,
+    table: &mut NameTable<List<Dim>>,
+    items: &[Item],
+) -> Result<(), NoMemory>
     ensures { OnOk result (table.new ≡ shaped table.old items.now) }
 {
     for item in items {

@@ -24,11 +24,7 @@ pub fn is_reference(scope: &Scoped, seen: &Seen) -> bool
 }
 
 /// The names that are used as functions.
-pub fn references_in(
-    alloc: Global,
-    scope: &Scoped,
-    uses: &[Seen],
-) -> Result<List<Name>, NoMemory>
+pub fn references_in(alloc: Global, scope: &Scoped, uses: &[Seen]) -> Result<List<Name>, NoMemory>
     ensures { IfOk result (λ names. names ≡ references_in (scope_by scope.now) uses.now) }
 {
     let mut all = Vec::new(alloc);

@@ -2,7 +2,8 @@
 ghost use Rattle.std.specs.Prelude.{◌≡◌, ◌&&◌, [], IfOk};
 ghost use Rattle.formula.specs.Atoms.{same_bytes};
 ghost use Rattle.fort_syntax.specs.Scopes.{once};
-ghost use Rattle.fort_syntax.specs.Units.{gathered, names_in, own_name, references_in, references_of, scope_of};
+ghost use Rattle.fort_syntax.specs.NameRules.{commons_by};
+ghost use Rattle.fort_syntax.specs.Units.{gathered, dummies_by, names_in, own_name, references_in, references_of, scope_of};
 ghost use Rattle.fort_syntax.specs.Uses.{uses_of};
 ghost use Rattle.fort_syntax.specs.UseRules.{is_assigned, assigns};
 ghost use Rattle.unit_scopes.specs.Blocks.{tabled};
@@ -162,6 +163,41 @@ fn assigned_in(alloc: Global, own: &Name, unit: &[Line]) -> Result<bool, NoMemor
     Ok(false)
 }
 
+/// The dummies, the COMMON entities, all names, and the names that are used as functions.
+#[derive(Drop)]
+struct NameSets {
+    dummies: NameSet,
+    commons: NameSet,
+    names: NameSet,
+    references: NameSet,
+}
+
+fn sets_of(setting: Setting, scope: &Scoped, unit: &[Line]) -> Result<NameSets, NoMemory>
+    ensures dummies { IfOk result (λ sets. sets.dummies ≡ given_from dummies_by [] unit.now) }
+    ensures commons { IfOk result (λ sets. sets.commons ≡ given_from commons_by [] unit.now) }
+    ensures names { IfOk result (λ sets. sets.names ≡ given_from names_in [] unit.now) }
+    ensures references { IfOk result (λ sets. sets.references ≡ given_from (λ s. references_in (scope_by scope.now) (uses_of s)) [] unit.now) }
+{
+    let Ok(dummies) = dummies_of(setting, unit) else {
+        return Err(NoMemory);
+    };
+    let Ok(commons) = common_names_of(setting, unit) else {
+        return Err(NoMemory);
+    };
+    let Ok(names) = names_of(setting, unit) else {
+        return Err(NoMemory);
+    };
+    let Ok(references) = references_of(setting, scope, unit) else {
+        return Err(NoMemory);
+    };
+    Ok(NameSets {
+        dummies,
+        commons,
+        names,
+        references,
+    })
+}
+
 /// What names and labels of a unit with this own name are.
 pub fn roles_of(setting: Setting, own: Name, unit: &[Line]) -> Result<Roles, NoMemory>
     requires { own ≡ own_name unit.now }
@@ -177,16 +213,7 @@ pub fn roles_of(setting: Setting, own: Name, unit: &[Line]) -> Result<Roles, NoM
     let Ok(blocks) = block_names_of(setting, unit) else {
         return Err(NoMemory);
     };
-    let Ok(dummies) = dummies_of(setting, unit) else {
-        return Err(NoMemory);
-    };
-    let Ok(commons) = common_names_of(setting, unit) else {
-        return Err(NoMemory);
-    };
-    let Ok(names) = names_of(setting, unit) else {
-        return Err(NoMemory);
-    };
-    let Ok(references) = references_of(setting, &scope, unit) else {
+    let Ok(sets) = sets_of(setting, &scope, unit) else {
         return Err(NoMemory);
     };
     let Ok(lines) = lines_of(setting, unit) else {
@@ -196,6 +223,12 @@ pub fn roles_of(setting: Setting, own: Name, unit: &[Line]) -> Result<Roles, NoM
         return Err(NoMemory);
     };
     let function = is_function(unit);
+    let NameSets {
+        dummies,
+        commons,
+        names,
+        references,
+    } = sets;
     Ok(Roles {
         own,
         function,

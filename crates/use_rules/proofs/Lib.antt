@@ -1,2 +1,3 @@
 pub mod UseScanned
+pub mod UseSteps
 pub mod CarriedLabels

@@ -11,7 +11,7 @@ ghost use Rattle.fort_syntax.specs.Uses.{uses_of};
 ghost use Rattle.unit_scopes.specs.Scoping.{scope_by};
 ghost use Rattle.unit_uses.specs.Roles.{is_data_in, use_facts_by};
 ghost use Rattle.unit_uses.specs.UseFacts.{use_facts_of};
-ghost use Rattle.use_rules.specs.UseScans.{nothing_used, is_of_other_kind, is_bad_use, has_bad_use, used_with, first_rule, breaches_of, use_scan};
+ghost use Rattle.use_rules.specs.UseScans.{nothing_used, is_of_other_kind, is_bad_use, has_bad_use, used_with, first_rule, breaches_of, use_rule, use_scan};
 
 use crate::usage::{Usage, has_label_in, is_misused, lacks_label};
 use edge_io::NoMemory;
@@ -24,7 +24,7 @@ use unit_uses::{Roles, Seen, is_reference, uses_of};
 
 /// Which rules on uses a statement breaks: a name is misused, a subscript has no plain form, its label stands
 /// twice, a label that it names is missing, the value of the FUNCTION is not set.
-#[derive(Clone, Copy, Debug, PartialEq, Eq, Hash)]
+#[derive(Clone, Copy)]
 pub(crate) struct Breaches {
     pub(crate) misuse: bool,
     pub(crate) subscript: bool,
@@ -159,31 +159,46 @@ fn breaches_of(
     })
 }
 
+/// The first of the rules on uses that a statement breaks.
+fn use_rule(
+    setting: Setting,
+    roles: &Roles,
+    first: bool,
+    used: &mut Usage,
+    line: &Line,
+) -> Result<Option<Rule>, NoMemory>
+    ensures rule { IfOk result (λ rule. rule ≡ use_rule setting.dialect (use_facts_by roles.now) first used.old line.now) }
+    ensures used { OnOk result (used.new ≡ used_with (use_facts_by roles.now).scope used.old (uses_of line.now.stmt) line.now.label) }
+{
+    let Ok(found) = breaches_of(setting, roles, first, used, line) else {
+        return Err(NoMemory);
+    };
+    Ok(found.first())
+}
+
 fn scan(setting: Setting, roles: &Roles, unit: &[Line]) -> Result<Option<Fault>, NoMemory>
     ensures { IfOk result (λ fault. fault ≡ use_scan setting.dialect (use_facts_by roles.now) true nothing_used unit.now) }
 {
     let mut used = Usage::new(setting);
-    for i in 0..unit.len() {
-        let Ok(found) = breaches_of(setting, roles, i == 0, &mut used, &unit[i]) else {
+    let mut first = true;
+    for line in unit {
+        let Ok(rule) = use_rule(setting, roles, first, &mut used, line) else {
             return Err(NoMemory);
         };
-        if let Some(rule) = found.first() {
+        if let Some(rule) = rule {
             return Ok(Some(Fault {
                 rule,
-                card: unit[i].card,
+                card: line.card,
             }));
         }
+        first = false;
     }
     Ok(None)
 }
 
 /// The first fault of a unit by the rules on uses, by its tables.
 #[tactic(auto, using(crate::proofs::UseScanned::uses_found))]
-pub fn use_fault(
-    setting: Setting,
-    roles: &Roles,
-    unit: &[Line],
-) -> Result<Option<Fault>, NoMemory>
+pub fn use_fault(setting: Setting, roles: &Roles, unit: &[Line]) -> Result<Option<Fault>, NoMemory>
     requires { use_facts_by roles.now ≡ use_facts_of unit.now }
     ensures { IfOk result (λ fault. (earlier : List Segment) → fault ≡ fault_in_stage use_rules (places_in setting.dialect earlier unit.now [] unit.now)) }
 {
