@@ -33,8 +33,3 @@ IsFirstFault d entries fault =
 abbrev pub IsDeckOf : Dialect → List Entry → Deck → Type 0
 IsDeckOf d entries deck =
     (pieces : List Piece) × AreReadAs d entries pieces × (unit_fault d pieces ≡ None) × (deck ≡ deck_of pieces)
-
--- entries make a deck or have a first fault, and not both
-pub record MakeDeckOrFault : Type 0 where
-  pub either : (d : Dialect) (entries : List Entry) → ((deck : Deck) × IsDeckOf d entries deck) ⊎ ((fault : Fault) × IsFirstFault d entries fault)
-  pub apart : (d : Dialect) (entries : List Entry) (deck : Deck) (fault : Fault) → IsDeckOf d entries deck → ¬ IsFirstFault d entries fault

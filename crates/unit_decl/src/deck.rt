@@ -6,44 +6,36 @@ ghost use Rattle.fort_syntax.specs.declared.refusal.Fault.{Fault};
 ghost use Rattle.fort_syntax.specs.declared.refusal.Refusal.TheVariants.{Broken};
 ghost use Rattle.unit_decl.specs.Decks.{IsDeckOf, IsFirstFault};
 
+use crate::deck_faults::first_fault;
+use crate::deck_units::units_of;
 use crate::reading::read;
-use edge_io::{Keys, List};
+use edge_io::List;
 use fort_syntax::{Deck, Dialect, Entry, Refusal};
-use name_tables::Setting;
 use std::alloc::Global;
-use std::hash::{DefaultHasher, Hasher};
-use unit_making::units_or_fault;
 
-/// The keys that the texts of a deck give.
-fn keys_of(cards: &[Entry]) -> Keys {
-    let mut state = DefaultHasher::new();
-    for entry in cards {
-        match entry {
-            Entry::Statement { text, .. } => state.write(text.as_slice()),
-            Entry::Note { text, .. } => state.write(text.as_slice()),
-        }
-    }
-    let first = state.finish();
-    state.write_u8(255);
-    Keys::new(first, state.finish())
-}
-
-/// The deck, or the first fault.
-fn deck_or_fault(setting: Setting, cards: &[Entry]) -> Result<Deck, Refusal>
-    ensures deck { IfOk result (λ deck. IsDeckOf setting.dialect cards.now deck) }
-    ensures broken { (f : Fault) → result ≡ Err (Broken f) → IsFirstFault setting.dialect cards.now f }
+// The deck, or the first fault.
+#[tactic(auto, using(crate::proofs::EntriesRead::fault_found))]
+fn deck_or_fault(alloc: Global, dialect: Dialect, cards: &[Entry]) -> Result<Deck, Refusal>
+    ensures deck { IfOk result (λ deck. IsDeckOf dialect cards.now deck) }
+    ensures broken { (f : Fault) → result ≡ Err (Broken f) → IsFirstFault dialect cards.now f }
 {
-    let reading = match read(setting.alloc, setting.dialect, cards) {
+    let reading = match read(alloc, dialect, cards) {
         Ok(reading) => reading,
         Err(refusal) => return Err(refusal),
     };
-    match units_or_fault(setting, reading.lines.as_slice()) {
-        Ok(units) => Ok(Deck {
-            units,
-            notes: List::from_vec(reading.notes),
-        }),
-        Err(refusal) => Err(refusal),
+    let Ok(fault) = first_fault(alloc, dialect, reading.lines.as_slice()) else {
+        return Err(Refusal::NoMemory);
+    };
+    if let Some(fault) = fault {
+        return Err(Refusal::Broken(fault));
     }
+    let Ok(units) = units_of(alloc, reading.lines.as_slice()) else {
+        return Err(Refusal::NoMemory);
+    };
+    Ok(Deck {
+        units,
+        notes: List::from_vec(reading.notes),
+    })
 }
 
 /// The deck that statements and notes make, or their first fault. It is well formed where the cards
@@ -57,13 +49,5 @@ pub fn units(alloc: Global, dialect: Dialect, cards: &[Entry]) -> Result<Deck, R
     ensures well_formed { IfOk result (λ deck. entries_ascend_above 0 cards.now ≡ true → IsWellFormed dialect deck) }
     ensures broken { (f : Fault) → result ≡ Err (Broken f) → IsFirstFault dialect cards.now f }
 {
-    let keys = keys_of(cards);
-    deck_or_fault(
-        Setting {
-            alloc,
-            keys,
-            dialect,
-        },
-        cards,
-    )
+    deck_or_fault(alloc, dialect, cards)
 }

@@ -12,6 +12,7 @@ ghost use Rattle.unit_decl.specs.Decks.{IsMisspelled, IsFirstMisspelled};
 ghost use Rattle.unit_decl.specs.Readings.{HasRead, top, passed, placed_at};
 
 use crate::spot::Spot;
+use crate::unit_parts::push_whole;
 use edge_io::{List, NoMemory};
 use fort_syntax::{Dialect, Entry, Fault, Line, Placed, Plain, Refusal, Stmt};
 use std::alloc::Global;
@@ -34,16 +35,6 @@ fn spelled(alloc: Global, dialect: Dialect, card: u32, text: &[u8]) -> Result<St
         Ok(stmt) => Ok(stmt),
         Err(StmtRefusal::NoMemory) => Err(Refusal::NoMemory),
         Err(StmtRefusal::Breaks(rule)) => Err(Refusal::Broken(Fault { rule, card })),
-    }
-}
-
-/// Adds a statement behind some.
-fn push_whole(all: &mut Vec<Line>, line: Line) -> Result<(), NoMemory>
-    ensures { OnOk result (all.new.items ≡ all.old.items ++ line ∷ []) }
-{
-    match all.push(line) {
-        Ok(()) => Ok(()),
-        Err(_) => Err(NoMemory),
     }
 }
 

@@ -1,4 +1,0 @@
-pub mod Shapes
-pub mod NameScanned
-pub mod SameMembers
-pub mod NameUnits

@@ -1,7 +1,0 @@
-use Rattle.std.proofs.Common.{◌≡◌, drop}
-use Rattle.decl_rules.specs.Facts.{members_by}
-use Rattle.decl_rules.specs.Commons.{remembered_from}
-use Rattle.decl_rules.proofs.earlier.remember_unit.Given as goal
-
-abbrev pub invariant-loop-line : goal.invariant-loop-line
-invariant-loop-line l = remembered_from (members_by l.roles) l.earlier (drop l.line-index l.unit) ≡ remembered_from (members_by l.roles) l.initial.earlier l.unit

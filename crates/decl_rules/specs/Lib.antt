@@ -1,4 +1,0 @@
-pub mod Sizes
-pub mod NameScans
-pub mod Commons
-pub mod Facts

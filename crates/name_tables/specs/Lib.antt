@@ -1,4 +1,0 @@
-pub mod Keys
-pub mod Sets
-pub mod Labels
-pub mod Tables

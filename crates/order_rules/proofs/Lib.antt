@@ -1,3 +1,0 @@
-pub mod Splits
-pub mod OrderScans
-pub mod BlockFaults

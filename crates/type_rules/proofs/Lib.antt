@@ -1,3 +1,0 @@
-pub mod Typings
-pub mod Fittings
-pub mod PlainSubscripts

@@ -1,2 +1,0 @@
-pub mod UnitMade
-pub mod Passing

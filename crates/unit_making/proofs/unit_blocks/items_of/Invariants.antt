@@ -1,8 +1,0 @@
-use Rattle.std.proofs.Common.{◌≡◌, ◌++◌, drop}
-use Rattle.std.specs.Prelude.{map}
-use Rattle.unit_scopes.specs.Scoping.{scope_by}
-use Rattle.unit_making.specs.UnitParts.{item_by}
-use Rattle.unit_making.proofs.unit_blocks.items_of.Given as goal
-
-abbrev pub invariant-loop-name : goal.invariant-loop-name
-invariant-loop-name l = (l.all.items ++ map (item_by (scope_by l.scope)) (drop l.name-index l.names)) ≡ map (item_by (scope_by l.scope)) l.names

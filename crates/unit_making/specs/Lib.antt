@@ -1,2 +1,0 @@
-pub mod UnitParts
-pub mod Walks

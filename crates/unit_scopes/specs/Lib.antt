@@ -1,3 +1,0 @@
-pub mod Declarations
-pub mod Scoping
-pub mod Blocks

@@ -1,3 +1,0 @@
-pub mod Usings
-pub mod UseFacts
-pub mod Roles

@@ -1,3 +1,0 @@
-pub mod UseScanned
-pub mod UseSteps
-pub mod CarriedLabels

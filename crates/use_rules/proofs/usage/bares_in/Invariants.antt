@@ -1,6 +1,0 @@
-use Rattle.std.proofs.Common.{◌≡◌, ◌++◌, drop}
-use Rattle.use_rules.specs.UseScans.{bares_in}
-use Rattle.use_rules.proofs.usage.bares_in.Given as goal
-
-abbrev pub invariant-loop-seen : goal.invariant-loop-seen
-invariant-loop-seen l = (l.all.items ++ bares_in (drop l.seen-index l.uses)) ≡ bares_in l.uses
