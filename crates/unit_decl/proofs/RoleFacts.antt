@@ -181,7 +181,7 @@ roles_made unit scope dummies commons names references lines assigned function s
     ∙ ap (λ t. is_among x (references_in t (gathered uses_of unit))) s in
     λ i. record {
       own = own;
-      is_function_segment = f i;
+      is_function = f i;
       scope = s i;
       is_dummy = λ x. is_dummy x i;
       is_common = λ x. is_common x i;

@@ -24,7 +24,7 @@ use Rattle.unit_decl.specs.declared.used.Used.{Used}
 -- own name is assigned
 pub record UseFacts : Type 0 where
   pub own : Name
-  pub is_function_segment : Bool
+  pub is_function : Bool
   pub scope : Scope
   pub is_dummy : Name → Bool
   pub is_common : Name → Bool
@@ -35,7 +35,7 @@ pub record UseFacts : Type 0 where
 abbrev pub use_facts_of : Segment → UseFacts
 use_facts_of unit = record {
   own = own_name unit;
-  is_function_segment = is_function_segment unit;
+  is_function = is_function_segment unit;
   scope = scope_of unit;
   is_dummy = λ x. is_among x (dummies_of unit);
   is_common = λ x. is_among x (commons_of unit);
