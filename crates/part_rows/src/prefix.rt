@@ -69,8 +69,11 @@ pub(crate) fn put_prefix(alloc: Global, text: &mut Vec<u8>, stmt: &Stmt) -> Resu
             list: Vec::new(alloc),
         };
         put_piece(alloc, text, &mut pieces, piece)?;
-        while let Some(piece) = pieces.list.pop() {
-            stack.push(piece)?;
+        for _ in 0..pieces.list.len() {
+            let Some(next) = pieces.list.pop() else {
+                break;
+            };
+            stack.push(next)?;
         }
     }
     bail!("a statement of too many pieces");
