@@ -1,6 +1,7 @@
 // The names in the COMMON blocks of a unit.
 ghost use Rattle.std.specs.Prelude.{◌≡◌, [], ◌++◌, IfOk, OnOk};
 ghost use Rattle.indexmap.specs.IndexMap.{insert_entry};
+ghost use Rattle.formula.specs.Atoms.{same_bytes};
 ghost use Rattle.fort_syntax.specs.Units.{name_of_block, names_of_items};
 ghost use Rattle.unit_decl.specs.Commons.{listed, appended, with_groups, tabled};
 
@@ -20,7 +21,6 @@ pub(crate) struct CommonTable {
 
 impl Model for CommonTable {
     ghost use Rattle.std.specs.Prelude.{List, ℕ};
-    ghost use Rattle.formula.specs.Atoms.{same_bytes};
 
     ghost Value = { List (List ℕ × List (List ℕ)) };
 

@@ -1,5 +1,6 @@
 // A set of names.
 ghost use Rattle.std.specs.Prelude.{◌≡◌, [], not, IfOk, OnOk};
+ghost use Rattle.formula.specs.Atoms.{is_among};
 ghost use Rattle.fort_syntax.specs.Units.{name_of_block};
 ghost use Rattle.unit_decl.specs.Sets.{with_name, with_names, repeats};
 
@@ -18,7 +19,6 @@ pub struct NameSet {
 
 impl Model for NameSet {
     ghost use Rattle.std.specs.Prelude.{List, ℕ};
-    ghost use Rattle.formula.specs.Atoms.{is_among};
 
     ghost Value = { List (List ℕ) };
 
