@@ -19,7 +19,8 @@ use Rattle.fort_model.specs.Cells.{is_defined}
 use Rattle.fort_model.specs.Correct.{held_in, held_by, held_as, names_hold, IsMet}
 use Rattle.fort_model.specs.Events.{checks}
 use Rattle.fort_model.specs.Fits.{IsVisible, IsApart, Fits, has_sort}
-use Rattle.fort_model.specs.Fitting.{FitsUnit, is_visible_role, is_bound, has_entry}
+use Rattle.fort_model.specs.Fitting.{FitsUnit, is_visible_role, has_entry}
+use Rattle.formula.specs.Substitution.{is_bound}
 use Rattle.fort_model.specs.Lists.{IsAmong}
 use Rattle.fort_model.specs.Outcome.{Outcome, Ended, and_then}
 use Rattle.fort_model.specs.Processor.{Processor}

@@ -1,8 +1,8 @@
 -- Notes that fit their units.
-use Rattle.std.specs.Prelude.{◌≡◌, ◌<◌, ℕ, Bool, true, false, not, ◌&&◌, ◌||◌, List, length, Some, slice_get, codes, IsTrue}
+use Rattle.std.specs.Prelude.{◌≡◌, ◌<◌, ℕ, Bool, true, false, not, ◌&&◌, ◌||◌, List, length, Some, slice_get, IsTrue}
 use Rattle.std.specs.List.{list_all}
 use Rattle.fort_syntax.specs.Names.{data_name, is_own, has_role, is_local}
-use Rattle.formula.specs.Atoms.{same_bytes}
+use Rattle.formula.specs.Substitution.{is_bound}
 use Rattle.formula.specs.TermTests.{names_pass}
 use Rattle.formula.specs.Tree.{Tree}
 use Rattle.fort_syntax.specs.declared.unit.Role.{Role}
@@ -10,10 +10,6 @@ use Rattle.fort_syntax.specs.declared.unit.Unit.{Unit as Routine}
 use Rattle.fort_model.specs.Lists.{IsAmong}
 use Rattle.fort_notes.specs.Assertions.{Notes, Assertion}
 use Rattle.fort_model.specs.Program.{Program, assertion_at}
-
--- the processor's bounds
-abbrev pub is_bound : List ℕ → Bool
-is_bound x = same_bytes (codes "LEAST") x || same_bytes (codes "GREATEST") x
 
 -- a bound, or a name of the unit with such a role
 abbrev pub may_name : Routine → (Role → Bool) → List ℕ → Bool

@@ -13,6 +13,7 @@ pub mod Run
 pub mod Calls
 pub mod Symbols
 pub mod Program
+pub mod Programs
 pub mod Senses
 pub mod Events
 pub mod Seen

@@ -5,6 +5,7 @@ use Rattle.formula.specs.Adding.{adding_fault}
 use Rattle.formula.specs.Atoms.{same_bytes}
 use Rattle.formula.specs.Headings.{heading_with}
 use Rattle.formula.specs.Reading.{or_else}
+use Rattle.formula.specs.Substitution.{is_bound}
 use Rattle.formula.specs.TermTests.{names_pass}
 use Rattle.formula.specs.Tokens.{Token, tokens}
 use Rattle.formula.specs.Tree.{Tree}
@@ -188,10 +189,6 @@ clocks text = length (filter (λ l. is_clock l.token) (tokens text))
 abbrev pub may_have_clocks : Form → ℕ
 may_have_clocks (assertion ts clock_stands clock) = cond clock_stands 1 0
 may_have_clocks _ = 0
-
--- the bounds of the processor, which are no data names
-abbrev pub is_bound : List ℕ → Bool
-is_bound s = same_bytes (codes "LEAST") s || same_bytes (codes "GREATEST") s
 
 -- no entry value stands in a term
 abbrev pub has_no_old : Tree → Bool
