@@ -1,0 +1,4 @@
+pub mod Spots
+pub mod Units
+pub mod Cards
+pub mod Least
