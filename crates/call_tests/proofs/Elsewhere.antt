@@ -1,8 +1,8 @@
 -- A name that one actual is stands in another one exactly where it stands in two of them.
-use Rattle.std.proofs.Common.{◌≡◌, ◌≢◌, ℕ, zero, suc, ◌+◌, ◌<◌, Bool, true, false, cond, not, ◌&&◌, ◌||◌, List, [], ◌∷◌, map, Some, slice_get, refl, sym, ap, ◌∙◌, subst, arith, rules, eq-eqb}
+use Rattle.std.proofs.Common.{◌≡◌, ◌≢◌, ℕ, zero, suc, ◌+◌, ◌<◌, Bool, true, false, not, ◌&&◌, ◌||◌, List, [], ◌∷◌, map, Some, slice_get, refl, sym, ap, ◌∙◌, subst, arith, rules, eq-eqb}
 use Rattle.std.specs.Prelude.{◌==◌}
 use Rattle.std.specs.List.{filter, list_any}
-use Rattle.formula.specs.Atoms.{is_among, same_bytes}
+use Rattle.formula.specs.Atoms.{is_among}
 use Rattle.fort_syntax.specs.declared.expr.Expr.{Expr}
 use Rattle.fort_syntax.specs.declared.expr.Expr.TheVariants.{Const, Truth, Var, Apply', Paren', Pos', Neg', Power', Bin', Rel', Not', And', Or'}
 use Rattle.fort_syntax.specs.declared.name.Name.{Name}
@@ -28,11 +28,11 @@ again_stays test once (a ∷ rest) = again_stays test (once || test a) rest
 
 once_any : {A : Type 0} (test : A → Bool) (xs : List A) → of_two test false true xs ≡ list_any test xs
 once_any test [] = refl
-once_any test (a ∷ rest) = by_test (test a)
+once_any test (a ∷ rest) = by_test (once_any test rest) (test a)
   where
-    by_test : (b : Bool) → of_two test (b && true) true rest ≡ (b || list_any test rest)
-    by_test true = again_stays test true rest
-    by_test false = once_any test rest
+    by_test : of_two test false true rest ≡ list_any test rest → (b : Bool) → of_two test (b && true) true rest ≡ (b || list_any test rest)
+    by_test rec true = again_stays test true rest
+    by_test rec false = rec
 
 -- a name is among those that stand twice
 twice_is : (x : Name) (before again : List Name) (es : List Expr)
@@ -41,7 +41,7 @@ twice_is x before again [] = refl
 twice_is x before again (e ∷ es) =
     twice_is x (with_names before (names_in e)) (with_names again (filter (λ y. is_among y before) (names_in e))) es
     ∙ (ap (λ (b : Bool). of_two (λ (e : Expr). is_among x (names_in e)) b (is_among x (with_names before (names_in e))) es)
-        (among_more x again (filter (λ y. is_among y before) (names_in e)) ∙ ap (λ (b : Bool). is_among x again || b) (among_kept (λ y. is_among y before) x (names_in e)))
+    (among_more x again (filter (λ y. is_among y before) (names_in e)) ∙ ap (λ (b : Bool). is_among x again || b) (among_kept (λ y. is_among y before) x (names_in e)))
     ∙ ap (λ (b : Bool). of_two (λ (e : Expr). is_among x (names_in e)) (is_among x again || (is_among x (names_in e) && is_among x before)) b es) (among_more x before (names_in e)))
 
 two_same : {A : Type 0} (f g : A → Bool) (again once : Bool) (xs : List A) → ((a : A) → f a ≡ g a) → of_two f again once xs ≡ of_two g again once xs
@@ -89,17 +89,14 @@ elsewhere_is x k zero (e ∷ es) h =
     ∙ (sym (once_any (λ (z : Expr). mentions z x) es) ∙ sym (ap (λ (b : Bool). of_two (λ (z : Expr). mentions z x) (false || (b && false)) (false || b) es) own)))
 elsewhere_is x k (suc n) (e ∷ es) h =
     ap (λ (b : Bool). (not b && mentions e x) || stands_elsewhere (k + suc n) x (suc k) es) (differ k (k + suc n) (λ q. apart q))
-    ∙ by_test (mentions e x)
+    ∙ by_test (elsewhere_is x (suc k) n es h) (mentions e x)
   where
     apart : k ≡ k + suc n → ⊥
     apart q = omega arith
 
-    later : stands_elsewhere (k + suc n) x (suc k) es ≡ of_two (λ (z : Expr). mentions z x) false false es
-    later = let at : k + suc n ≡ suc k + n = omega arith in ap (λ (m : ℕ). stands_elsewhere m x (suc k) es) at ∙ elsewhere_is x (suc k) n es h
-
-    by_test : (b : Bool) → (b || stands_elsewhere (k + suc n) x (suc k) es) ≡ of_two (λ (z : Expr). mentions z x) (b && false) b es
-    by_test false = later
-    by_test true = sym (once_any (λ (z : Expr). mentions z x) es ∙ some_at (λ (z : Expr). mentions z x) es n (Var x) h (same_self x))
+    by_test : stands_elsewhere (suc k + n) x (suc k) es ≡ of_two (λ (z : Expr). mentions z x) false false es → (b : Bool) → (b || stands_elsewhere (k + suc n) x (suc k) es) ≡ of_two (λ (z : Expr). mentions z x) (b && false) b es
+    by_test rec false = let at : k + suc n ≡ suc k + n = omega arith in ap (λ (m : ℕ). stands_elsewhere m x (suc k) es) at ∙ rec
+    by_test rec true = sym (once_any (λ (z : Expr). mentions z x) es ∙ some_at (λ (z : Expr). mentions z x) es n (Var x) h (same_self x))
 
 -- ---- smashed dummies
 

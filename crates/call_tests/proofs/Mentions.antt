@@ -1,5 +1,5 @@
 -- An expression mentions the names in it.
-use Rattle.std.proofs.Common.{◌≡◌, Bool, true, false, ◌||◌, List, [], ◌∷◌, ◌++◌, refl, sym, ap, ◌∙◌}
+use Rattle.std.proofs.Common.{◌≡◌, Bool, true, false, ◌||◌, refl, sym, ap, ◌∙◌}
 use mathlib.Core.Former.{Count}
 use Rattle.std.specs.Cmp.Lexicographic.{same_text}
 use Rattle.fort_syntax.specs.TreePatterns.{only}

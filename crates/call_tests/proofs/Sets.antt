@@ -1,10 +1,9 @@
 -- What is among sets of names.
 use Rattle.std.proofs.Common.{◌≡◌, Bool, true, false, cond, ◌&&◌, ◌||◌, List, [], ◌∷◌, ◌++◌, refl, sym, ap, ◌∙◌}
-use Rattle.std.specs.List.{filter, list_any}
+use Rattle.std.specs.List.{filter}
 use Rattle.std.specs.Cmp.Lexicographic.{same_text}
 use Rattle.formula.specs.Atoms.{is_among, same_bytes}
 use Rattle.fort_syntax.specs.declared.name.Name.{Name}
-use Rattle.fort_laws.proofs.FrameSeats.{same_self}
 use Rattle.fort_laws.proofs.Near.{known}
 use Rattle.name_tables.specs.Sets.{with_name, with_names}
 
@@ -51,16 +50,14 @@ among_more x xs (y ∷ ys) =
 -- among what a filter keeps
 pub among_kept : (test : Name → Bool) (x : Name) (xs : List Name) → is_among x (filter test xs) ≡ (is_among x xs && test x)
 among_kept test x [] = refl
-among_kept test x (y ∷ ys) = by_name (same_bytes x y) refl (test y) refl
+among_kept test x (y ∷ ys) = by_name (among_kept test x ys) (same_bytes x y) refl (test y) refl
   where
-    rest : is_among x (filter test ys) ≡ (is_among x ys && test x)
-    rest = among_kept test x ys
-
-    by_name : (b : Bool) → same_bytes x y ≡ b → (t : Bool) → test y ≡ t → is_among x (cond (test y) (y ∷ filter test ys) (filter test ys)) ≡ ((same_bytes x y || is_among x ys) && test x)
-    by_name true e true f =
+    by_name : is_among x (filter test ys) ≡ (is_among x ys && test x) → (b : Bool) → same_bytes x y ≡ b → (t : Bool) → test y ≡ t
+        → is_among x (cond (test y) (y ∷ filter test ys) (filter test ys)) ≡ ((same_bytes x y || is_among x ys) && test x)
+    by_name rest true e true f =
         ap (λ (t : Bool). is_among x (cond t (y ∷ filter test ys) (filter test ys))) f
         ∙ (ap (λ (b : Bool). b || is_among x (filter test ys)) e ∙ sym (ap (λ (b : Bool). (b || is_among x ys) && test x) e ∙ (ap test (same_text x y (sym e)) ∙ f)))
-    by_name true e false f =
+    by_name rest true e false f =
         ap (λ (t : Bool). is_among x (cond t (y ∷ filter test ys) (filter test ys))) f
         ∙ (rest ∙ (none (is_among x ys) (test x) off ∙ sym (ap (λ (b : Bool). (b || is_among x ys) && test x) e ∙ off)))
       where
@@ -70,8 +67,8 @@ among_kept test x (y ∷ ys) = by_name (same_bytes x y) refl (test y) refl
         none : (a b : Bool) → b ≡ false → (a && b) ≡ false
         none true b h = h
         none false b h = refl
-    by_name false e true f =
+    by_name rest false e true f =
         ap (λ (t : Bool). is_among x (cond t (y ∷ filter test ys) (filter test ys))) f
         ∙ (ap (λ (b : Bool). b || is_among x (filter test ys)) e ∙ (rest ∙ sym (ap (λ (b : Bool). (b || is_among x ys) && test x) e)))
-    by_name false e false f =
+    by_name rest false e false f =
         ap (λ (t : Bool). is_among x (cond t (y ∷ filter test ys) (filter test ys))) f ∙ (rest ∙ sym (ap (λ (b : Bool). (b || is_among x ys) && test x) e))

@@ -1,4 +1,4 @@
-use Rattle.std.proofs.Common.{◌≡◌, sym, ◌∙◌, arith, drop}
+use Rattle.std.proofs.Common.{sym, ◌∙◌, arith, drop}
 use Rattle.formula.specs.Atoms.{is_among}
 use Rattle.call_tests.specs.Bare.{bare_in}
 use Rattle.call_tests.proofs.Dummies.{none_left, found, passed}

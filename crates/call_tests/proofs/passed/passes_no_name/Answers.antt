@@ -1,4 +1,4 @@
-use Rattle.std.proofs.Common.{◌≡◌, sym, ◌∙◌, arith, drop}
+use Rattle.std.proofs.Common.{sym, ◌∙◌, arith, drop}
 use Rattle.formula.specs.Atoms.{is_among}
 use Rattle.std.specs.Prelude.{not}
 use Rattle.fort_model.specs.CallRules.{is_bare_name}
