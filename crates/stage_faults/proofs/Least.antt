@@ -1,5 +1,5 @@
 -- What is told first is the least fault.
-use Rattle.std.proofs.Common.{◌≡◌, ℕ, ◌+◌, ◌≤◌, inl, inr, refl, subst, arith}
+use Rattle.std.proofs.Common.{◌≡◌, ◌<◌, ◌⊎◌, ℕ, ◌+◌, ◌≤◌, inl, inr, refl, subst, arith}
 use Rattle.std.specs.Prelude.{Option, Some, None, slice_get}
 use Rattle.fort_syntax.specs.FirstFaults.{IsAtMost, TellsLeast}
 use Rattle.fort_syntax.specs.Rules.{rule_number}
@@ -10,11 +10,11 @@ use Rattle.fort_model.specs.Lists.{IsAmong}
 use Rattle.fort_model.specs.Rules.{Breaks}
 use Rattle.fort_model.specs.Stages.{IsBrokenOf}
 use Rattle.stage_faults.specs.Scans.{first_in_units, IsUpTo}
-use Rattle.stage_faults.specs.Laws.{IsToldIn, StageFaultIsLeast}
+use Rattle.stage_faults.specs.Laws.{IsToldIn, IsToldEarlier, StageFaultIsLeast, StageFaultIsFirst}
 use Rattle.stage_faults.proofs.Spots.{first_spot, Above, IsIn, sound, least}
 use Rattle.stage_faults.proofs.Units.{line_spots, unit_spots, all_spots, units_first, units_above, in_lines, of_lines, in_units, of_units}
 
-stage_fault_is : StageFaultIsLeast
+stage_fault_is : StageFaultIsFirst
 stage_fault_is p rules head at dialect w order tells = by (first_in_units head at 0 p.units) (units_first head at 0 p.units)
   where
     spots_above : Above 0 (all_spots head at 0 p.units)
@@ -40,15 +40,34 @@ stage_fault_is p rules head at dialect w order tells = by (first_in_units head a
         let a : rule_number r ≤ rule_number q = m.1 in
         inr (m.0, omega arith)
 
+    before : (r : Rule) (n : ℕ) (q : Rule) (m : ℕ) (rule : Rule) (card : ℕ) → m < card → IsAtMost r n q m → IsAtMost r n rule card
+    before r n q m rule card h (inl l) = inl (omega arith)
+    before r n q m rule card h (inr e) = let same : n ≡ m = e.0 in inl (omega arith)
+
+    by_told : (i : ℕ) (u : Routine) (rule : Rule) (card : ℕ) → slice_get p.units i ≡ Some u
+        → IsToldIn (head i u) (at u) u rule card ⊎ IsToldEarlier p head card
+        → (f : Fault) × (first_spot (all_spots head at 0 p.units) ≡ Some f) × IsAtMost f.rule f.card rule card
+    by_told i u rule card e (inl m) =
+        let told = told_in i u rule card m in
+        let zero_and : i ≡ 0 + i = omega arith in
+        let found = least 0 (all_spots head at 0 p.units) card told.0 spots_above
+        (in_units head at p.units 0 i u card told.0 e
+        (subst (λ (n : ℕ). IsIn card told.0 (unit_spots (head n u) (at u) u)) zero_and told.1)) in
+        (found.0, found.1, at_most found.0.rule found.0.card told.0 rule card told.2 found.2)
+    by_told i u rule card e (inr m) =
+        let j = m.0 in
+        let v = m.1 in
+        let zero_and : j ≡ 0 + j = omega arith in
+        let found = least 0 (all_spots head at 0 p.units) v.head m.2 spots_above
+        (in_units head at p.units 0 j v v.head m.2 m.3
+        (subst (λ (n : ℕ). IsIn v.head m.2 (unit_spots (head n v) (at v) v)) zero_and (inl (refl, m.4)))) in
+        (found.0, found.1, before found.0.rule found.0.card m.2 v.head rule card m.5 found.2)
+
     first_of : (rule : Rule) (card : ℕ) → IsBrokenOf p rules rule card
         → (f : Fault) × (first_spot (all_spots head at 0 p.units) ≡ Some f) × IsAtMost f.rule f.card rule card
     first_of rule card b =
-        let told = told_in b.unit b.broken.unit rule card (tells.told b.unit b.broken.unit rule card b.broken.is_unit b.among b.broken.breaks) in
-        let zero_and : b.unit ≡ 0 + b.unit = omega arith in
-        let found = least 0 (all_spots head at 0 p.units) card told.0 spots_above
-        (in_units head at p.units 0 b.unit b.broken.unit card told.0 b.broken.is_unit
-        (subst (λ (n : ℕ). IsIn card told.0 (unit_spots (head n b.broken.unit) (at b.broken.unit) b.broken.unit)) zero_and told.1)) in
-        (found.0, found.1, at_most found.0.rule found.0.card told.0 rule card told.2 found.2)
+        by_told b.unit b.broken.unit rule card b.broken.is_unit
+        (tells.told b.unit b.broken.unit rule card b.broken.is_unit b.among b.broken.breaks)
 
     -- what is told at a card is broken there
     broken_in : (i : ℕ) (u : Routine) (q : Rule) (card : ℕ) → slice_get p.units i ≡ Some u → IsIn card q (unit_spots (head i u) (at u) u)
@@ -75,5 +94,10 @@ stage_fault_is p rules head at dialect w order tells = by (first_in_units head a
           subst (λ (x : Fault). IsAtMost x.rule x.card rule card) same found.2,
     )
 
+pub stage_fault_is_first : StageFaultIsFirst
+stage_fault_is_first = stage_fault_is
+
 pub stage_fault_is_least : StageFaultIsLeast
-stage_fault_is_least = stage_fault_is
+stage_fault_is_least p rules head at dialect w order tells =
+    stage_fault_is p rules head at dialect w order
+    (record { of_heads = tells.of_heads; of_statements = tells.of_statements; told = λ i u rule card e m b. inl (tells.told i u rule card e m b) })

@@ -40,12 +40,12 @@ units_first head at i (u ∷ us) =
 
 -- ---- the order of the cards
 
-both : (a b : Bool) → IsTrue (a && b) → IsTrue a × IsTrue b
+pub both : (a b : Bool) → IsTrue (a && b) → IsTrue a × IsTrue b
 both true true h = (h, h)
 both true false h = absurd (search rules)
 both false b h = absurd (search rules)
 
-lt : (a b : ℕ) → IsTrue (nat_lt a b) → a < b
+pub lt : (a b : ℕ) → IsTrue (nat_lt a b) → a < b
 lt a b h = grind (arith, h)
 
 lines_above : (at : Stmt → Option Rule) (lines : List Line) (first last : ℕ) (rest : List Spot)

@@ -3,4 +3,4 @@
 
 mod laws;
 
-pub use laws::stage_fault_is_least;
+pub use laws::{heads_ascend, stage_fault_is_least};
