@@ -58,7 +58,7 @@ in_lines u (l ∷ lines) line site (zero, e) h =
 in_lines u (l ∷ lines) line site (suc k, e) h =
     among_second site (sites_of u l.stmt) (sites_of_lines u lines) (in_lines u lines line site (k, e) h)
 
-of_lines : (u : Routine) (lines : List Line) (site : CallSite) → IsAmong site (sites_of_lines u lines)
+pub of_lines : (u : Routine) (lines : List Line) (site : CallSite) → IsAmong site (sites_of_lines u lines)
     → (line : Line) × IsAmong line lines × IsAmong site (sites_of u line.stmt)
 of_lines u [] site (k, e) = absurd cc
 of_lines u (l ∷ lines) site h = by (of_lines u lines site) (among_either site (sites_of u l.stmt) (sites_of_lines u lines) h)
