@@ -1,8 +1,10 @@
 -- What an order of calls and its table give.
-use Rattle.std.proofs.Common.{◌≡◌, ℕ, zero, suc, ◌<◌, List, [], ◌∷◌, length, get_or, reverse, Some, slice_get, refl, sym, ap, ◌∙◌, subst}
+use Rattle.std.proofs.Common.{◌≡◌, ℕ, zero, suc, ◌<◌, List, [], ◌∷◌, length, get_or, reverse, Option, Some, None, Result, Ok, Err, IfOk, sym, ap, ◌∙◌, subst}
 use Rattle.std.specs.List.{All}
 use Rattle.std.proofs.lemmas.Option.{slice_get-get_or}
-use Rattle.fort_syntax.specs.FirstFaults.{AreKept}
+use Rattle.fort_syntax.specs.FirstFaults.{AreKept, TellsLeast}
+use Rattle.fort_syntax.specs.declared.refusal.Fault.{Fault}
+use Rattle.fort_syntax.specs.declared.refusal.Refusal.{Refusal}
 use Rattle.fort_syntax.specs.WellFormed.{IsWellFormed}
 use Rattle.fort_syntax.specs.declared.deck.Deck.{Deck}
 use Rattle.fort_syntax.specs.declared.dialect.Dialect.{Dialect}
@@ -13,8 +15,9 @@ use Rattle.fort_model.specs.CallFacts.{AreCallFacts, IsCalleesTable}
 use Rattle.fort_model.specs.CallOrder.{Grows, start, next, IsCallOrder}
 use Rattle.fort_model.specs.Lists.{IsAmong}
 use Rattle.fort_model.specs.Program.{Program}
-use Rattle.fort_model.specs.Stages.{IsBrokenOf, KeepsAll}
+use Rattle.fort_model.specs.Stages.{IsBrokenOf, IsFirstBroken, KeepsAll, rules_of_smashing}
 use Rattle.fort_model.specs.declared.call_facts.CallFacts.{CallFacts}
+use Rattle.alias_rules.specs.Stages.{IsSmashFault}
 use Rattle.smash_laws.specs.Ordered.{smash_table}
 use Rattle.smash_laws.proofs.Growing.{made}
 use Rattle.smash_laws.proofs.TableHolds.{tables_by_order}
@@ -46,3 +49,43 @@ are_facts dialect deck facts well order callees table p e f = record {
   smashes = sym f;
   callees = subst (λ (us : List Routine). IsCalleesTable us facts.callees) (sym e) callees;
 }
+
+-- ---- what is found, by other words for the units, the order and the rows
+
+pub within_as : (us units : List Routine) (xs order : List ℕ) → us ≡ units → xs ≡ order → IsCallOrder units order → All (λ i. i < length us) xs
+within_as us units xs order e f o = subst (λ (vs : List Routine). All (λ i. i < length vs) xs) (sym e) (subst (λ (ys : List ℕ). All (λ i. i < length units) ys) (sym f) (within units order o))
+
+pub rows_are : (us units : List Routine) (xs order : List ℕ) (items rows : List (List Name)) → us ≡ units → xs ≡ order → items ≡ smash_table us xs → rows ≡ items → rows ≡ smash_table units order
+rows_are us units xs order items rows e f made is = is ∙ (made ∙ (ap (λ (vs : List Routine). smash_table vs xs) e ∙ ap (smash_table units) f))
+
+pub rows_are_long : (us units : List Routine) (order : List ℕ) (rows : List (List Name)) → us ≡ units → IsCallOrder units order → rows ≡ smash_table units order → length rows ≡ length us
+rows_are_long us units order rows e o r = ap (λ (xs : List (List Name)). length xs) r ∙ (as_long units order o ∙ sym (ap (λ (vs : List Routine). length vs) e))
+
+-- the first fault is told for every program of some units with some rows
+abbrev pub IsTold : List Routine → List (List Name) → Option Fault → Type 0
+IsTold us rows found = (p : Program) → p.units ≡ us → p.smashes ≡ rows → TellsLeast (IsBrokenOf p rules_of_smashing) found
+
+pub smash_fault_is : (dialect : Dialect) (deck : Deck) (order : List ℕ) (us : List Routine) (rows : List (List Name)) (found : Option Fault) (fault f : Fault)
+    → IsWellFormed dialect deck → IsCallOrder deck.units order → us ≡ deck.units → rows ≡ smash_table deck.units order → IsTold us rows found → found ≡ Some fault → fault ≡ f → IsSmashFault deck.units f
+smash_fault_is dialect deck order us rows found fault f well o e r told is same = record {
+  table = rows;
+  is_table = λ p x y. tables_by_order dialect deck order well o p x (y ∙ r);
+  first = λ p x y.
+      subst (λ (z : Fault). IsFirstBroken p rules_of_smashing z) same
+      (subst (λ (z : Option Fault). TellsLeast (IsBrokenOf p rules_of_smashing) z) is (told p (x ∙ sym e) y));
+}
+
+pub facts_hold : (dialect : Dialect) (deck : Deck) (order : List ℕ) (callees : List (List ℕ)) (rows : List (List Name)) (r : Result CallFacts Refusal)
+    → IsWellFormed dialect deck → IsCallOrder deck.units order → IsCalleesTable deck.units callees → rows ≡ smash_table deck.units order
+    → IfOk r (λ facts. facts.order ≡ order) → IfOk r (λ facts. facts.callees ≡ callees) → IfOk r (λ facts. facts.smashes ≡ rows)
+    → IfOk r (λ facts. (p : Program) → p.units ≡ deck.units → p.smashes ≡ facts.smashes → AreCallFacts p facts)
+facts_hold dialect deck order callees rows (Ok facts) well o cs t a b s =
+    are_facts dialect deck facts well (subst (λ (xs : List ℕ). IsCallOrder deck.units xs) (sym a) o) (subst (λ (xs : List (List ℕ)). IsCalleesTable deck.units xs) (sym b) cs)
+    (s ∙ (t ∙ ap (smash_table deck.units) (sym a)))
+facts_hold dialect deck order callees rows (Err e) well o cs t a b s = a
+
+pub kept_hold : (us units : List Routine) (rows : List (List Name)) (r : Result CallFacts Refusal) (found : Option Fault) → us ≡ units → IsTold us rows found → found ≡ None
+    → IfOk r (λ facts. facts.smashes ≡ rows) → IfOk r (λ facts. (p : Program) → p.units ≡ units → p.smashes ≡ facts.smashes → KeepsAll p rules_of_smashing)
+kept_hold us units rows (Ok facts) found e told is s = λ p x y.
+    all_kept p rules_of_smashing (subst (λ (z : Option Fault). TellsLeast (IsBrokenOf p rules_of_smashing) z) is (told p (x ∙ sym e) (y ∙ s)))
+kept_hold us units rows (Err e) found f told is s = s
