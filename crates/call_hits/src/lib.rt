@@ -1,0 +1,6 @@
+//! The names of a caller that a call smashes.
+#![tactic(auto)]
+
+mod hits;
+
+pub use hits::call_hits;
