@@ -1,0 +1,2 @@
+pub mod CappedSums
+pub mod LoadParts
