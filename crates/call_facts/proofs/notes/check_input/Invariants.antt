@@ -1,0 +1,13 @@
+use Rattle.std.proofs.Common.{◌≡◌, map, take}
+use Rattle.fort_syntax.specs.declared.condition.Kind.TheVariants.{InputCheck}
+use Rattle.fort_model.specs.Events.{checks}
+use Rattle.fort_model.specs.Seen.{meet}
+use Rattle.note_terms.specs.Stated.{stated, trees_in}
+use Rattle.walk_state.specs.Moments.{Follows, met, moment}
+use Rattle.call_facts.proofs.notes.check_input.Given as goal
+
+abbrev pub invariant-loop-id : goal.invariant-loop-id
+invariant-loop-id l = record {
+  on : Follows l.fn.walk l.walk;
+  is : moment l.walk ≡ met (moment l.fn.walk) (meet (checks InputCheck l.card (map (stated l.fn.walk.pool l.frame l.entry) (trees_in l.fn.walk.pool (take l.id-index l.ids)))));
+}
