@@ -11,15 +11,15 @@ use Rattle.fort_syntax.specs.declared.unit.DataName.{DataName}
 use Rattle.fort_syntax.specs.declared.unit.FunctionName.{FunctionName}
 use Rattle.fort_syntax.specs.declared.unit.Line.{Line}
 use Rattle.fort_syntax.specs.declared.unit.Role.TheVariants.{Dummy, InCommon, OwnValue, Local}
-use Rattle.unit_decl.specs.declared.use_rules.Roles.{Roles}
-use Rattle.unit_decl.specs.Commons.{given_from, tabled}
-use Rattle.unit_decl.specs.Roles.{use_facts_by}
-use Rattle.unit_decl.specs.Scoping.{scope_by}
-use Rattle.unit_decl.specs.UseScans.{use_facts_of}
+use Rattle.use_faults.specs.declared.use_rules.Roles.{Roles}
+use Rattle.decl_faults.specs.Commons.{given_from, tabled}
+use Rattle.use_faults.specs.Roles.{use_facts_by}
+use Rattle.unit_scope.specs.Scoping.{scope_by}
+use Rattle.use_faults.specs.UseScans.{use_facts_of}
 use Rattle.unit_decl.specs.UnitParts.{is_data_in, role_in, data_names_in, functions_in, sort_in, item_in, group_in}
-use Rattle.unit_decl.proofs.CommonFacts.{tabled_of}
-use Rattle.unit_decl.proofs.OnceNames.{given_once}
-use Rattle.unit_decl.proofs.RoleFacts.{own_if, held_is}
+use Rattle.decl_faults.proofs.CommonFacts.{tabled_of}
+use Rattle.use_faults.proofs.OnceNames.{given_once}
+use Rattle.use_faults.proofs.RoleFacts.{own_if, held_is}
 
 -- a block's name names the block
 pub block_again : (b : Name) → name_of_block (block_of_name b) ≡ b

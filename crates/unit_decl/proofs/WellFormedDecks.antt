@@ -11,7 +11,7 @@ use Rattle.fort_syntax.specs.WellFormed.{IsWellFormed}
 use Rattle.deck_laws.specs.Ascent.{card_of_piece, card_of_entry, pieces_ascend_above, entries_ascend_above}
 use Rattle.deck_laws.specs.Spelling.{AreSpelled}
 use Rattle.deck_laws.proofs.WellFormedDecks.{decks_without_fault_are_well_formed}
-use Rattle.unit_decl.specs.Decks.{IsDeckOf}
+use Rattle.deck_entries.specs.Decks.{IsDeckOf}
 
 -- statements and notes have the cards of their entries
 cards_kept : (d : Dialect) (card : ℕ) (entries : List Entry) (pieces : List Piece) → AreReadAs d entries pieces

@@ -11,9 +11,9 @@ use Rattle.fort_syntax.specs.declared.unit.DataName.{DataName}
 use Rattle.fort_syntax.specs.declared.unit.FunctionName.{FunctionName}
 use Rattle.fort_syntax.specs.declared.unit.Role.{Role}
 use Rattle.fort_syntax.specs.declared.unit.Role.TheVariants.{Dummy, InCommon, OwnValue, Local}
-use Rattle.unit_decl.specs.declared.use_rules.Roles.{Roles}
-use Rattle.unit_decl.specs.Commons.{listed}
-use Rattle.unit_decl.specs.Scoping.{scope_by}
+use Rattle.use_faults.specs.declared.use_rules.Roles.{Roles}
+use Rattle.decl_faults.specs.Commons.{listed}
+use Rattle.unit_scope.specs.Scoping.{scope_by}
 
 -- a name is data whatever it is used as
 abbrev pub is_held_in : Roles → Name → Name → Bool

@@ -2,20 +2,19 @@
 ghost use Rattle.std.specs.Prelude.{◌≡◌, [], map, IfOk, OnOk};
 ghost use Rattle.fort_syntax.specs.Units.{gathered, scope_of, blocks_by, name_of_block, group_of};
 ghost use Rattle.fort_syntax.specs.Scopes.{once};
-ghost use Rattle.unit_decl.specs.Sets.{with_names};
-ghost use Rattle.unit_decl.specs.Commons.{given_from};
-ghost use Rattle.unit_decl.specs.Scoping.{scope_by};
+ghost use Rattle.name_tables.specs.Sets.{with_names};
+ghost use Rattle.decl_faults.specs.Commons.{given_from};
+ghost use Rattle.unit_scope.specs.Scoping.{scope_by};
 ghost use Rattle.unit_decl.specs.UnitParts.{item_in, group_in};
 
-use crate::common_table::{CommonTable, commons_of};
-use crate::heads::groups_by;
-use crate::key::Key;
-use crate::name_set::NameSet;
-use crate::scoped::Scoped;
 use crate::unit_names::copied_dims;
-use edge_io::{List, NoMemory};
+use decl_faults::{CommonTable, commons_of};
+use edge_io::{Keys, List, NoMemory};
 use fort_syntax::{Group, Item, Line, Name, Stmt};
+use name_tables::{BlockSet, Key};
 use std::alloc::Global;
+use stmt_names::groups_by;
+use unit_scope::Scoped;
 
 fn items_of(alloc: Global, scope: &Scoped, names: &[Name]) -> Result<List<Item>, NoMemory>
     ensures { IfOk result (λ items. items ≡ map (item_in (scope_by scope.now)) names.now) }
@@ -68,27 +67,27 @@ fn groups_of(
     Ok(List::from_vec(all))
 }
 
-fn add_groups(blocks: &mut NameSet, groups: &[Group]) -> Result<(), NoMemory>
+fn add_groups(blocks: &mut BlockSet, groups: &[Group]) -> Result<(), NoMemory>
     ensures { OnOk result (blocks.new ≡ with_names blocks.old (map (λ g. name_of_block g.block) groups.now)) }
 {
     for group in groups {
-        let Ok(_) = blocks.add_block(&group.block) else {
+        let Ok(_) = blocks.add(&group.block) else {
             return Err(NoMemory);
         };
     }
     Ok(())
 }
 
-fn add_blocks(blocks: &mut NameSet, stmt: &Stmt) -> Result<(), NoMemory>
+fn add_blocks(blocks: &mut BlockSet, stmt: &Stmt) -> Result<(), NoMemory>
     ensures { OnOk result (blocks.new ≡ with_names blocks.old (blocks_by stmt.now)) }
 {
     add_groups(blocks, groups_by(stmt))
 }
 
-fn blocks_of(alloc: Global, unit: &[Line]) -> Result<NameSet, NoMemory>
+fn blocks_of(alloc: Global, keys: Keys, unit: &[Line]) -> Result<BlockSet, NoMemory>
     ensures { IfOk result (λ blocks. blocks ≡ given_from blocks_by [] unit.now) }
 {
-    let mut blocks = NameSet::new(alloc);
+    let mut blocks = BlockSet::new(alloc, keys);
     for line in unit {
         let Ok(()) = add_blocks(&mut blocks, &line.stmt) else {
             return Err(NoMemory);
@@ -100,16 +99,17 @@ fn blocks_of(alloc: Global, unit: &[Line]) -> Result<NameSet, NoMemory>
 /// The COMMON blocks of a unit, each as all groups of the block joined, in order of first appearance.
 pub(crate) fn unit_groups(
     alloc: Global,
+    keys: Keys,
     scope: &Scoped,
     unit: &[Line],
 ) -> Result<List<Group>, NoMemory>
     requires { scope_by scope.now ≡ scope_of unit.now }
     ensures { IfOk result (λ groups. groups ≡ map (group_of unit.now) (once (gathered blocks_by unit.now))) }
 {
-    let Ok(table) = commons_of(alloc, unit) else {
+    let Ok(table) = commons_of(alloc, keys, unit) else {
         return Err(NoMemory);
     };
-    let Ok(blocks) = blocks_of(alloc, unit) else {
+    let Ok(blocks) = blocks_of(alloc, keys, unit) else {
         return Err(NoMemory);
     };
     let Ok(groups) = groups_of(alloc, scope, &table, blocks.keys()) else {

@@ -2,16 +2,15 @@
 ghost use Rattle.std.specs.Prelude.{◌≡◌, ◌&&◌, IfOk};
 ghost use Rattle.formula.specs.Atoms.{same_bytes};
 ghost use Rattle.fort_syntax.specs.Units.{sort_or_integer};
-ghost use Rattle.unit_decl.specs.Scoping.{scope_by};
+ghost use Rattle.unit_scope.specs.Scoping.{scope_by};
 ghost use Rattle.unit_decl.specs.UnitParts.{is_held_in, is_data_in, role_in, data_name_in, data_names_in, function_name_in, functions_in, sort_in};
 
-use crate::key::Key;
-use crate::names::is_intrinsic_name;
-use crate::scoped::Scoped;
-use crate::use_rules::{Roles, is_own};
 use edge_io::{List, NoMemory};
 use fort_syntax::{DataName, Dim, FunctionName, Name, Role, Sort};
 use std::alloc::Global;
+use stmt_names::is_intrinsic_name;
+use unit_scope::Scoped;
+use use_faults::{Roles, is_own};
 
 fn sort_or_integer(sort: Option<Sort>) -> Sort
     ensures { result ≡ sort_or_integer sort }
@@ -85,17 +84,14 @@ fn data_names_among(
     alloc: Global,
     roles: &Roles,
     own: &[u8],
-    keys: &[Key],
+    names: &[Name],
 ) -> Result<List<DataName>, NoMemory>
-    ensures { IfOk result (λ names. names ≡ data_names_in roles.now own.now keys.now) }
+    ensures { IfOk result (λ made. made ≡ data_names_in roles.now own.now names.now) }
 {
     let mut all = Vec::new(alloc);
-    for key in keys {
-        let Some(name) = key.name() else {
-            return Err(NoMemory);
-        };
-        if is_data(roles, own, &name) {
-            let Ok(made) = data_name(alloc, roles, own, name) else {
+    for name in names {
+        if is_data(roles, own, name) {
+            let Ok(made) = data_name(alloc, roles, own, *name) else {
                 return Err(NoMemory);
             };
             if all.push(made).is_err() {
@@ -114,7 +110,7 @@ pub(crate) fn data_names(
 ) -> Result<List<DataName>, NoMemory>
     ensures { IfOk result (λ names. names ≡ data_names_in roles.now own.now roles.now.names) }
 {
-    data_names_among(alloc, roles, own, roles.names.keys())
+    data_names_among(alloc, roles, own, roles.names.names())
 }
 
 fn function_name(scope: &Scoped, name: Name) -> FunctionName
@@ -130,16 +126,13 @@ fn function_name(scope: &Scoped, name: Name) -> FunctionName
 pub(crate) fn functions(
     alloc: Global,
     scope: &Scoped,
-    keys: &[Key],
+    names: &[Name],
 ) -> Result<List<FunctionName>, NoMemory>
-    ensures { IfOk result (λ functions. functions ≡ functions_in (scope_by scope.now) keys.now) }
+    ensures { IfOk result (λ functions. functions ≡ functions_in (scope_by scope.now) names.now) }
 {
     let mut all = Vec::new(alloc);
-    for key in keys {
-        let Some(name) = key.name() else {
-            return Err(NoMemory);
-        };
-        if !is_intrinsic_name(&name) && all.push(function_name(scope, name)).is_err() {
+    for name in names {
+        if !is_intrinsic_name(name) && all.push(function_name(scope, *name)).is_err() {
             return Err(NoMemory);
         }
     }

@@ -1,14 +1,16 @@
 // The head, the dummies, the executable statements and the END of a unit.
-ghost use Rattle.std.specs.Prelude.{◌≡◌, [], ◌∷◌, ◌++◌, IfSome, IfOk, OnOk};
-ghost use Rattle.fort_syntax.specs.Units.{class_of, is_performing, headed_by, own_name, dummies_of, executables, card_of_first, card_of_last};
+ghost use Rattle.std.specs.Prelude.{◌≡◌, [], ◌∷◌, ◌++◌, is_some, IfSome, IfOk, OnOk};
+ghost use Rattle.fort_syntax.specs.Units.{class_of, is_heading, is_performing, headed_by, own_name, dummies_of, executables, card_of_first, card_of_last};
+ghost use Rattle.unit_decl.specs.Heads.{is_headed};
 
-use crate::heads::dummies_by;
 use edge_io::{List, NoMemory};
 use fort_syntax::{Class, Line, Name, Plain, Stmt};
 use std::alloc::Global;
+use stmt_names::dummies_by;
 
 fn head_name(stmt: &Stmt) -> Option<Name>
-    ensures { IfSome result (λ name. name ≡ headed_by stmt.now) }
+    ensures some { is_some result ≡ is_heading (class_of stmt.now) }
+    ensures name { IfSome result (λ name. name ≡ headed_by stmt.now) }
 {
     match stmt {
         Stmt::Subroutine(name, _) => Some(*name),
@@ -19,7 +21,8 @@ fn head_name(stmt: &Stmt) -> Option<Name>
 
 /// The name of a unit, where its first statement is a head.
 pub(crate) fn unit_name(unit: &[Line]) -> Option<Name>
-    ensures { IfSome result (λ name. name ≡ own_name unit.now) }
+    ensures some { is_some result ≡ is_headed unit.now }
+    ensures name { IfSome result (λ name. name ≡ own_name unit.now) }
 {
     if unit.is_empty() {
         None
@@ -28,12 +31,14 @@ pub(crate) fn unit_name(unit: &[Line]) -> Option<Name>
     }
 }
 
+/// The card of the first of some statements: 0 of none.
 pub(crate) fn first_card(unit: &[Line]) -> u32
     ensures { result ≡ card_of_first unit.now }
 {
     if unit.is_empty() { 0 } else { unit[0].card }
 }
 
+/// The card of the last of some statements: 0 of none.
 pub(crate) fn last_card(unit: &[Line]) -> u32
     ensures { result ≡ card_of_last 0 unit.now }
 {
@@ -75,7 +80,7 @@ fn is_executable(line: &Line) -> bool
 }
 
 /// Adds a statement behind some.
-pub(crate) fn push_whole(all: &mut Vec<Line>, line: Line) -> Result<(), NoMemory>
+fn push_whole(all: &mut Vec<Line>, line: Line) -> Result<(), NoMemory>
     ensures { OnOk result (all.new.items ≡ all.old.items ++ line ∷ []) }
 {
     match all.push(line) {

@@ -11,3 +11,4 @@ pub mod Steps
 pub mod TermsRead
 pub mod Replies
 pub mod Taken
+pub mod CardsAscend

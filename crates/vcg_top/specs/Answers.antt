@@ -11,7 +11,7 @@ use Rattle.fort_syntax.specs.declared.deck.Deck.{Deck}
 use Rattle.fort_syntax.specs.declared.dialect.Dialect.{Dialect}
 use Rattle.fort_syntax.specs.declared.dialect.Dialect.TheVariants.{Common, SeventySeven}
 use Rattle.fort_syntax.specs.declared.refusal.Fault.{Fault}
-use Rattle.unit_decl.specs.Decks.{IsDeckOf, IsFirstFault}
+use Rattle.deck_entries.specs.Decks.{IsDeckOf, IsFirstFault}
 use Rattle.event_text.specs.EventText.{event_text}
 use Rattle.event_text.specs.Sending.{AppendsPart}
 use Rattle.event_text.specs.declared.marks.Marks.{Marks}

@@ -120,8 +120,9 @@ fn answer<K: Sink>(alloc: Global, dialect: Dialect, sink: &mut K, bytes: &[u8]) 
     ensures nothing { result ≡ Starved → sink.new ≡ sink.old }
     ensures later { K.faults sink.old ≤ K.faults sink.new }
 {
-    match read_deck(alloc, dialect, bytes) {
-        Ok(deck) => tell_deck(alloc, Keys::of(bytes), sink, &deck),
+    let keys = Keys::of(bytes);
+    match read_deck(alloc, keys, dialect, bytes) {
+        Ok(deck) => tell_deck(alloc, keys, sink, &deck),
         Err(Refusal::Broken(fault)) => refuse(sink, &fault),
         Err(Refusal::NoMemory) => Status::NoMemory,
     }

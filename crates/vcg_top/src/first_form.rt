@@ -12,7 +12,7 @@ use edge_io::{List, NoMemory};
 use formula::{TermId, TermPool};
 use fort_syntax::{DataName, Deck, Name, Placed, Sort, Unit};
 use std::alloc::Global;
-use unit_decl::is_intrinsic_name;
+use stmt_names::is_intrinsic_name;
 
 /// A deck of the first form: the name of its subroutine, the dummies, the terms of its input and
 /// output assertions, its assignments, and the card of its RETURN.

@@ -2,9 +2,17 @@ use Rattle.std.proofs.Common.{◌≡◌, rules, None, sym, ap, subst, ◌∙◌}
 use Rattle.std.specs.Prelude.{map}
 use Rattle.fort_syntax.specs.Units.{segments, unit_of}
 use Rattle.fort_syntax.specs.UnitRules.{fault_of}
-use Rattle.unit_decl.specs.Decks.{IsDeckOf}
-use Rattle.unit_decl.proofs.EntriesRead.{deck_found}
+use Rattle.deck_entries.specs.Decks.{IsDeckOf}
+use Rattle.deck_entries.proofs.EntriesRead.{deck_found}
+use Rattle.unit_decl.proofs.HeadedUnits.{units_headed}
 use Rattle.unit_decl.proofs.deck.deck_or_fault.Goals as goal
+
+pub units_of-requires : goal.units_of-requires
+units_of-requires c =
+    let d = c.args.dialect in
+    let none : c.in-Ok-first_fault.fault ≡ None = search rules in
+    units_headed d c.as_slice-2.result.now
+    (sym none ∙ c.in-Ok-first_fault.ensures ∙ ap (fault_of d) (c.as_slice.ensures.value ∙ sym c.as_slice-2.ensures.value))
 
 pub returns-clause-deck : goal.returns-clause-deck
 returns-clause-deck c =

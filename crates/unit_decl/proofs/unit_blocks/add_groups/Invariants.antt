@@ -1,7 +1,7 @@
 use Rattle.std.proofs.Common.{◌≡◌, drop}
 use Rattle.std.specs.Prelude.{map}
 use Rattle.fort_syntax.specs.Units.{name_of_block}
-use Rattle.unit_decl.specs.Sets.{with_names}
+use Rattle.name_tables.specs.Sets.{with_names}
 use Rattle.unit_decl.proofs.unit_blocks.add_groups.Given as goal
 
 abbrev pub invariant-loop-group : goal.invariant-loop-group

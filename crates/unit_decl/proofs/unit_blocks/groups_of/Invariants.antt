@@ -1,6 +1,6 @@
 use Rattle.std.proofs.Common.{◌≡◌, ◌++◌, drop}
 use Rattle.std.specs.Prelude.{map}
-use Rattle.unit_decl.specs.Scoping.{scope_by}
+use Rattle.unit_scope.specs.Scoping.{scope_by}
 use Rattle.unit_decl.specs.UnitParts.{group_in}
 use Rattle.unit_decl.proofs.unit_blocks.groups_of.Given as goal
 

@@ -1,6 +1,6 @@
 use Rattle.std.proofs.Common.{◌∙◌}
 use Rattle.std.specs.Prelude.{map}
-use Rattle.unit_decl.specs.Scoping.{scope_by}
+use Rattle.unit_scope.specs.Scoping.{scope_by}
 use Rattle.unit_decl.specs.UnitParts.{group_in}
 use Rattle.unit_decl.proofs.UnitMade.{groups_made}
 use Rattle.unit_decl.proofs.unit_blocks.unit_groups.Goals as goal

@@ -1,0 +1,3 @@
+pub mod SoundDecks
+pub mod OneProgram
+pub mod NoFault

@@ -1,0 +1,4 @@
+pub mod ScannedUnits
+pub mod ToldCalls
+pub mod KnownCallees
+pub mod StageTold

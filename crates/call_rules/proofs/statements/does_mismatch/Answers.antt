@@ -1,0 +1,12 @@
+use Rattle.std.proofs.Common.{sym, ◌∙◌}
+use Rattle.fort_model.specs.CallRules.{mismatches}
+use Rattle.fort_model.specs.Calls.{callee_of}
+use Rattle.call_rules.proofs.ScannedUnits.{at_unit}
+use Rattle.call_rules.proofs.statements.does_mismatch.Goals as goal
+
+pub returns-in-Some : goal.returns-in-Some
+returns-in-Some c =
+    let units = c.args.deck.now.units.now in
+    c.mismatches.ensures c.in-Some.number
+    ∙ sym (at_unit units (callee_of units c.args.site.now) c.in-Some.number c.book.result.now.unit.now (mismatches c.args.caller.now.unit.now c.args.site.now)
+    (sym c.callee.ensures.value ∙ c.in-Some.is) c.book.ensures)

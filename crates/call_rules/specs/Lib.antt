@@ -1,0 +1,4 @@
+pub mod CallFaults
+pub mod Taken
+pub mod Scanned
+pub mod Stage

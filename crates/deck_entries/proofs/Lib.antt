@@ -1,0 +1,3 @@
+pub mod NotePlaces
+pub mod EntriesRead
+pub mod DeckOrFault

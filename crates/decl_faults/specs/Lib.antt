@@ -1,0 +1,4 @@
+pub mod NameScans
+pub mod Commons
+pub mod Facts
+pub mod Sizes

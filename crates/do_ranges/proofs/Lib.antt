@@ -1,0 +1,5 @@
+pub mod Ending
+pub mod Covered
+pub mod LeastClock
+pub mod Joined
+pub mod Carried

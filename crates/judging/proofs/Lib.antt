@@ -1,0 +1,4 @@
+pub mod DecksMade
+pub mod OneJudgement
+pub mod NoneBoth
+pub mod OneFault

@@ -1,0 +1,3 @@
+pub mod GrownSteps
+pub mod Pools
+pub mod Twins

@@ -1,0 +1,13 @@
+pub mod Small
+pub mod PartsGive
+pub mod FormsGive
+pub mod NotesJudged
+pub mod AllJudged
+pub mod NamesFit
+pub mod NotesFit
+pub mod CardsIncrease
+pub mod PointsIncrease
+pub mod DefinitionsRead
+pub mod TermsRead
+pub mod SmallBounds
+pub mod NoteFaults

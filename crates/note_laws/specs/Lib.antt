@@ -1,0 +1,3 @@
+pub mod Increase
+pub mod Laws
+pub mod Readable

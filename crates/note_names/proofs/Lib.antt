@@ -1,0 +1,5 @@
+pub mod CountedClocks
+pub mod RoleTables
+pub mod Sizes
+pub mod StepTerms
+pub mod Tests

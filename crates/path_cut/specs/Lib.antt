@@ -1,0 +1,4 @@
+pub mod Ways
+pub mod Work
+pub mod Courses
+pub mod Cursor

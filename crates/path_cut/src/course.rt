@@ -1,0 +1,235 @@
+// Where the search for paths stands.
+ghost use Rattle.std.specs.Prelude.{◌≡◌, ◌<◌, ◌∷◌, ◌++◌, [], true, length, drop, slice_get, is_some, IfOk, OnOk};
+ghost use Rattle.path_cut.specs.declared.course.Stage.TheVariants.{On, Choose, Back};
+ghost use Rattle.fort_model.specs.declared.graph.Target.TheVariants.{Point};
+ghost use Rattle.path_cut.specs.Courses.{Moves, Enters, Undoes, stage_behind, SharesFront, Begins, SharesSteps, is_moving, left_of, way_now};
+
+use crate::flow::Flow;
+use crate::step::Step;
+use edge_io::NoMemory;
+use fort_model::Target;
+
+/// What is to be done next.
+#[derive(Clone, Copy)]
+pub(crate) enum Stage {
+    /// To go on at a target.
+    On(Target),
+    /// To choose at a fork, told by its number, behind so many of its targets that were tried.
+    Choose(u32, usize),
+    /// To undo the last step.
+    Back,
+    /// A path has ended at a point.
+    Ended(u32),
+    /// There is no other path.
+    Over,
+}
+
+/// The number of the start, 0 for the entry and else that of an ASSERT, the steps from there, how
+/// many of them a path before has too, and what is to be done next.
+#[derive(Drop)]
+pub(crate) struct Course {
+    pub(crate) start: usize,
+    pub(crate) steps: Vec<Step>,
+    pub(crate) shared: usize,
+    pub(crate) stage: Stage,
+}
+
+// What is to be done once a step is undone.
+fn behind(step: Step) -> Stage
+    ensures { result ≡ stage_behind step }
+{
+    match step {
+        Step::At(_) => Stage::Back,
+        Step::Choice(fork, tried) => Stage::Choose(fork, tried),
+    }
+}
+
+impl Course {
+    // One step more, and then a target.
+    fn push(&mut self, step: Step, target: Target) -> Result<(), NoMemory>
+        ensures start { OnOk result (self.new.start ≡ self.old.start) }
+        ensures steps { OnOk result (self.new.steps.items ≡ self.old.steps.items ++ step ∷ []) }
+        ensures shared { OnOk result (self.new.shared ≡ self.old.shared) }
+        ensures stage { OnOk result (self.new.stage ≡ On target) }
+    {
+        let Ok(()) = self.steps.push(step) else {
+            return Err(NoMemory);
+        };
+        self.stage = Stage::On(target);
+        Ok(())
+    }
+
+    // To the next target of a fork.
+    fn choose(&mut self, flow: &Flow, fork: u32, tried: usize) -> Result<(), NoMemory>
+        ensures moves { OnOk result (Moves flow.now self.old (Choose fork tried) self.new) }
+        ensures shares { OnOk result (SharesFront self.old self.new) }
+    {
+        let Some(target) = flow.turn(fork, tried) else {
+            self.stage = Stage::Back;
+            return Ok(());
+        };
+        let Ok(()) = self.push(Step::Choice(fork, tried + 1), target) else {
+            return Err(NoMemory);
+        };
+        Ok(())
+    }
+
+    // To what the statement at a point leads to, if there is one.
+    fn enter(&mut self, flow: &Flow, point: u32) -> Result<(), NoMemory>
+        ensures moves { OnOk result (Enters flow.now self.old point self.new) }
+        ensures shares { OnOk result (SharesFront self.old self.new) }
+    {
+        let Some(target) = flow.start(point) else {
+            self.stage = Stage::Back;
+            return Ok(());
+        };
+        let Ok(()) = self.push(Step::At(point), target) else {
+            return Err(NoMemory);
+        };
+        Ok(())
+    }
+
+    // On from a target.
+    fn go_on(&mut self, flow: &Flow, target: Target) -> Result<(), NoMemory>
+        ensures moves { OnOk result (Moves flow.now self.old (On target) self.new) }
+        ensures shares { OnOk result (SharesFront self.old self.new) }
+    {
+        if self.steps.len() as u128 >= flow.limit {
+            self.stage = Stage::Back;
+            return Ok(());
+        }
+        match target {
+            Target::Fork(fork) => {
+                self.stage = Stage::Choose(fork, 0);
+                Ok(())
+            }
+            Target::Point(point) => self.pass(flow, point),
+        }
+    }
+
+    // Through a point, or to its end.
+    fn pass(&mut self, flow: &Flow, point: u32) -> Result<(), NoMemory>
+        requires { length self.old.steps.items < flow.now.limit }
+        ensures moves { OnOk result (Moves flow.now self.old (On (Point point)) self.new) }
+        ensures shares { OnOk result (SharesFront self.old self.new) }
+    {
+        if flow.is_cut(point) {
+            self.stage = Stage::Ended(point);
+            return Ok(());
+        }
+        let Ok(()) = self.enter(flow, point) else {
+            return Err(NoMemory);
+        };
+        Ok(())
+    }
+
+    // To the next start, if there is one.
+    fn begin_next(&mut self, flow: &Flow) -> Result<(), NoMemory>
+        requires { self.old.steps.items ≡ [] }
+        ensures moves { OnOk result (Moves flow.now self.old Back self.new) }
+        ensures shares { OnOk result (SharesFront self.old self.new) }
+    {
+        let Some(point) = flow.cut(self.start) else {
+            self.stage = Stage::Over;
+            return Ok(());
+        };
+        self.start += 1;
+        let Ok(()) = self.enter(flow, point) else {
+            return Err(NoMemory);
+        };
+        Ok(())
+    }
+
+    // Takes the last step away.
+    fn undo(&mut self) -> Step
+        requires { 0 < length self.old.steps.items }
+        ensures undone { Undoes self.old result self.new }
+        ensures shares { SharesFront self.old self.new }
+    {
+        let step = match self.steps.pop() {
+            Some(step) => step,
+            None => unreachable!(),
+        };
+        let left = self.steps.len();
+        self.shared = if left < self.shared {
+            left
+        } else {
+            self.shared
+        };
+        step
+    }
+
+    // Undoes the last step, if there is one, and stands before what comes behind it.
+    fn back(&mut self, flow: &Flow) -> Result<(), NoMemory>
+        ensures moves { OnOk result (Moves flow.now self.old Back self.new) }
+        ensures shares { OnOk result (SharesFront self.old self.new) }
+    {
+        if self.steps.is_empty() {
+            return self.begin_next(flow);
+        }
+        let step = self.undo();
+        self.stage = behind(step);
+        Ok(())
+    }
+
+    // One turn of the search.
+    fn turn(&mut self, flow: &Flow) -> Result<(), NoMemory>
+        requires { is_moving self.old.stage ≡ true }
+        ensures moves { OnOk result (Moves flow.now self.old self.old.stage self.new) }
+        ensures shares { OnOk result (SharesFront self.old self.new) }
+    {
+        match self.stage {
+            Stage::On(target) => self.go_on(flow, target),
+            Stage::Choose(fork, tried) => self.choose(flow, fork, tried),
+            Stage::Back => self.back(flow),
+            Stage::Ended(_) | Stage::Over => Ok(()),
+        }
+    }
+
+    // Whether the search goes on.
+    fn is_moving(&self) -> bool
+        ensures { result ≡ is_moving self.now.stage }
+    {
+        match self.stage {
+            Stage::On(_) | Stage::Choose(_, _) | Stage::Back => true,
+            Stage::Ended(_) | Stage::Over => false,
+        }
+    }
+
+    // Starts the search behind the path that has ended.
+    fn begin(&mut self)
+        ensures { Begins self.old self.new }
+    {
+        if let Stage::Ended(_) = self.stage {
+            self.stage = Stage::Back;
+        }
+        self.shared = self.steps.len();
+    }
+
+    /// To the end of the next path, if there is one. After a refusal nothing is known of the paths
+    /// that are left.
+    pub(crate) fn advance(&mut self, flow: &Flow) -> Result<bool, NoMemory>
+        ensures found { IfOk result (λ b. b ≡ is_some (slice_get (left_of flow.now self.old) 0)) }
+        ensures way { OnOk result (way_now self.new ≡ slice_get (left_of flow.now self.old) 0) }
+        ensures left { OnOk result (left_of flow.now self.new ≡ drop 1 (left_of flow.now self.old)) }
+        ensures shared { OnOk result (SharesSteps self.old self.new) }
+    {
+        self.begin();
+        while self.is_moving() {
+            let Ok(()) = self.turn(flow) else {
+                return Err(NoMemory);
+            };
+        }
+        Ok(self.has_ended())
+    }
+
+    // Whether a path has ended.
+    fn has_ended(&self) -> bool
+        ensures { result ≡ is_some (way_now self.now) }
+    {
+        match self.stage {
+            Stage::Ended(_) => true,
+            _ => false,
+        }
+    }
+}

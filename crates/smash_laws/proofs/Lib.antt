@@ -1,0 +1,5 @@
+pub mod Tests
+pub mod Agreeing
+pub mod Growing
+pub mod Holding
+pub mod TableHolds

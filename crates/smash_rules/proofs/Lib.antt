@@ -1,0 +1,4 @@
+pub mod Commons
+pub mod OfCalls
+pub mod Telling
+pub mod Scanned

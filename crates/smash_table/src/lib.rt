@@ -1,0 +1,10 @@
+//! The table of smashed names: which names of its own each unit of a deck smashes, found unit after unit in the order of calls.
+#![tactic(auto)]
+
+mod calls;
+mod rows;
+mod sites;
+mod units;
+
+pub use calls::has_common;
+pub use units::smash_table;

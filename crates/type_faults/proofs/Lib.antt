@@ -1,0 +1,3 @@
+pub mod Typings
+pub mod Fittings
+pub mod PlainSubscripts

@@ -1,7 +1,0 @@
-use Rattle.std.proofs.Common.{◌≡◌, drop}
-use Rattle.unit_decl.specs.Facts.{members_by}
-use Rattle.unit_decl.specs.Commons.{remembered_from}
-use Rattle.unit_decl.proofs.common_rules.remember_unit.Given as goal
-
-abbrev pub invariant-loop-line : goal.invariant-loop-line
-invariant-loop-line l = remembered_from (members_by l.known) l.earlier (drop l.line-index l.unit) ≡ remembered_from (members_by l.known) l.initial.earlier l.unit

@@ -1,6 +1,0 @@
-use Rattle.std.proofs.Common.{◌≡◌, [], drop}
-use Rattle.unit_decl.specs.Commons.{tabled}
-use Rattle.unit_decl.proofs.common_table.commons_of.Given as goal
-
-abbrev pub invariant-loop-line : goal.invariant-loop-line
-invariant-loop-line l = tabled l.table (drop l.line-index l.unit) ≡ tabled [] l.unit

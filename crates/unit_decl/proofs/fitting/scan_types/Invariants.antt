@@ -1,7 +1,0 @@
-use Rattle.std.proofs.Common.{◌≡◌, drop}
-use Rattle.unit_decl.specs.Scoping.{scope_by}
-use Rattle.unit_decl.specs.Parts.{type_scan}
-use Rattle.unit_decl.proofs.fitting.scan_types.Given as goal
-
-abbrev pub invariant-loop-i : goal.invariant-loop-i
-invariant-loop-i l = type_scan (scope_by l.scope) (drop l.i l.unit) ≡ type_scan (scope_by l.scope) l.unit

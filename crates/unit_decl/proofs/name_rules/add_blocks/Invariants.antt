@@ -1,8 +1,0 @@
-use Rattle.std.proofs.Common.{◌≡◌, drop}
-use Rattle.std.specs.Prelude.{map}
-use Rattle.unit_decl.specs.Sets.{with_names}
-use Rattle.fort_syntax.specs.Units.{name_of_block}
-use Rattle.unit_decl.proofs.name_rules.add_blocks.Given as goal
-
-abbrev pub invariant-loop-group : goal.invariant-loop-group
-invariant-loop-group l = with_names l.blocks (map (λ g. name_of_block g.block) (drop l.group-index l.groups)) ≡ with_names l.initial.blocks (map (λ g. name_of_block g.block) l.groups)

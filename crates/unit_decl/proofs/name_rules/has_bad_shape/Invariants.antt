@@ -1,6 +1,0 @@
-use Rattle.std.proofs.Common.{◌≡◌, drop}
-use Rattle.unit_decl.specs.NameScans.{has_bad_shape}
-use Rattle.unit_decl.proofs.name_rules.has_bad_shape.Given as goal
-
-abbrev pub invariant-loop-item : goal.invariant-loop-item
-invariant-loop-item l = has_bad_shape l.dialect (drop l.item-index l.items) ≡ has_bad_shape l.dialect l.items

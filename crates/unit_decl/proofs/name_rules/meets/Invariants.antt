@@ -1,7 +1,0 @@
-use Rattle.std.proofs.Common.{◌≡◌, drop}
-use Rattle.std.specs.List.{list_any}
-use Rattle.formula.specs.Atoms.{is_among}
-use Rattle.unit_decl.proofs.name_rules.meets.Given as goal
-
-abbrev pub invariant-loop-name : goal.invariant-loop-name
-invariant-loop-name l = list_any (λ x. is_among x l.set) (drop l.name-index l.names) ≡ list_any (λ x. is_among x l.set) l.names

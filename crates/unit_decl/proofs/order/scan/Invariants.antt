@@ -1,7 +1,0 @@
-use Rattle.std.proofs.Common.{◌≡◌, drop, true, false}
-use Rattle.std.specs.Prelude.{◌==◌}
-use Rattle.unit_decl.specs.Scans.{order_scan}
-use Rattle.unit_decl.proofs.order.scan.Given as goal
-
-abbrev pub invariant-loop-i : goal.invariant-loop-i
-invariant-loop-i l = order_scan (l.i == 0) l.performed (drop l.i l.unit) ≡ order_scan true false l.unit

@@ -1,6 +1,0 @@
-use Rattle.std.proofs.Common.{◌≡◌, [], drop}
-use Rattle.unit_decl.specs.UseScans.{lines_from}
-use Rattle.unit_decl.proofs.roles.lines_of.Given as goal
-
-abbrev pub invariant-loop-line : goal.invariant-loop-line
-invariant-loop-line l = lines_from l.labels (drop l.line-index l.unit) ≡ lines_from [] l.unit

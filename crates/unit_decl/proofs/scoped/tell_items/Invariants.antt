@@ -1,6 +1,0 @@
-use Rattle.std.proofs.Common.{◌≡◌, drop}
-use Rattle.unit_decl.specs.Tables.{typed_items}
-use Rattle.unit_decl.proofs.scoped.tell_items.Given as goal
-
-abbrev pub invariant-loop-item : goal.invariant-loop-item
-invariant-loop-item l = typed_items l.sort l.table (drop l.item-index l.items) ≡ typed_items l.sort l.initial.table l.items

@@ -1,5 +1,0 @@
-use Rattle.std.proofs.Common.{◌≡◌, ◌∷◌, take}
-use Rattle.unit_decl.proofs.uses.function_names.Given as goal
-
-abbrev pub invariant-loop-name : goal.invariant-loop-name
-invariant-loop-name l = l.all.items ≡ l.fn.f ∷ take l.name-index l.dummies

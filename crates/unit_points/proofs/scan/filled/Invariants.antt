@@ -1,0 +1,5 @@
+use Rattle.std.proofs.Common.{◌≡◌, replicate}
+use Rattle.unit_points.proofs.scan.filled.Given as goal
+
+abbrev pub invariant-loop : goal.invariant-loop
+invariant-loop l = l.all.items ≡ replicate l.counter l.value

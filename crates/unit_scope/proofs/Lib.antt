@@ -1,0 +1,2 @@
+pub mod Scopings
+pub mod SameMembers

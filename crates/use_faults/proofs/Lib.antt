@@ -1,0 +1,5 @@
+pub mod RoleFacts
+pub mod UseScanned
+pub mod UseSteps
+pub mod CarriedLabels
+pub mod OnceNames

@@ -1,0 +1,2 @@
+pub mod UseScans
+pub mod Roles

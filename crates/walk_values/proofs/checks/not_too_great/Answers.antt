@@ -1,0 +1,41 @@
+use Rattle.std.proofs.Common.{◌∙◌, refl}
+use Rattle.formula.specs.declared.function.BuiltIn.TheVariants.{AtMost}
+use Rattle.formula.proofs.Grown.{Grows-trans, tree_of-Grows}
+use Rattle.fort_syntax.specs.declared.condition.Kind.TheVariants.{RangeCheck}
+use Rattle.fort_model.specs.Senses.{make2, of_terms}
+use Rattle.walk_state.specs.declared.walk.Walk.{Walk}
+use Rattle.walk_state.proofs.Parts.{follows_then, grew}
+use Rattle.walk_values.proofs.Checked.{checked_after}
+use Rattle.walk_values.proofs.checks.not_too_great.Goals as goal
+
+pub returns-in_default-clause-on : goal.returns-in_default-clause-on
+returns-in_default-clause-on c = (grew c.args.walk.now _ c.requires.well c.greatest_integer.ensures.grows refl refl refl).on
+
+pub returns-in_default-binary-clause-on : goal.returns-in_default-binary-clause-on
+returns-in_default-binary-clause-on c =
+    (grew c.args.walk.now _ c.requires.well (Grows-trans _ _ _ c.greatest_integer.ensures.grows c.binary.ensures.grows) refl refl refl).on
+
+pub check-requires-clause-well : goal.check-requires-clause-well
+check-requires-clause-well c =
+    (grew c.args.walk.now _ c.requires.well (Grows-trans _ _ _ c.greatest_integer.ensures.grows c.binary.ensures.grows) refl refl refl).on.kept
+
+pub returns-in_err-check-clause-on : goal.returns-in_err-check-clause-on
+returns-in_err-check-clause-on c =
+    let w0 = c.args.walk.now in
+    let w1 : Walk = record { pool = c.binary.new.self; names = w0.names; met = w0.met; calls = w0.calls; alloc = w0.alloc } in
+    follows_then w0 w1 _ (grew w0 w1 c.requires.well (Grows-trans _ _ _ c.greatest_integer.ensures.grows c.binary.ensures.grows) refl refl refl).on c.check.ensures.on
+
+pub returns-clause-on : goal.returns-clause-on
+returns-clause-on c =
+    let w0 = c.args.walk.now in
+    let w1 : Walk = record { pool = c.binary.new.self; names = w0.names; met = w0.met; calls = w0.calls; alloc = w0.alloc } in
+    follows_then w0 w1 _ (grew w0 w1 c.requires.well (Grows-trans _ _ _ c.greatest_integer.ensures.grows c.binary.ensures.grows) refl refl refl).on c.check.ensures.on
+
+pub returns-clause-met : goal.returns-clause-met
+returns-clause-met c =
+    let w0 = c.args.walk.now in
+    let w1 : Walk = record { pool = c.binary.new.self; names = w0.names; met = w0.met; calls = w0.calls; alloc = w0.alloc } in
+    let g = grew w0 w1 c.requires.well (Grows-trans _ _ _ c.greatest_integer.ensures.grows c.binary.ensures.grows) refl refl refl in
+    let number = tree_of-Grows w0.pool c.greatest_integer.new.pool c.args.number c.greatest_integer.ensures.grows c.requires.number in
+    checked_after w0 w1 _ RangeCheck c.args.card _ _ g c.in_ok-check.ensures.met
+    (c.in-Ok-binary.ensures.tree ∙ (λ i. make2 of_terms AtMost (number i) (c.in-Ok.ensures.tree i)))

@@ -1,0 +1,2 @@
+pub mod PathsOf
+pub mod Laws
