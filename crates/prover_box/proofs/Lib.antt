@@ -1,3 +1,3 @@
-pub mod Closed
+pub mod ClosedGoals
 pub mod Standing
 pub mod Asked

@@ -1,5 +1,5 @@
 -- Terms that stand among others, by their ids and as trees.
-use Rattle.std.proofs.Common.{◌≡◌, inl, inr, ◌⊎◌, ℕ, zero, suc, ℤ, ◌+◌, ◌<◌, ◌≤◌, Bool, true, false, cond, not, ◌&&◌, List, [], ◌∷◌, length, map, IsTrue, Contains, refl, sym, ap, ◌∙◌, subst, true≢false, arith, slice_index_or}
+use Rattle.std.proofs.Common.{◌≡◌, inl, inr, ◌⊎◌, ℕ, zero, suc, ℤ, ◌+◌, ◌<◌, ◌≤◌, Bool, true, false, cond, not, ◌&&◌, List, [], ◌∷◌, length, map, IsTrue, Contains, refl, sym, ap, ◌∙◌, subst, true≢false, arith, slice_index_or, get_or}
 use Rattle.std.specs.List.{list_all}
 use Rattle.std.specs.Ordering.{int_eq}
 use Rattle.std.proofs.lemmas.Bool.Decides.{Decides-int_eq}
@@ -12,6 +12,10 @@ use Rattle.formula.specs.declared.value.Value.TheVariants.{Int, Logical, Undefin
 use Rattle.formula.specs.Tree.{Tree, num, truth, symbol, old, apply, Row, none, more}
 use Rattle.formula.specs.Values.{holds, same_cell, same_cells, same_value}
 use Rattle.formula.specs.Worth.{Function, Valuation, nothing_known, assigned, worth, is_true_under, IsValid}
+use Rattle.formula.specs.declared.node.Node.{Node}
+use Rattle.formula.specs.declared.node.Node.TheVariants.{Apply}
+use Rattle.formula.specs.declared.node.TermId.{TermId}
+use Rattle.formula.specs.Pool.{tree_of, tree_in, row_in, trees}
 use Rattle.prover_box.specs.Tests.{IsSubsumed}
 
 first_of : (p q : Bool) → p && q ≡ true → p ≡ true
@@ -24,16 +28,16 @@ second_of false q e = absurd (true≢false (sym e))
 
 -- hypotheses that are all true make each of them true
 all_true : (test : Tree → Bool) (hyps : List Tree) (t : Tree) → Contains hyps t → list_all test hyps ≡ true → test t ≡ true
-all_true test [] t (k, (below, at)) h = absurd (omega (arith, below))
-all_true test (x ∷ hyps) t (zero, (below, at)) h = subst (λ s. test s ≡ true) at (first_of (test x) (list_all test hyps) h)
-all_true test (x ∷ hyps) t (suc k, (below, at)) h = all_true test hyps t (k, (omega (arith, below), at)) (second_of (test x) (list_all test hyps) h)
+all_true test [] t (k, below, at) h = absurd (omega (arith, below))
+all_true test (x ∷ hyps) t (zero, below, at) h = subst (λ s. test s ≡ true) at (first_of (test x) (list_all test hyps) h)
+all_true test (x ∷ hyps) t (suc k, below, at) h = all_true test hyps t (k, omega (arith, below), at) (second_of (test x) (list_all test hyps) h)
 
 -- a condition is not false where its hypotheses make its goal true
 implied : (hyps goal : Bool) → (hyps ≡ true → goal ≡ true) → IsTrue (not (hyps && not goal))
-implied true true h = tt
-implied false true h = tt
+implied true true h = refl
+implied false true h = refl
 implied true false h = absurd (true≢false (sym (h refl)))
-implied false false h = tt
+implied false false h = refl
 
 -- ---- a value equals itself
 
@@ -70,8 +74,88 @@ subsumed_is_valid fs hyps goal s assignment =
     let test : Tree → Bool = is_true_under fs (assigned assignment) nothing_known in
     implied (list_all test hyps) (test goal) (by_cases s)
   where
-  by_cases : IsSubsumed hyps goal → list_all (is_true_under fs (assigned assignment) nothing_known) hyps ≡ true → is_true_under fs (assigned assignment) nothing_known goal ≡ true
-  by_cases (inl among) h = all_true (is_true_under fs (assigned assignment) nothing_known) hyps goal among h
-  by_cases (inr (inl falsehood)) h = absurd (true≢false (sym (all_true (is_true_under fs (assigned assignment) nothing_known) hyps (truth false) falsehood h)))
-  by_cases (inr (inr (inl is_t))) h = ap (is_true_under fs (assigned assignment) nothing_known) is_t
-  by_cases (inr (inr (inr (t, is_twice)))) h = ap (is_true_under fs (assigned assignment) nothing_known) is_twice ∙ value_itself (worth fs (assigned assignment) nothing_known t)
+    by_cases : IsSubsumed hyps goal → list_all (is_true_under fs (assigned assignment) nothing_known) hyps ≡ true → is_true_under fs (assigned assignment) nothing_known goal ≡ true
+    by_cases (inl among) h = all_true (is_true_under fs (assigned assignment) nothing_known) hyps goal among h
+    by_cases (inr (inl falsehood)) h = absurd (true≢false (sym (all_true (is_true_under fs (assigned assignment) nothing_known) hyps (truth false) falsehood h)))
+    by_cases (inr (inr (inl is_t))) h = ap (is_true_under fs (assigned assignment) nothing_known) is_t
+    by_cases (inr (inr (inr (t, is_twice)))) h = ap (is_true_under fs (assigned assignment) nothing_known) is_twice ∙ value_itself (worth fs (assigned assignment) nothing_known t)
+
+-- ---- what the code finds
+
+nowhere : TermId
+nowhere = record { place = 0 }
+
+mapped_length : {A B : Type 0} (f : A → B) (xs : List A) → length (map f xs) ≡ length xs
+mapped_length f [] = refl
+mapped_length f (x ∷ xs) = ap suc (mapped_length f xs)
+
+mapped_at : {A B : Type 0} (f : A → B) (xs : List A) (i : ℕ) (d : A) (y : B) → i < length xs → slice_index_or (map f xs) i y ≡ f (get_or xs i d)
+mapped_at f [] i d y below = absurd (omega (arith, below))
+mapped_at f (x ∷ xs) zero d y below = refl
+mapped_at f (x ∷ xs) (suc i) d y below = mapped_at f xs i d y (omega (arith, below))
+
+module _ (pool : List Node) (hyps : List TermId) (goal : Tree) where
+  -- a hypothesis is the goal, or F
+  abbrev pub Stands : TermId → Type 0
+  Stands hyp = (tree_of pool hyp ≡ goal) ⊎ (tree_of pool hyp ≡ truth false)
+
+  abbrev pub Among : Type 0
+  Among = Contains (map (tree_of pool) hyps) goal ⊎ Contains (map (tree_of pool) hyps) (truth false)
+
+  contains_at : (i : ℕ) (t : Tree) → i < length hyps → tree_of pool (get_or hyps i nowhere) ≡ t → Contains (map (tree_of pool) hyps) t
+  contains_at i t below is = (i, subst (λ n. i < n) (sym (mapped_length (tree_of pool) hyps)) below, mapped_at (tree_of pool) hyps i nowhere t below ∙ is)
+
+  pub found_here : (i : ℕ) → i < length hyps → Stands (get_or hyps i nowhere) → Among
+  found_here i below (inl is) = inl (contains_at i goal below is)
+  found_here i below (inr is) = inr (contains_at i (truth false) below is)
+
+  at_contains : (t : Tree) → Contains (map (tree_of pool) hyps) t → (i : ℕ) × (i < length hyps) × (tree_of pool (get_or hyps i nowhere) ≡ t)
+  at_contains t (k, below, at) =
+      let within : k < length hyps = subst (λ n. k < n) (mapped_length (tree_of pool) hyps) below in
+      (k, within, sym (mapped_at (tree_of pool) hyps k nowhere t within) ∙ at)
+
+  pub found_nowhere : ((k : ℕ) → k < length hyps → Stands (get_or hyps k nowhere) → ⊥) → Among → ⊥
+  found_nowhere none (inl among) = let h = at_contains goal among in none h.0 h.1 (inl h.2)
+  found_nowhere none (inr among) = let h = at_contains (truth false) among in none h.0 h.1 (inr h.2)
+
+-- ---- equations
+
+-- a term is an equation with one term twice
+abbrev pub IsTwice : Tree → Type 0
+IsTwice t = (x : Tree) × (t ≡ apply (BuiltIn Equal) (more x (more x none)))
+
+module _ (pool : List Node) (node : Node) (args : List TermId) (t : Tree) (is : t ≡ tree_in (trees pool) node) (shape : node ≡ Apply (BuiltIn Equal) args) where
+  spelled : t ≡ apply (BuiltIn Equal) (row_in (trees pool) args)
+  spelled = is ∙ ap (tree_in (trees pool)) shape
+
+  pub twice_by : (r : Bool) → 2 ≤ length args → length args < 3 → (r ≡ true → tree_of pool (get_or args 0 nowhere) ≡ tree_of pool (get_or args 1 nowhere))
+      → (tree_of pool (get_or args 0 nowhere) ≡ tree_of pool (get_or args 1 nowhere) → r ≡ true) → (r ≡ true → IsTwice t) × (IsTwice t → r ≡ true)
+  twice_by r least most same one = two args r least most same one spelled
+    where
+      two : (xs : List TermId) (r : Bool) → 2 ≤ length xs → length xs < 3 → (r ≡ true → tree_of pool (get_or xs 0 nowhere) ≡ tree_of pool (get_or xs 1 nowhere))
+          → (tree_of pool (get_or xs 0 nowhere) ≡ tree_of pool (get_or xs 1 nowhere) → r ≡ true) → t ≡ apply (BuiltIn Equal) (row_in (trees pool) xs) → (r ≡ true → IsTwice t) × (IsTwice t → r ≡ true)
+      two [] r least most same one e = absurd (omega (arith, least))
+      two (a ∷ []) r least most same one e = absurd (omega (arith, least))
+      two (a ∷ b ∷ c ∷ rest) r least most same one e = absurd (omega (arith, most))
+      two (a ∷ b ∷ []) r least most same one e = (
+        (λ h. (tree_of pool a, e ∙ ap (λ u. apply (BuiltIn Equal) (more (tree_of pool a) (more u none))) (sym (same h)))),
+        (λ h. let both : apply (BuiltIn Equal) (more (tree_of pool a) (more (tree_of pool b) none)) ≡ apply (BuiltIn Equal) (more h.0 (more h.0 none)) = sym e ∙ h.1 in
+            let equal : tree_of pool a ≡ tree_of pool b = cc in one equal),
+      )
+
+  pub untwice_few : length args < 2 → IsTwice t → ⊥
+  untwice_few few h = none_two args few (sym spelled ∙ h.1)
+    where
+      none_two : (xs : List TermId) → length xs < 2 → apply (BuiltIn Equal) (row_in (trees pool) xs) ≡ apply (BuiltIn Equal) (more h.0 (more h.0 none)) → ⊥
+      none_two [] few e = absurd (cc)
+      none_two (a ∷ []) few e = absurd (cc)
+      none_two (a ∷ b ∷ xs) few e = absurd (omega (arith, few))
+
+  pub untwice_many : 2 < length args → IsTwice t → ⊥
+  untwice_many many h = none_two args many (sym spelled ∙ h.1)
+    where
+      none_two : (xs : List TermId) → 2 < length xs → apply (BuiltIn Equal) (row_in (trees pool) xs) ≡ apply (BuiltIn Equal) (more h.0 (more h.0 none)) → ⊥
+      none_two [] many e = absurd (omega (arith, many))
+      none_two (a ∷ []) many e = absurd (omega (arith, many))
+      none_two (a ∷ b ∷ []) many e = absurd (omega (arith, many))
+      none_two (a ∷ b ∷ c ∷ xs) many e = absurd (cc)

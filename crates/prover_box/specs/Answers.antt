@@ -32,13 +32,13 @@ unclosed = 45
 module _ (pool : List Node) (ds : List Definition) (c : Condition) where
   -- a prover that tells its test says yes just where the condition passes it
   abbrev pub IsTold : Option ℕ → Bool → Type 0
-  IsTold None yes = ⊤
-  IsTold (Some n) yes = IsTrue yes ↔ PassesTest pool ds n c
+  IsTold None closed = ⊤
+  IsTold (Some n) closed = IsTrue closed ↔ PassesTest pool ds n c
 
   -- an answer of a prover: a yes is right, and it is as the test tells
-  pub record IsAnswer (test : Option ℕ) (yes : Bool) : Type 0 where
-    pub sound : IsTrue yes → IsValidIn pool ds c
-    pub told : IsTold test yes
+  pub record IsAnswer (test : Option ℕ) (closed : Bool) : Type 0 where
+    pub sound : IsTrue closed → IsValidIn pool ds c
+    pub told : IsTold test closed
 
   -- Provers were asked in turn, up to one that said yes. The mark is the letter of that one; where all said no, it is `-`.
   abbrev pub AreAskedOnce : List Seen → List Seen → ℕ → Type 0

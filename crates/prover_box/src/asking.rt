@@ -20,7 +20,7 @@ fn ask(
 ) -> Result<bool, NoMemory>
     requires terms { IsConditionIn pool.now c.now }
     requires added { AreAdded pool.now definitions.now }
-    ensures answer { IfOk result (λ yes. IsAnswer pool.now definitions.now c.now (seen prover.old).test yes) }
+    ensures answer { IfOk result (λ closed. IsAnswer pool.now definitions.now c.now (seen prover.old).test closed) }
     ensures counted { seen prover.new ≡ once_more (seen prover.old) }
 {
     prover.close(alloc, pool, definitions, c)

@@ -45,7 +45,7 @@ fn passes(
 ) -> Result<bool, NoMemory>
     requires goal { IsIn pool.now goal }
     requires added { AreAdded pool.now definitions.now }
-    ensures { IfOk result (λ yes. yes ≡ is_true_closed (functions_of pool.now definitions.now) (tree_of pool.now goal)) }
+    ensures { IfOk result (λ closed. closed ≡ is_true_closed (functions_of pool.now definitions.now) (tree_of pool.now goal)) }
 {
     if pool.has_symbol(goal) {
         return Ok(false);
@@ -53,7 +53,8 @@ fn passes(
     let sheet = Sheet::new(alloc, pool.keys());
     match worth(alloc, pool, definitions, goal, &sheet, 10000) {
         Ok(value) => Ok(is_true(&value)),
-        Err(Worth::Beyond | Worth::Spent) => Ok(false),
+        Err(Worth::Beyond) => Ok(false),
+        Err(Worth::Spent) => Ok(false),
         Err(Worth::NoMemory) => Err(NoMemory),
     }
 }

@@ -39,6 +39,25 @@ fn is_truth(pool: &TermPool, id: TermId, b: bool) -> bool
     }
 }
 
+/// Whether two terms are one.
+fn is_same(pool: &TermPool, a: TermId, b: TermId) -> bool
+    requires a { IsIn pool.now a }
+    requires b { IsIn pool.now b }
+    ensures { (result ≡ true) ↔ (tree_of pool.now a ≡ tree_of pool.now b) }
+{
+    let _count = pool.count();
+    a.index() == b.index()
+}
+
+/// Whether a hypothesis is the goal, or F.
+fn is_goal_or_false(pool: &TermPool, hyp: TermId, goal: TermId) -> bool
+    requires hyp { IsIn pool.now hyp }
+    requires goal { IsIn pool.now goal }
+    ensures { (result ≡ true) ↔ ((tree_of pool.now hyp ≡ tree_of pool.now goal) ⊎ (tree_of pool.now hyp ≡ truth false)) }
+{
+    is_same(pool, hyp, goal) || is_truth(pool, hyp, false)
+}
+
 /// Whether a term is an equation with one term twice.
 fn is_equal_twice(pool: &TermPool, id: TermId) -> bool
     requires { IsIn pool.now id }
@@ -46,7 +65,7 @@ fn is_equal_twice(pool: &TermPool, id: TermId) -> bool
 {
     match pool.node(id) {
         Node::Apply(Func::BuiltIn(BuiltIn::Equal), args) => match args.as_slice() {
-            [a, b] => *a == *b,
+            [a, b] => is_same(pool, *a, *b),
             _ => false,
         },
         _ => false,
@@ -60,7 +79,7 @@ fn stands_among(pool: &TermPool, hyps: &[TermId], goal: TermId) -> bool
     ensures { (result ≡ true) ↔ (Contains (map (tree_of pool.now) hyps.now) (tree_of pool.now goal) ⊎ Contains (map (tree_of pool.now) hyps.now) (truth false)) }
 {
     for hyp in hyps {
-        if *hyp == goal || is_truth(pool, *hyp, false) {
+        if is_goal_or_false(pool, *hyp, goal) {
             return true;
         }
     }

@@ -1,5 +1,5 @@
 -- A goal that passes the first test is true under every assignment.
-use Rattle.std.proofs.Common.{◌≡◌, ℕ, Bool, true, false, not, ◌&&◌, ◌||◌, List, [], ◌∷◌, map, IsTrue, refl, sym, ap, ◌∙◌, subst, true≢false}
+use Rattle.std.proofs.Common.{◌≡◌, ◌↔◌, ℕ, Some, Result, Ok, Err, IfOk, Bool, true, false, not, ◌&&◌, ◌||◌, List, [], ◌∷◌, map, IsTrue, refl, sym, ap, ◌∙◌, subst, true≢false}
 use Rattle.std.specs.List.{list_all}
 use Rattle.formula.specs.declared.definition.Definition.{Definition}
 use Rattle.formula.specs.declared.node.Node.{Node}
@@ -11,6 +11,10 @@ use Rattle.formula.specs.Tree.{Tree, num, truth, symbol, old, apply, Row, none, 
 use Rattle.formula.specs.Values.{holds}
 use Rattle.formula.specs.Worth.{Uses, Valuation, Function, function_worth, worth_by, worths_by, worth, used, functions_of, nothing_known, assigned, is_true_under, IsValid}
 use Rattle.formula.proofs.BoundedWorth.{bounded_worth_is_worth}
+use Rattle.edge_io.specs.declared.errors.NoMemory.{NoMemory}
+use Rattle.fort_syntax.specs.declared.condition.Condition.{Condition}
+use Rattle.formula.specs.Pool.{tree_of}
+use Rattle.prover_box.specs.Answers.{IsAnswer}
 use Rattle.prover_box.specs.Tests.{comes_true, is_true_closed}
 
 left_of : (p q : Bool) → p || q ≡ false → p ≡ false
@@ -59,8 +63,8 @@ second_part true q h = absurd (true≢false (sym h))
 second_part false q h = h
 
 not_false : (hyps goal : Bool) → goal ≡ true → IsTrue (not (hyps && not goal))
-not_false true true h = tt
-not_false false true h = tt
+not_false true true h = refl
+not_false false true h = refl
 not_false true false h = absurd (true≢false (sym h))
 not_false false false h = absurd (true≢false (sym h))
 
@@ -73,4 +77,28 @@ closed_is_valid pool ds added hyps goal passed assignment =
     let at_nothing = bounded_worth_is_worth pool ds added (assigned []) nothing_known goal 10000 c.left c.value c.is in
     let same = closed_same (used fs) (assigned assignment) (assigned []) nothing_known goal closed in
     not_false (list_all (is_true_under fs (assigned assignment) nothing_known) hyps) (is_true_under fs (assigned assignment) nothing_known goal)
-        (ap holds (same ∙ at_nothing) ∙ c.true_value)
+    (ap holds (same ∙ at_nothing) ∙ c.true_value)
+
+-- ---- what the code finds
+
+module _ (fs : List Function) (t : Tree) (sheet : List (List ℕ × Value)) (b : Bool) (empty : sheet ≡ []) where
+  -- no symbol stands in the goal, and the evaluation came to a value
+  pub passed_by : (v : Value) (m : ℕ) → has_symbol t ≡ false → bounded fs (assigned sheet) nothing_known t 10000 ≡ got v m → b ≡ holds v → b ≡ is_true_closed fs t
+  passed_by v m closed came is =
+      let here : bounded fs (assigned []) nothing_known t 10000 ≡ got v m = ap (λ s. bounded fs (assigned s) nothing_known t 10000) (sym empty) ∙ came in
+      is ∙ sym (λ i. not (closed i) && comes_true (here i))
+
+  -- the evaluation came to nothing
+  pub unpassed_by : (o : Outcome Value) → comes_true o ≡ false → has_symbol t ≡ false → bounded fs (assigned sheet) nothing_known t 10000 ≡ o → false ≡ is_true_closed fs t
+  unpassed_by o nothing closed came =
+      let here : bounded fs (assigned []) nothing_known t 10000 ≡ o = ap (λ s. bounded fs (assigned s) nothing_known t 10000) (sym empty) ∙ came in
+      sym ((λ i. not (closed i) && comes_true (here i)) ∙ nothing)
+
+-- what the test answers is what the prover answers
+pub answer_by : (pool : List Node) (ds : List Definition) (c : Condition) → AreAdded pool ds → (r : Result Bool NoMemory)
+    → IfOk r (λ closed. closed ≡ is_true_closed (functions_of pool ds) (tree_of pool c.goal)) → IfOk r (λ closed. IsAnswer pool ds c (Some 1) closed)
+answer_by pool ds c added (Ok b) h = record {
+  sound = λ t. closed_is_valid pool ds added (map (tree_of pool) c.hyps) (tree_of pool c.goal) (sym h ∙ t);
+  told = ((λ t. sym h ∙ t), (λ t. h ∙ t));
+}
+answer_by pool ds c added (Err e) h = tt
