@@ -1,2 +1,3 @@
 pub mod Scenes
+pub mod Graphs
 pub mod Laws
