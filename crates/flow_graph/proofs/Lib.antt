@@ -1,0 +1,3 @@
+pub mod Sooner
+pub mod Routing
+pub mod Together
