@@ -1,6 +1,7 @@
 -- Conditions of a pool are those of events.
-use Rattle.std.proofs.Common.{◌≡◌, ℕ, suc, ◌<◌, List, [], ◌∷◌, ◌++◌, length, map, refl, ap, ◌∙◌}
+use Rattle.std.proofs.Common.{◌≡◌, ℕ, zero, suc, ◌<◌, arith, List, [], ◌∷◌, ◌++◌, length, map, refl, ap, ◌∙◌}
 use Rattle.std.specs.List.{All}
+use Rattle.std.proofs.lemmas.List.Elements.{All-nil}
 use Rattle.event_text.specs.Conditions.{IsConditionIn, condition_tree}
 use Rattle.formula.specs.Pool.{AllBelow, tree_of}
 use Rattle.formula.specs.Tree.{Tree}
@@ -8,6 +9,7 @@ use Rattle.formula.specs.declared.node.Node.{Node}
 use Rattle.formula.specs.declared.node.TermId.{TermId}
 use Rattle.fort_model.specs.Conditions.{conditions_from}
 use Rattle.fort_syntax.specs.Conditions.{ConditionTree}
+use Rattle.fort_syntax.specs.declared.condition.Condition.{Condition}
 use Rattle.fort_syntax.specs.declared.name.Name.{Name}
 use Rattle.met_conditions.specs.Laws.{ConditionsAreIn, ConditionsAreOfEvents}
 use Rattle.met_conditions.specs.Numbered.{condition_of, conditions_at}
@@ -35,11 +37,16 @@ below_behind : (n : ℕ) (ids : List TermId) (id : TermId) → AllBelow n ids �
 below_behind n [] id h k = (k, tt)
 below_behind n (x ∷ ids) id h k = (h.0, below_behind n ids id h.1 k)
 
+all_cons : (P : Condition → Type 0) (c : Condition) (cs : List Condition) → P c → All P cs → All P (c ∷ cs)
+all_cons P c cs h t zero d lt = h
+all_cons P c cs h t (suc k) d lt = t k d (omega arith)
+
 all_in : (nodes : List Node) (unit : Name) (path k : ℕ) (hyps : List TermId) (ms : List Met) → AllBelow (length nodes) hyps → AreMet (length nodes) ms
     → All (IsConditionIn nodes) (conditions_at unit path k hyps ms)
-all_in nodes unit path k hyps [] b h = tt
+all_in nodes unit path k hyps [] b h = All-nil (IsConditionIn nodes)
 all_in nodes unit path k hyps (Check kind card goal ∷ ms) b h =
-    ((b, h.0), all_in nodes unit path (suc k) (hyps ++ goal ∷ []) ms (below_behind (length nodes) hyps goal b h.0) h.1)
+    all_cons (IsConditionIn nodes) (condition_of unit path (suc k) hyps kind card goal) (conditions_at unit path (suc k) (hyps ++ goal ∷ []) ms) (b, h.0)
+    (all_in nodes unit path (suc k) (hyps ++ goal ∷ []) ms (below_behind (length nodes) hyps goal b h.0) h.1)
 all_in nodes unit path k hyps (Take fact ∷ ms) b h = all_in nodes unit path k (hyps ++ fact ∷ []) ms (below_behind (length nodes) hyps fact b h.0) h.1
 
 pub conditions_are_in : ConditionsAreIn

@@ -4,11 +4,13 @@ use Rattle.std.specs.List.{filter, list_any}
 use Rattle.std.specs.Cmp.Lexicographic.{same_text, nat_list_eq_equiv}
 use Rattle.formula.specs.Atoms.{is_among, same_bytes}
 use Rattle.fort_syntax.specs.declared.name.Name.{Name}
+use Rattle.fort_syntax.specs.Names.{commons}
 use Rattle.fort_syntax.specs.declared.unit.DataName.{DataName}
+use Rattle.fort_syntax.specs.declared.unit.Unit.{Unit as Routine}
 use Rattle.name_tables.specs.Sets.{with_name}
 use Rattle.start_lists.specs.Smashed.{has_kind, names_of_kind}
 
-or_false : (b : Bool) → (b || false) ≡ b
+pub or_false : (b : Bool) → (b || false) ≡ b
 or_false true = refl
 or_false false = refl
 
@@ -89,14 +91,20 @@ kind_step f value out next ds k n d b lt is e test h =
     at (x ∷ xs) (suc k) lt is = at xs k (omega arith) is
 
 -- names of four lists are kept one list after another
-pub kept_all : (f : Name → Bool) (as bs cs ds : List Name) → ((filter f as ++ filter f bs) ++ filter f cs) ++ filter f ds ≡ filter f (as ++ bs ++ cs ++ ds)
-kept_all f as bs cs ds =
-    (λ i. (both as bs i ++ filter f cs) ++ filter f ds) ∙ ((λ i. both (as ++ bs) cs i ++ filter f ds) ∙ (both (as ++ bs ++ cs) ds))
+kept_both : (f : Name → Bool) (xs ys : List Name) → filter f xs ++ filter f ys ≡ filter f (xs ++ ys)
+kept_both f [] ys = refl
+kept_both f (x ∷ xs) ys = by (f x) (kept_both f xs ys)
   where
-    both : (xs ys : List Name) → filter f xs ++ filter f ys ≡ filter f (xs ++ ys)
-    both [] ys = refl
-    both (x ∷ xs) ys = by (f x)
-      where
-        by : (b : Bool) → cond b (x ∷ filter f xs) (filter f xs) ++ filter f ys ≡ cond b (x ∷ filter f (xs ++ ys)) (filter f (xs ++ ys))
-        by true = ap (λ (zs : List Name). x ∷ zs) (both xs ys)
-        by false = both xs ys
+    by : (b : Bool) → filter f xs ++ filter f ys ≡ filter f (xs ++ ys) → cond b (x ∷ filter f xs) (filter f xs) ++ filter f ys ≡ cond b (x ∷ filter f (xs ++ ys)) (filter f (xs ++ ys))
+    by true e = ap (λ (zs : List Name). x ∷ zs) e
+    by false e = e
+
+pub kept_all : (f : Name → Bool) (u : Routine) (a0 a1 a2 a3 a4 dummies cs : List Name) (ds : List DataName) → a0 ≡ [] → a1 ≡ a0 ++ filter f dummies → a2 ≡ a1 ++ filter f cs
+    → a3 ≡ a2 ++ filter f (names_of_kind true ds) → a4 ≡ a3 ++ filter f (names_of_kind false ds) → dummies ≡ u.dummies → cs ≡ commons u → ds ≡ u.names
+    → a4 ≡ filter f (u.dummies ++ commons u ++ names_of_kind true u.names ++ names_of_kind false u.names)
+kept_all f u a0 a1 a2 a3 a4 dummies cs ds e0 e1 e2 e3 e4 d c n =
+    let one : a1 ≡ filter f u.dummies = e1 ∙ ((λ i. e0 i ++ filter f dummies) ∙ ap (filter f) d) in
+    let two : a2 ≡ filter f (u.dummies ++ commons u) = e2 ∙ ((λ i. one i ++ filter f (c i)) ∙ kept_both f u.dummies (commons u)) in
+    let three : a3 ≡ filter f (u.dummies ++ commons u ++ names_of_kind true u.names) =
+    e3 ∙ ((λ i. two i ++ filter f (names_of_kind true (n i))) ∙ kept_both f (u.dummies ++ commons u) (names_of_kind true u.names)) in
+    e4 ∙ ((λ i. three i ++ filter f (names_of_kind false (n i))) ∙ kept_both f (u.dummies ++ commons u ++ names_of_kind true u.names) (names_of_kind false u.names))

@@ -11,7 +11,6 @@ use name_tables::NameSet;
 use std::alloc::Global;
 
 /// Adds a name that is a dimension to a set.
-#[tactic(auto, using(crate::proofs::Kept::among_with))]
 fn add_dim(set: &mut NameSet, dim: &Dim) -> Result<(), NoMemory>
     ensures { OnOk result ((x : Text) → is_among x set.new ≡ (is_among x set.old || is_dim x dim.now)) }
 {

@@ -12,11 +12,7 @@ use name_tables::NameSet;
 use std::alloc::Global;
 
 /// Adds those of some names that are smashed.
-fn add_smashed(
-    all: &mut Vec<Name>,
-    smashed: &NameSet,
-    names: &[Name],
-) -> Result<(), NoMemory>
+fn add_smashed(all: &mut Vec<Name>, smashed: &NameSet, names: &[Name]) -> Result<(), NoMemory>
     ensures { OnOk result (all.new.items ≡ all.old.items ++ filter (λ x. is_among x smashed.now) names.now) }
 {
     for name in names {
