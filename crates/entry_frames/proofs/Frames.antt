@@ -74,7 +74,7 @@ pub frame_set : (p0 p1 : List Node) (u : Routine) (f later : Frame) (was now : N
 frame_set p0 p1 u f later was now g h kept stand e same =
     let more = longer f.names.table later.names.table e in
     let still : (x : Name) → term_named later.names.table later.entry.items x ≡ term_named f.names.table f.entry.items x =
-        λ x. (λ i. term_named (e.is i) (same i) x) ∙ term_extends f.names.table e.added f.entry.items x h.count in
+    λ x. (λ i. term_named (e.is i) (same i) x) ∙ term_extends f.names.table e.added f.entry.items x h.count in
     record {
       kept = kept;
       stand = stand;

@@ -57,10 +57,10 @@ all_fixed (Adjustable x ∷ ds) e = absurd (some_x x (names_in_dims ds) e)
 
 -- a test that fails holds for all of a list that is empty
 none_there : (f : Name → Bool) (xs : List Name) → ((x : Name) → f x ≡ false) → list_all f xs ≡ true → xs ≡ []
-none_there f [] no e = refl
-none_there f (x ∷ xs) no e =
+none_there f [] fails e = refl
+none_there f (x ∷ xs) fails e =
     let p = both (f x) (list_all f xs) e in
-    absurd (true≢false (sym p.0 ∙ no x))
+    absurd (true≢false (sym p.0 ∙ fails x))
 
 own_no_dummy : (role : Role) (b c : Bool) → is_own role ≡ true → (same_role role Dummy && b && c) ≡ false
 own_no_dummy Dummy b c e = absurd (true≢false (sym e))

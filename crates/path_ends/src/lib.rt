@@ -1,12 +1,12 @@
 //! The end of a path: what is checked at the end of a unit, and at an ASSERT.
 #![tactic(auto)]
 
-mod arrive;
+mod arrivals;
 mod clock;
 mod falls;
 mod find;
 mod notes;
 mod now;
 
-pub use arrive::arrive;
-pub use clock::Clock;
+pub use arrivals::arrive;
+pub use clock::{Clock, Last};

@@ -1,15 +1,13 @@
 // The plan of a unit.
-ghost use Rattle.std.specs.Prelude.{◌≡◌, ◌<◌, Some, length, slice_get, IfOk};
-ghost use Rattle.fort_model.specs.Program.{Program, names_if_any};
-ghost use Rattle.fort_model.specs.Walk.{dim_dummies};
-ghost use Rattle.fort_syntax.specs.Names.{commons};
-ghost use Rattle.path_scene.specs.Scenes.{IsReady};
-ghost use Rattle.formula.specs.declared.node.Node.{Node};
+ghost use Rattle.std.specs.Prelude.{◌≡◌, ◌<◌, length, option_copied, slice_get, IfOk};
+ghost use Rattle.fort_model.specs.Program.{names_if_any};
+ghost use Rattle.path_plans.specs.Plans.{IsPlan};
 ghost use Rattle.start_lists.specs.Smashed.{smashed_names};
 
 use edge_io::{Keys, NoMemory};
 use fort_notes::UnitSpec;
 use fort_syntax::Name;
+use name_tables::NameSet;
 use path_scene::Scene;
 use start_lists::{commons_of, dim_dummies, smashed_in_order};
 use std::alloc::Global;
@@ -25,11 +23,6 @@ pub struct Plan<'a> {
     pub dims: Vec<Name>,
     pub commons: Vec<Name>,
     pub order: Vec<Name>,
-    ghost spec_is: { slice_get setting.now.scene.now.notes.now setting.now.number ≡ Some spec.now },
-    ghost smashed_are: { smashed.now ≡ names_if_any (slice_get setting.now.scene.now.smashes.now setting.now.number) },
-    ghost dims_are: { dims.items ≡ dim_dummies setting.now.book.now.unit.now },
-    ghost commons_are: { commons.items ≡ commons setting.now.book.now.unit.now },
-    ghost order_is: { order.items ≡ smashed_names smashed.now setting.now.book.now.unit.now },
 }
 
 /// The names that the unit of a number smashes.
@@ -42,25 +35,29 @@ fn smashed_of<'a>(scene: &Scene<'a>, number: usize) -> &'a [Name]
     }
 }
 
+/// The set of the names that the unit of a number smashes, where the table has one.
+fn table_of<'a>(scene: &Scene<'a>, number: usize) -> Option<&'a NameSet>
+    ensures { option_copied result ≡ slice_get scene.now.smashes.now number }
+{
+    scene.smashes.get(number)
+}
+
 /// The smashed names of a unit in order.
 fn order_of(alloc: Global, setting: &Setting) -> Result<Vec<Name>, NoMemory>
     ensures { IfOk result (λ names. names.items ≡ smashed_names (names_if_any (slice_get setting.now.scene.now.smashes.now setting.now.number)) setting.now.book.now.unit.now) }
 {
-    match setting.scene.smashes.get(setting.number) {
-        Some(set) => smashed_in_order(alloc, setting.book.unit, set),
-        None => Ok(Vec::new(alloc)),
-    }
+    let Some(set) = table_of(setting.scene, setting.number) else {
+        return Ok(Vec::new(alloc));
+    };
+    smashed_in_order(alloc, setting.book.unit, set)
 }
 
 impl<'a> Plan<'a> {
     /// The plan of a unit. No answer depends on the keys.
-    pub fn new(
-        alloc: Global,
-        keys: Keys,
-        setting: &'a Setting<'a>,
-    ) -> Result<Plan<'a>, NoMemory>
+    pub fn new(alloc: Global, keys: Keys, setting: &'a Setting<'a>) -> Result<Plan<'a>, NoMemory>
         requires within { setting.now.number < length setting.now.scene.now.notes.now }
-        ensures { IfOk result (λ plan. plan.setting.now ≡ setting.now) }
+        ensures setting { IfOk result (λ plan. plan.setting.now ≡ setting.now) }
+        ensures plan { IfOk result (λ plan. IsPlan plan) }
     {
         let unit = setting.book.unit;
         let Ok(dims) = dim_dummies(alloc, keys, unit) else {

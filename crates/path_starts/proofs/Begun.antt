@@ -84,7 +84,7 @@ frame_started p0 p1 p2 u f later now xs g h k s e =
     let mid = frame_grows p0 p1 u f now g h in
     frame_set p1 p2 u f later now (started xs now) k mid s.kept (s.now ∙ (λ j. started xs (mid.stand j))) s.extends e
 
-fused : (f g : Tree → Tree) (ts : List Tree) → map f (map g ts) ≡ map (λ (t : Tree). f (g t)) ts
+pub fused : (f g : Tree → Tree) (ts : List Tree) → map f (map g ts) ≡ map (λ (t : Tree). f (g t)) ts
 fused f g [] = refl
 fused f g (t ∷ ts) = ap (λ (us : List Tree). f (g t) ∷ us) (fused f g ts)
 

@@ -5,6 +5,7 @@ ghost use Rattle.fort_model.specs.Program.{Program};
 ghost use Rattle.fort_model.specs.Seen.{meet};
 ghost use Rattle.fort_model.specs.Walk.{entry_facts};
 ghost use Rattle.entry_frames.specs.Entries.{IsFrame, at_entry_in};
+ghost use Rattle.path_plans.specs.Plans.{IsPlan};
 ghost use Rattle.path_scene.specs.Scenes.{IsReady};
 ghost use Rattle.path_starts.specs.Starts.{EntryBegins};
 ghost use Rattle.walk_setting.specs.Settings.{DoesIn};
@@ -20,6 +21,7 @@ use walk_state::Walk;
 /// The facts of a unit's entry that are no terms of its INPUT.
 fn take_shapes(walk: &mut Walk, plan: &Plan) -> Result<(), NoMemory>
     requires well { IsWalk walk.old }
+    requires plan { IsPlan plan.now }
     requires ready { (p : Program) × IsReady walk.old.pool plan.now.setting.now.scene.now p }
     ensures on { OnOk result (Follows walk.old walk.new) }
     ensures did { OnOk result (EntryBegins plan.now walk.old walk.new) }
@@ -44,6 +46,7 @@ fn take_shapes(walk: &mut Walk, plan: &Plan) -> Result<(), NoMemory>
 /// COMMON entities have their types, dimensions are at least 1, and the INPUT holds.
 pub fn take_entry(walk: &mut Walk, plan: &Plan, frame: &Frame) -> Result<(), NoMemory>
     requires well { IsWalk walk.old }
+    requires plan { IsPlan plan.now }
     requires ready { (p : Program) × IsReady walk.old.pool plan.now.setting.now.scene.now p }
     requires at { (moment walk.old).now ≡ at_entry_in plan.now.setting.now.book.now.unit.now.names }
     requires frame { IsFrame walk.old.pool plan.now.setting.now.book.now.unit.now frame.now (at_entry_in plan.now.setting.now.book.now.unit.now.names) }

@@ -1,11 +1,11 @@
 //! The start of a path: what names stand for there, and what holds.
 #![tactic(auto)]
 
-mod begin;
+mod entries;
 mod entry;
 mod facts;
 mod start;
 
-pub use begin::begin;
+pub use entries::begin;
 pub use entry::take_entry;
 pub use start::start_at;

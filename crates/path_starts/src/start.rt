@@ -2,6 +2,7 @@
 ghost use Rattle.std.specs.Prelude.{◌≡◌, IfOk, OnOk};
 ghost use Rattle.fort_model.specs.Program.{Program};
 ghost use Rattle.entry_frames.specs.Entries.{IsFrame, at_entry_in};
+ghost use Rattle.path_plans.specs.Plans.{IsPlan};
 ghost use Rattle.path_scene.specs.Scenes.{IsReady};
 ghost use Rattle.path_starts.specs.Starts.{ClockTold, IsAssertOf, IsStartOf, StandsAtStart, StartsAt, TakesStart};
 ghost use Rattle.walk_state.specs.Moments.{Follows, IsWalk, moment};
@@ -92,6 +93,7 @@ pub fn start_at(
     assert: &AssertSpec,
 ) -> Result<Vec<TermId>, NoMemory>
     requires well { IsWalk walk.old }
+    requires plan { IsPlan plan.now }
     requires ready { (p : Program) × IsReady walk.old.pool plan.now.setting.now.scene.now p }
     requires at { (moment walk.old).now ≡ at_entry_in plan.now.setting.now.book.now.unit.now.names }
     requires frame { IsFrame walk.old.pool plan.now.setting.now.book.now.unit.now frame.old (at_entry_in plan.now.setting.now.book.now.unit.now.names) }

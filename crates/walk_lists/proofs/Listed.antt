@@ -13,8 +13,7 @@ use Rattle.note_terms.proofs.Added.{below_at}
 use Rattle.walk_state.specs.Moments.{Did, Moment, met, with_event}
 use Rattle.call_facts.proofs.Behind.{check_all, check_more, take_all, take_more}
 
-
-pub told : List Tree → List Tree
+abbrev pub told : List Tree → List Tree
 told ts = map (λ (t : Tree). t) ts
 
 untold : (ts : List Tree) → map (λ (t : Tree). t) ts ≡ ts

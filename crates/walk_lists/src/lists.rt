@@ -25,12 +25,7 @@ pub fn take_all(walk: &mut Walk, facts: &[TermId]) -> Result<(), NoMemory>
 }
 
 /// Meets some checks of a kind at a card, in order.
-pub fn check_all(
-    walk: &mut Walk,
-    kind: Kind,
-    card: u32,
-    goals: &[TermId],
-) -> Result<(), NoMemory>
+pub fn check_all(walk: &mut Walk, kind: Kind, card: u32, goals: &[TermId]) -> Result<(), NoMemory>
     requires well { IsWalk walk.old }
     requires goals { AllBelow (length walk.old.pool) goals.now }
     ensures on { Follows walk.old walk.new }

@@ -31,7 +31,7 @@ take_output-requires-clause-entry c =
 pub take_output-requires-clause-ids : goal.take_output-requires-clause-ids
 take_output-requires-clause-ids c =
     let r = c.requires.ready in
-    let inside = (planned c.args.walk.now.pool c.args.plan.now r.0 r.1.is_scene).inside in
+    let inside = (planned c.args.walk.now.pool c.args.plan.now r.0 c.requires.plan r.1.is_scene).inside in
     subst (λ (ids : List TermId). AllBelow (length c.take_shapes.new.walk.pool) ids) (sym c.as_slice-input.ensures)
     (AllBelow-Grows c.args.walk.now.pool c.take_shapes.new.walk.pool c.args.plan.now.spec.now.input c.in-Ok.ensures.on.grows inside.input)
 
@@ -43,9 +43,9 @@ take_output-requires-clause-known c =
     let plan = c.args.plan.now in
     let f = c.args.frame.now in
     let u = plan.setting.now.book.now.unit.now in
-    let inside = (planned p0 plan r.0 r.1.is_scene).inside in
+    let inside = (planned p0 plan r.0 c.requires.plan r.1.is_scene).inside in
     let known : are_known_terms f.names.table f.entry.items (trees_in p0 plan.spec.now.input) ≡ true =
-        known_of p0 u f (at_entry_in u.names) is_visible_role no_entry (trees_in p0 plan.spec.now.input) c.requires.frame (λ x e. absurd (cc)) (fits_here p0 plan r.0 r.1).input in
+        known_of p0 u f (at_entry_in u.names) is_visible_role no_entry (trees_in p0 plan.spec.now.input) c.requires.frame (λ x e. absurd (cc)) (fits_here p0 plan r.0 c.requires.plan r.1).input in
     (λ i. are_known_terms f.names.table (c.deref.ensures.value i) (trees_in p1 (c.as_slice-input.ensures i)))
     ∙ (ap (are_known_terms f.names.table f.entry.items) (trees_grow p0 p1 plan.spec.now.input c.in-Ok.ensures.on.grows inside.input) ∙ known)
 
@@ -61,7 +61,7 @@ returns-clause-did c p r =
     let u = s.book.now.unit.now in
     let f = c.args.frame.now in
     let w = seen_from s p in
-    let here = planned w0.pool plan p r.is_scene in
+    let here = planned w0.pool plan p c.requires.plan r.is_scene in
     let grown = frame_grows w0.pool p1 u f (at_entry_in u.names) c.in-Ok.ensures.on.grows c.requires.frame in
     let told = told_is p1 u f (at_entry_in u.names) p s.number plan.spec.now.input grown in
     let terms : trees_in p1 plan.spec.now.input ≡ (notes_of p s.number).input =

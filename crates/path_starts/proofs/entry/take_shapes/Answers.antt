@@ -51,7 +51,7 @@ returns-clause-did c p r =
         (λ i. bound_facts w ++ sorts of_terms u (sym n1 i) (sym c.as_slice.ensures i)) in
     let n2 = still_now m0 m2 _ d2 in
     let d3 = then_took m0 m2 m3 _ _ (bound_facts w ++ sorts of_terms u m0.now u.dummies ++ sorts of_terms u m0.now (commons u)) d2 c.in-Ok-take_sorts-2.ensures.did
-        (λ i. bound_facts w ++ sorts of_terms u m0.now u.dummies ++ sorts of_terms u (sym n2 i) (sym (c.deref.ensures.value ∙ plan.commons_are) i)) in
+        (λ i. bound_facts w ++ sorts of_terms u m0.now u.dummies ++ sorts of_terms u (sym n2 i) (sym (c.deref.ensures.value ∙ c.requires.plan.commons) i)) in
     let n3 = still_now m0 m3 _ d3 in
     then_took m0 m3 m4 _ _ _ d3 c.in-Ok-take_dims.ensures.did
-    (λ i. bound_facts w ++ sorts of_terms u m0.now u.dummies ++ sorts of_terms u m0.now (commons u) ++ facts_of_dims (sym n3 i) (sym (c.deref-2.ensures.value ∙ plan.dims_are) i))
+    (λ i. bound_facts w ++ sorts of_terms u m0.now u.dummies ++ sorts of_terms u m0.now (commons u) ++ facts_of_dims (sym n3 i) (sym (c.deref-2.ensures.value ∙ c.requires.plan.dims) i))

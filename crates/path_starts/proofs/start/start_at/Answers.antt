@@ -37,8 +37,8 @@ take_assert-requires-clause-terms c =
     let plan = c.args.plan.now in
     let a = c.args.assert.now in
     let r = c.requires.ready in
-    let inside = assert_inside _ plan.spec.now.asserts c.requires.assert.0 a c.requires.assert.1 ((planned p0 plan r.0 r.1.is_scene).inside.asserts) in
-    let fits = (fits_here p0 plan r.0 r.1).asserts _ (assert_among p0 plan.spec.now.asserts c.requires.assert.0 a c.requires.assert.1) in
+    let inside = assert_inside _ plan.spec.now.asserts c.requires.assert.0 a c.requires.assert.1 ((planned p0 plan r.0 c.requires.plan r.1.is_scene).inside.asserts) in
+    let fits = (fits_here p0 plan r.0 c.requires.plan r.1).asserts _ (assert_among p0 plan.spec.now.asserts c.requires.assert.0 a c.requires.assert.1) in
     let frame = c.in-Ok.ensures.stands.frame in
     let g = c.in-Ok.ensures.on.grows in
     start_of w1 (unit_of plan) c.set_starts.new.frame (start_in plan) a.terms frame (AllBelow-Grows p0 w1.pool a.terms g inside.terms)
@@ -52,8 +52,8 @@ take_assert-requires-clause-clock c =
     let plan = c.args.plan.now in
     let a = c.args.assert.now in
     let r = c.requires.ready in
-    let inside = assert_inside _ plan.spec.now.asserts c.requires.assert.0 a c.requires.assert.1 ((planned p0 plan r.0 r.1.is_scene).inside.asserts) in
-    let fits = (fits_here p0 plan r.0 r.1).asserts _ (assert_among p0 plan.spec.now.asserts c.requires.assert.0 a c.requires.assert.1) in
+    let inside = assert_inside _ plan.spec.now.asserts c.requires.assert.0 a c.requires.assert.1 ((planned p0 plan r.0 c.requires.plan r.1.is_scene).inside.asserts) in
+    let fits = (fits_here p0 plan r.0 c.requires.plan r.1).asserts _ (assert_among p0 plan.spec.now.asserts c.requires.assert.0 a c.requires.assert.1) in
     let frame = c.in-Ok.ensures.stands.frame in
     let g = c.in-Ok.ensures.on.grows in
     start_of w1 (unit_of plan) c.set_starts.new.frame (start_in plan) a.clock frame (AllBelow-Grows p0 w1.pool a.clock g inside.clock)
@@ -77,17 +77,17 @@ returns-clause-did c =
     let stands = c.in-Ok.ensures.stands in
     let g = c.in-Ok.ensures.on.grows in
     let last = c.in-Ok-take_assert.ensures.did in
-    let inside = assert_inside _ plan.spec.now.asserts c.requires.assert.0 a c.requires.assert.1 ((planned w0.pool plan ready.0 ready.1.is_scene).inside.asserts) in
+    let inside = assert_inside _ plan.spec.now.asserts c.requires.assert.0 a c.requires.assert.1 ((planned w0.pool plan ready.0 c.requires.plan ready.1.is_scene).inside.asserts) in
     let clock = trees_grow w0.pool w1.pool a.clock g inside.clock in
     let terms = trees_grow w0.pool w1.pool a.terms g inside.terms in
     let started_is : (p : Program) → IsReady w0.pool s.scene.now p → start_in plan ≡ at_start (seen_from s p) =
-        λ p r. (λ i. started ((planned w0.pool plan p r.is_scene).smashed i) (at_entry_in u.names)) ∙ started_are_at_start p s.number u (at_entry_in u.names) refl in
+        λ p r. (λ i. started ((planned w0.pool plan p c.requires.plan r.is_scene).smashed i) (at_entry_in u.names)) ∙ started_are_at_start p s.number u (at_entry_in u.names) refl in
     record {
       known = last.known;
       frame = frame_grows w1.pool w2.pool u f (start_in plan) c.in-Ok-take_assert.ensures.on.grows stands.frame;
       is = λ p r.
           let w = seen_from s p in
-          let here = planned w0.pool plan p r.is_scene in
+          let here = planned w0.pool plan p c.requires.plan r.is_scene in
           let now : (moment w1).now ≡ start_in plan = ap (λ (m : Moment). m.now) stands.names in
           let facts = start_is p s.number u w0.pool w1.pool f a plan.order.items (start_in plan) _ stands.frame (started_is p r) here.order
               (λ i. sorts of_terms u (now i) plan.order.items) terms clock in

@@ -1,13 +1,17 @@
 // The end of a path.
-ghost use Rattle.std.specs.Prelude.{◌≡◌, length, OnOk};
+ghost use Rattle.std.specs.Prelude.{◌≡◌, [], None, length, OnOk};
 ghost use Rattle.fort_model.specs.Program.{Program};
+ghost use Rattle.fort_model.specs.Paths.{AtEnd};
 ghost use Rattle.fort_model.specs.Seen.{meet};
-ghost use Rattle.path_ends.specs.Ends.{Arrives, IsClockIn, IsSomeFrame, assert_checks, clock_trees};
+ghost use Rattle.fort_model.specs.Walk.{arrive};
+ghost use Rattle.path_ends.specs.Ends.{Arrives, AssertArrives, IsClockIn, IsSomeFrame, TellsNow, assert_checks, clock_trees};
+ghost use Rattle.path_plans.specs.Plans.{IsPlan};
 ghost use Rattle.path_scene.specs.Scenes.{IsReady};
 ghost use Rattle.path_starts.specs.Starts.{IsStartOf, unit_of};
+ghost use Rattle.walk_setting.specs.Settings.{DoesIn};
 ghost use Rattle.walk_state.specs.Moments.{Did, Follows, IsWalk, moment};
 
-use crate::clock::Clock;
+use crate::clock::{Clock, Last};
 use crate::find::assert_at;
 use crate::notes::{check_clock, check_notes};
 use crate::now::set_now;
@@ -43,6 +47,53 @@ fn check_assert(
     Ok(())
 }
 
+/// The OUTPUT of a unit is checked at a card.
+fn check_output(
+    walk: &mut Walk,
+    plan: &Plan,
+    frame: &Frame,
+    card: u32,
+) -> Result<(), NoMemory>
+    requires well { IsWalk walk.old }
+    requires plan { IsPlan plan.now }
+    requires ready { (p : Program) × IsReady walk.old.pool plan.now.setting.now.scene.now p }
+    requires frame { TellsNow plan.now walk.old frame.now }
+    ensures on { OnOk result (Follows walk.old walk.new) }
+    ensures did { OnOk result (DoesIn walk.old.pool plan.now.setting.now (moment walk.old) (λ w. meet (arrive w None card AtEnd (moment walk.old).now [])) (moment walk.new) tt) }
+{
+    let output = plan.spec.output.as_slice();
+    let Ok(()) = check_notes(walk, frame, Kind::OutputCheck, card, output) else {
+        return Err(NoMemory);
+    };
+    Ok(())
+}
+
+/// The ASSERT at a point is checked, if there is one.
+fn check_at(
+    walk: &mut Walk,
+    plan: &Plan,
+    frame: &Frame,
+    clock: &Option<Clock>,
+    point: usize,
+) -> Result<(), NoMemory>
+    requires well { IsWalk walk.old }
+    requires plan { IsPlan plan.now }
+    requires ready { (p : Program) × IsReady walk.old.pool plan.now.setting.now.scene.now p }
+    requires frame { TellsNow plan.now walk.old frame.now }
+    requires clock { IsClockIn (length walk.old.pool) clock.now }
+    ensures on { OnOk result (Follows walk.old walk.new) }
+    ensures did { OnOk result (AssertArrives plan.now clock.now point walk.old walk.new) }
+{
+    let asserts = plan.spec.asserts.as_slice();
+    let Some(assert) = assert_at(asserts, point) else {
+        return Ok(());
+    };
+    let Ok(()) = check_assert(walk, frame, clock, assert) else {
+        return Err(NoMemory);
+    };
+    Ok(())
+}
+
 /// A path arrives at a point: at the end of the unit its OUTPUT is checked at the card, which is
 /// that of the last statement; at an ASSERT its terms are, that no part of its clock is negative,
 /// and where the path started at an ASSERT, with the clock that is given, that the clock has
@@ -55,6 +106,7 @@ pub fn arrive(
     last: Last,
 ) -> Result<(), NoMemory>
     requires well { IsWalk walk.old }
+    requires plan { IsPlan plan.now }
     requires ready { (p : Program) × IsReady walk.old.pool plan.now.setting.now.scene.now p }
     requires frame { IsSomeFrame walk.old.pool (unit_of plan.now) frame.old }
     requires clock { IsClockIn (length walk.old.pool) clock.now }
@@ -67,7 +119,13 @@ pub fn arrive(
     };
     let lines = unit.lines.as_slice();
     if last.point >= lines.len() {
-        return check_output(walk, plan, frame, last.card);
+        let Ok(()) = check_output(walk, plan, frame, last.card) else {
+            return Err(NoMemory);
+        };
+        return Ok(());
     }
-    check_at(walk, plan, frame, clock, last.point)
+    let Ok(()) = check_at(walk, plan, frame, clock, last.point) else {
+        return Err(NoMemory);
+    };
+    Ok(())
 }

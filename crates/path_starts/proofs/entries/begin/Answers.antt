@@ -5,7 +5,7 @@ use Rattle.std.proofs.Common.{subst}
 use Rattle.walk_state.specs.Moments.{Moment, with_names}
 use Rattle.formula.specs.declared.node.Node.{Node}
 use Rattle.std.proofs.Common.{List}
-use Rattle.path_starts.proofs.begin.begin.Goals as goal
+use Rattle.path_starts.proofs.entries.begin.Goals as goal
 
 pub set_entries-requires-clause-first : goal.set_entries-requires-clause-first
 set_entries-requires-clause-first c = ap (λ (m : Moment). m.now) c.new-walk.ensures.moment

@@ -1,7 +1,7 @@
 use Rattle.std.proofs.Common.{refl}
 use Rattle.entry_frames.specs.Entries.{at_entry_in}
 use Rattle.path_starts.proofs.Taken.{renamed}
-use Rattle.path_starts.proofs.begin.set_entries.Goals as goal
+use Rattle.path_starts.proofs.entries.set_entries.Goals as goal
 
 pub returns-clause-on : goal.returns-clause-on
 returns-clause-on c =

@@ -1,0 +1,9 @@
+//! The walk along one path of a unit.
+#![tactic(auto)]
+
+mod choosing;
+mod starting;
+mod steps;
+mod walking;
+
+pub use walking::walk_path;
