@@ -54,7 +54,7 @@ IsAssertOf plan a = (k : ℕ) × (slice_get plan.spec.now.asserts k ≡ Some a)
 -- on a walk, and in the frame, names stand for what they do at an ASSERT where a path starts
 pub record StandsAtStart (plan : Plan) (w0 w1 : Walk) (frame : Frame) : Type 0 where
   pub names : moment w1 ≡ with_names (moment w0) (start_in plan)
-  pub frame : IsFrame w1.pool (unit_of plan) frame (start_in plan)
+  pub framed : IsFrame w1.pool (unit_of plan) frame (start_in plan)
 
 -- terms of notes can be told by a frame
 pub record IsStartOf (w : Walk) (frame : Frame) (ids : List TermId) : Type 0 where
@@ -90,8 +90,8 @@ begun_with m ts now = record { now = now; past = m.past; events = m.events ++ ta
 -- a path has started at an ASSERT
 pub record StartsAt (plan : Plan) (a : AssertSpec) (w0 w1 : Walk) (frame : Frame) (clock : List TermId) : Type 0 where
   pub known : AllBelow (length w1.pool) clock
-  pub frame : IsFrame w1.pool (unit_of plan) frame (start_in plan)
+  pub framed : IsFrame w1.pool (unit_of plan) frame (start_in plan)
   pub is : (p : Program) → IsReady w0.pool plan.setting.now.scene.now p
       → moment w1 ≡ begun_with (moment w0) (start_facts (seen_from plan.setting.now p) (assertion_tree w0.pool a)) (at_start (seen_from plan.setting.now p))
-  pub clock : (p : Program) → IsReady w0.pool plan.setting.now.scene.now p
+  pub parts : (p : Program) → IsReady w0.pool plan.setting.now.scene.now p
       → trees_in w1.pool clock ≡ map (note of_terms (at_entry (seen_from plan.setting.now p)) (at_start (seen_from plan.setting.now p))) (map (tree_of w0.pool) a.clock)

@@ -1,18 +1,25 @@
 -- Statements one behind another.
 use Rattle.std.proofs.Common.{◌≡◌, ℕ, zero, suc, ◌<◌, ◌≤◌, Option, Some, None, List, [], ◌∷◌, ◌++◌, length, drop, slice_get, append_assoc, refl, sym, ap, ◌∙◌, arith}
 use Rattle.formula.specs.Tree.{Tree}
-use Rattle.fort_model.specs.Events.{Event}
+use Rattle.fort_model.specs.Events.{Event, takes}
 use Rattle.fort_model.specs.Seen.{Answers, Named}
 use Rattle.fort_model.specs.WalkCalls.{Sight}
 use Rattle.fort_model.specs.WalkStmt.{performed}
 use Rattle.fort_syntax.specs.declared.unit.Line.{Line}
 use Rattle.path_cut.specs.declared.step.Step.{Step}
 use Rattle.path_cut.specs.declared.step.Step.TheVariants.{At, Choice}
-use Rattle.path_walk.specs.Steps.{behind}
+use Rattle.path_walk.specs.Steps.{HasStart, behind}
 use Rattle.walk_setting.specs.Settings.{performed_at}
-use Rattle.walk_state.specs.Moments.{Moment}
+use Rattle.walk_state.specs.Moments.{Did, Moment, at_first}
+use Rattle.std.specs.Option.{IsSome}
+use Rattle.fort_model.specs.Paths.{cut_at}
+use Rattle.fort_model.specs.Seen.{meet}
+use Rattle.fort_model.specs.Walk.{arrive, at_entry, at_start, entry_facts, notes_here, start_facts}
+use Rattle.fort_notes.specs.Assertions.{Assertion}
+use Rattle.path_openings.specs.Openings.{clock_at, clock_from, set_at, set_from}
+use Rattle.path_starts.specs.Starts.{begun_with}
 use Rattle.way_laws.specs.PathsOf.{turns}
-use Rattle.way_walks.specs.Along.{Gone, gone, gone_on, stops}
+use Rattle.way_walks.specs.Along.{Gone, along, along_from_assert, arrives_behind, gone, gone_on, stops}
 
 -- two places on one walk have the same before them
 pub record Alike (m0 : Moment) (g0 : Gone Tree) (m1 : Moment) (g1 : Gone Tree) : Type 0 where
@@ -76,3 +83,33 @@ pub none_beyond : (xs : List Line) (k : ℕ) → length xs ≤ k → slice_get x
 none_beyond [] k le = refl
 none_beyond (x ∷ xs) zero le = absurd (omega arith)
 none_beyond (x ∷ xs) (suc k) le = none_beyond xs k (omega arith)
+
+-- ---- from the start to the end
+
+-- the events of a walk that went along some steps and arrived
+pub arrived_events : (w : Sight Tree) (clock : Option (List Tree)) (end card : ℕ) (m1 m2 m3 : Moment) (g : Gone Tree) → m2 ≡ behind m1 g → card ≡ g.card
+    → Did m2 (meet (arrive w clock card (cut_at w.unit (notes_here w) end) m2.now [])) m3 tt → m3.events ≡ m1.events ++ arrives_behind w clock end g
+arrived_events w clock end card m1 m2 m3 g went is d =
+    ap (λ (m : Moment). m.events) d.is
+    ∙ ((λ i. (went i).events ++ arrive w clock (is i) (cut_at w.unit (notes_here w) end) (went i).now [])
+    ∙ append_assoc m1.events g.events (arrive w clock g.card (cut_at w.unit (notes_here w) end) g.now []))
+
+-- from an ASSERT, or from none
+from_assert : (w : Sight Tree) (o : Option Assertion) (end : ℕ) (steps : List Step) (m0 : Moment) → m0 ≡ begun_with at_first (entry_facts w) (at_entry w) → IsSome o
+    → (set_at w o m0).events ++ arrives_behind w (clock_at w o) end (gone w (stops steps) 0 (set_at w o m0).now (set_at w o m0).answers) ≡ along_from_assert w o steps end
+from_assert w None end steps m0 begun is = absurd (cc)
+from_assert w (Some a) end steps m0 begun is =
+    (λ i. ((begun i).events ++ takes (start_facts w a)) ++ arrives_behind w (clock_at w (Some a)) end (gone w (stops steps) 0 (at_start w) (begun i).answers))
+
+-- the events of a walk that began at the entry, set out, went along some steps and arrived
+pub events_along : (w : Sight Tree) (start end : ℕ) (steps : List Step) (m0 m1 m3 : Moment) (clock : Option (List Tree)) → m0 ≡ begun_with at_first (entry_facts w) (at_entry w)
+    → m1 ≡ set_from w start m0 → clock ≡ clock_from w start → HasStart w start
+    → m3.events ≡ m1.events ++ arrives_behind w clock end (gone w (stops steps) 0 m1.now m1.answers) → m3.events ≡ along w start steps end
+events_along w zero end steps m0 m1 m3 clock begun set told is e =
+    e
+    ∙ ((λ i. (set i).events ++ arrives_behind w (told i) end (gone w (stops steps) 0 (set i).now (set i).answers))
+    ∙ (λ i. (begun i).events ++ arrives_behind w None end (gone w (stops steps) 0 (begun i).now (begun i).answers)))
+events_along w (suc k) end steps m0 m1 m3 clock begun set told is e =
+    e
+    ∙ ((λ i. (set i).events ++ arrives_behind w (told i) end (gone w (stops steps) 0 (set i).now (set i).answers))
+    ∙ from_assert w (slice_get (notes_here w).asserts k) end steps m0 begun is)

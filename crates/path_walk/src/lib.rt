@@ -2,7 +2,6 @@
 #![tactic(auto)]
 
 mod choosing;
-mod starting;
 mod steps;
 mod walking;
 

@@ -8,12 +8,12 @@ ghost use Rattle.path_scene.specs.Scenes.{IsReady};
 ghost use Rattle.path_walk.specs.Steps.{WalksAlong};
 ghost use Rattle.walk_state.specs.Moments.{IsWalk};
 
-use crate::starting::{Begun, enter, set_out};
 use crate::steps::walk_steps;
 use edge_io::{Keys, NoMemory};
 use formula::TermPool;
 use path_cut::PathView;
 use path_ends::{Last, arrive};
+use path_openings::{Begun, enter, set_out};
 use path_plans::Plan;
 use std::alloc::Global;
 use walk_flow::UnitFlow;

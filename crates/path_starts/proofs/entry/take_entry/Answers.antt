@@ -8,13 +8,14 @@ use Rattle.formula.proofs.Grown.{AllBelow-Grows}
 use Rattle.fort_model.specs.Fitting.{is_visible_role, no_entry}
 use Rattle.fort_model.specs.Program.{notes_of}
 use Rattle.fort_model.specs.Senses.{note, of_terms}
-use Rattle.fort_model.specs.Walk.{at_entry}
+use Rattle.fort_model.specs.Walk.{at_entry, entry_facts}
 use Rattle.fort_notes.specs.Assertions.{Notes}
 use Rattle.note_terms.proofs.Added.{trees_grow}
 use Rattle.note_terms.specs.Stated.{are_known_terms, stated, trees_in}
 use Rattle.path_plans.proofs.Planned.{fits_here, planned}
 use Rattle.path_starts.proofs.Begun.{entry_is, known_of, told_is}
 use Rattle.path_starts.proofs.Taken.{then_took}
+use Rattle.path_starts.specs.Starts.{shape_facts}
 use Rattle.walk_setting.specs.Settings.{seen_from}
 use Rattle.walk_state.proofs.Parts.{follows_then}
 use Rattle.walk_state.specs.Moments.{moment}
@@ -69,5 +70,5 @@ returns-clause-did c p r =
     let us = map (stated p1 f.names c.deref.result.now) (trees_in p1 c.as_slice-input.result.now) in
     let is : us ≡ map (note of_terms (at_entry w) (at_entry w)) (notes_of p s.number).input =
         (λ i. map (stated p1 f.names (c.deref.ensures.value i)) (trees_in p1 (c.as_slice-input.ensures i))) ∙ (told ∙ ap (map (note of_terms (at_entry w) (at_entry w))) terms) in
-    then_took (moment w0) (moment c.take_shapes.new.walk) (moment c.take_output.new.walk) _ us _ (c.in-Ok.ensures.did p r) c.in-Ok-take_output.ensures.did
+    then_took (moment w0) (moment c.take_shapes.new.walk) (moment c.take_output.new.walk) (shape_facts w (moment w0).now) us (entry_facts w) (c.in-Ok.ensures.did p r) c.in-Ok-take_output.ensures.did
     (entry_is p s.number u (moment w0).now us c.requires.at is)

@@ -1,7 +1,7 @@
 use Rattle.std.proofs.Common.{◌≡◌, ◌++◌, ◌∙◌, List, refl, sym}
 use Rattle.entry_frames.proofs.GoodShapes.{shapes_by_name}
 use Rattle.formula.specs.Tree.{Tree}
-use Rattle.fort_model.specs.Conditions.{sight}
+use Rattle.fort_model.specs.Events.{takes}
 use Rattle.fort_model.specs.Senses.{of_terms}
 use Rattle.fort_model.specs.Walk.{bound_facts, dim_dummies}
 use Rattle.fort_model.specs.WalkPlaces.{sorts}
@@ -20,8 +20,8 @@ take_sorts-requires-clause-shapes c =
     let r = c.requires.ready in
     shapes_by_name c.args.plan.now.setting.now.book.now.unit.now.names (shapes_here c.args.walk.now.pool c.args.plan.now.setting.now r.0 r.1)
 
-pub take_sorts-2-requires-clause-shapes : goal.take_sorts-2-requires-clause-shapes
-take_sorts-2-requires-clause-shapes c =
+pub take_sorts-requires-2-clause-shapes : goal.take_sorts-requires-2-clause-shapes
+take_sorts-requires-2-clause-shapes c =
     let r = c.requires.ready in
     shapes_by_name c.args.plan.now.setting.now.book.now.unit.now.names (shapes_here c.args.walk.now.pool c.args.plan.now.setting.now r.0 r.1)
 
@@ -46,12 +46,13 @@ returns-clause-did c p r =
     let m3 = moment c.take_sorts-2.new.walk in
     let m4 = moment c.take_dims.new.walk in
     let d1 = took_same m0 m1 (facts_of_bound s.scene.now.bound) (bound_facts w) c.in-Ok.ensures.did (λ i. facts_of_bound (r.is_scene.bound i)) in
-    let n1 = still_now m0 m1 _ d1 in
-    let d2 = then_took m0 m1 m2 _ _ (bound_facts w ++ sorts of_terms u m0.now u.dummies) d1 c.in-Ok-take_sorts.ensures.did
+    let n1 = still_now m0 m1 (takes (bound_facts w)) d1 in
+    let d2 = then_took m0 m1 m2 (bound_facts w) (sorts of_terms u m1.now c.as_slice.result.now) (bound_facts w ++ sorts of_terms u m0.now u.dummies) d1 c.in-Ok-take_sorts.ensures.did
         (λ i. bound_facts w ++ sorts of_terms u (sym n1 i) (sym c.as_slice.ensures i)) in
-    let n2 = still_now m0 m2 _ d2 in
-    let d3 = then_took m0 m2 m3 _ _ (bound_facts w ++ sorts of_terms u m0.now u.dummies ++ sorts of_terms u m0.now (commons u)) d2 c.in-Ok-take_sorts-2.ensures.did
+    let n2 = still_now m0 m2 (takes (bound_facts w ++ sorts of_terms u m0.now u.dummies)) d2 in
+    let d3 = then_took m0 m2 m3 (bound_facts w ++ sorts of_terms u m0.now u.dummies) (sorts of_terms u m2.now c.deref.result.now) (bound_facts w ++ sorts of_terms u m0.now u.dummies ++ sorts of_terms u m0.now (commons u)) d2 c.in-Ok-take_sorts-2.ensures.did
         (λ i. bound_facts w ++ sorts of_terms u m0.now u.dummies ++ sorts of_terms u (sym n2 i) (sym (c.deref.ensures.value ∙ c.requires.plan.commons) i)) in
-    let n3 = still_now m0 m3 _ d3 in
-    then_took m0 m3 m4 _ _ _ d3 c.in-Ok-take_dims.ensures.did
+    let n3 = still_now m0 m3 (takes (bound_facts w ++ sorts of_terms u m0.now u.dummies ++ sorts of_terms u m0.now (commons u))) d3 in
+    then_took m0 m3 m4 (bound_facts w ++ sorts of_terms u m0.now u.dummies ++ sorts of_terms u m0.now (commons u)) (facts_of_dims m3.now c.deref-2.result.now)
+    (bound_facts w ++ sorts of_terms u m0.now u.dummies ++ sorts of_terms u m0.now (commons u) ++ facts_of_dims m0.now (dim_dummies u)) d3 c.in-Ok-take_dims.ensures.did
     (λ i. bound_facts w ++ sorts of_terms u m0.now u.dummies ++ sorts of_terms u m0.now (commons u) ++ facts_of_dims (sym n3 i) (sym (c.deref-2.ensures.value ∙ c.requires.plan.dims) i))

@@ -16,8 +16,8 @@ use Rattle.path_starts.proofs.start.set_starts.Goals as goal
 pub start_names-requires : goal.start_names-requires
 start_names-requires c = c.requires.well.names
 
-pub start_names-2-requires : goal.start_names-2-requires
-start_names-2-requires c = names_grow c.args.walk.now.pool c.start_names.new.pool c.args.frame.now.names c.start_names.ensures.grows c.requires.frame.kept
+pub start_names-requires-2 : goal.start_names-requires-2
+start_names-requires-2 c = names_grow c.args.walk.now.pool c.start_names.new.pool c.args.frame.now.names c.start_names.ensures.grows c.requires.frame.kept
 
 pub returns-clause-on : goal.returns-clause-on
 returns-clause-on c =
@@ -39,7 +39,7 @@ returns-clause-stands c =
     let one = renamed w0 w1 (start_in plan) c.requires.well c.start_names.ensures.grows s.kept (s.now ∙ now) s.before refl refl in
     record {
       names = (grew w1 w2 one.on.kept c.start_names-2.ensures.grows refl refl refl).same ∙ one.is;
-      frame =
+      framed =
           frame_started w0.pool w1.pool w2.pool (unit_of plan) c.args.frame.now _ (at_entry_in (unit_of plan).names) plan.smashed.now c.start_names.ensures.grows c.requires.frame
           c.start_names-2.ensures.grows c.in-Ok-start_names.ensures.started refl;
     }

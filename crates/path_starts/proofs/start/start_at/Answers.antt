@@ -39,7 +39,7 @@ take_assert-requires-clause-terms c =
     let r = c.requires.ready in
     let inside = assert_inside _ plan.spec.now.asserts c.requires.assert.0 a c.requires.assert.1 ((planned p0 plan r.0 c.requires.plan r.1.is_scene).inside.asserts) in
     let fits = (fits_here p0 plan r.0 c.requires.plan r.1).asserts _ (assert_among p0 plan.spec.now.asserts c.requires.assert.0 a c.requires.assert.1) in
-    let frame = c.in-Ok.ensures.stands.frame in
+    let frame = c.in-Ok.ensures.stands.framed in
     let g = c.in-Ok.ensures.on.grows in
     start_of w1 (unit_of plan) c.set_starts.new.frame (start_in plan) a.terms frame (AllBelow-Grows p0 w1.pool a.terms g inside.terms)
     (ap (are_known_terms c.set_starts.new.frame.names.table c.set_starts.new.frame.entry.items) (trees_grow p0 w1.pool a.terms g inside.terms)
@@ -54,7 +54,7 @@ take_assert-requires-clause-clock c =
     let r = c.requires.ready in
     let inside = assert_inside _ plan.spec.now.asserts c.requires.assert.0 a c.requires.assert.1 ((planned p0 plan r.0 c.requires.plan r.1.is_scene).inside.asserts) in
     let fits = (fits_here p0 plan r.0 c.requires.plan r.1).asserts _ (assert_among p0 plan.spec.now.asserts c.requires.assert.0 a c.requires.assert.1) in
-    let frame = c.in-Ok.ensures.stands.frame in
+    let frame = c.in-Ok.ensures.stands.framed in
     let g = c.in-Ok.ensures.on.grows in
     start_of w1 (unit_of plan) c.set_starts.new.frame (start_in plan) a.clock frame (AllBelow-Grows p0 w1.pool a.clock g inside.clock)
     (ap (are_known_terms c.set_starts.new.frame.names.table c.set_starts.new.frame.entry.items) (trees_grow p0 w1.pool a.clock g inside.clock)
@@ -84,19 +84,19 @@ returns-clause-did c =
         λ p r. (λ i. started ((planned w0.pool plan p c.requires.plan r.is_scene).smashed i) (at_entry_in u.names)) ∙ started_are_at_start p s.number u (at_entry_in u.names) refl in
     record {
       known = last.known;
-      frame = frame_grows w1.pool w2.pool u f (start_in plan) c.in-Ok-take_assert.ensures.on.grows stands.frame;
+      framed = frame_grows w1.pool w2.pool u f (start_in plan) c.in-Ok-take_assert.ensures.on.grows stands.framed;
       is = λ p r.
           let w = seen_from s p in
           let here = planned w0.pool plan p c.requires.plan r.is_scene in
           let now : (moment w1).now ≡ start_in plan = ap (λ (m : Moment). m.now) stands.names in
-          let facts = start_is p s.number u w0.pool w1.pool f a plan.order.items (start_in plan) _ stands.frame (started_is p r) here.order
+          let facts = start_is p s.number u w0.pool w1.pool f a plan.order.items (start_in plan) (sorts of_terms u (moment w1).now plan.order.items) stands.framed (started_is p r) here.order
               (λ i. sorts of_terms u (now i) plan.order.items) terms clock in
           last.did.is
           ∙ ((λ i. met (stands.names i) (meet (takes (facts i))))
           ∙ (λ i. begun_with (moment w0) (start_facts w (assertion_tree w0.pool a)) (started_is p r i)));
-      clock = λ p r.
+      parts = λ p r.
           let w = seen_from s p in
           last.is
-          ∙ (told_is w1.pool u f (start_in plan) p s.number a.clock stands.frame
+          ∙ (told_is w1.pool u f (start_in plan) p s.number a.clock stands.framed
           ∙ (λ i. map (note of_terms (at_entry w) (started_is p r i)) (clock i)));
     }

@@ -1,57 +1,30 @@
 // The start of a path.
-ghost use Rattle.std.specs.Prelude.{◌≡◌, IfOk, OnOk};
+ghost use Rattle.std.specs.Prelude.{◌≡◌, option_copied, slice_get, IfOk, OnOk};
 ghost use Rattle.entry_frames.specs.Entries.{IsFrame, at_entry_in};
 ghost use Rattle.fort_model.specs.Program.{Program};
 ghost use Rattle.path_plans.specs.Plans.{IsPlan};
 ghost use Rattle.path_scene.specs.Scenes.{IsReady};
 ghost use Rattle.path_starts.specs.Starts.{unit_of};
-ghost use Rattle.path_walk.specs.Steps.{HasBegun, Sets};
+ghost use Rattle.path_openings.specs.Openings.{Sets};
 ghost use Rattle.walk_state.specs.Moments.{Follows, IsWalk, moment};
-ghost use Rattle.formula.specs.Pool.{Grows};
 
-use edge_io::{Keys, NoMemory};
-use entry_frames::Frame;
-use formula::TermPool;
+use crate::opening::Begun;
+use edge_io::NoMemory;
+use fort_notes::AssertSpec;
 use path_ends::Clock;
 use path_plans::Plan;
-use path_starts::{begin, start_at, take_entry};
-use std::alloc::Global;
-use walk_state::Walk;
+use path_starts::start_at;
 
-/// A walk with a frame of its unit.
-#[derive(Drop)]
-pub(crate) struct Begun {
-    pub(crate) walk: Walk,
-    pub(crate) frame: Frame,
-}
-
-/// A walk at the entry of a unit, where what holds there was taken. No answer depends on the keys.
-pub(crate) fn enter(
-    alloc: Global,
-    keys: Keys,
-    pool: TermPool,
-    plan: &Plan,
-) -> Result<Begun, NoMemory>
-    requires plan { IsPlan plan.now }
-    requires ready { (p : Program) × IsReady pool plan.now.setting.now.scene.now p }
-    ensures { IfOk result (λ begun. HasBegun plan.now pool begun) }
+/// The ASSERT of a number, from 0.
+fn assert_of<'a>(asserts: &'a [AssertSpec], number: usize) -> Option<&'a AssertSpec>
+    ensures { option_copied result ≡ slice_get asserts.now number }
 {
-    let unit = plan.setting.book.unit;
-    let Ok(mut walk) = begin(alloc, keys, pool, unit) else {
-        return Err(NoMemory);
-    };
-    let Ok(frame) = Frame::new(alloc, keys, &mut walk.pool, unit) else {
-        return Err(NoMemory);
-    };
-    let Ok(()) = take_entry(&mut walk, plan, &frame) else {
-        return Err(NoMemory);
-    };
-    Ok(Begun { walk, frame })
+    asserts.get(number)
 }
 
 /// A path starts, at the entry or at an ASSERT, told by its number from 1; it answers the clock
 /// there, if there is one.
-pub(crate) fn set_out(
+pub fn set_out(
     begun: &mut Begun,
     plan: &Plan,
     start: usize,
@@ -68,7 +41,7 @@ pub(crate) fn set_out(
         return Ok(None);
     }
     let asserts = plan.spec.asserts.as_slice();
-    let Some(assert) = asserts.get(start - 1) else {
+    let Some(assert) = assert_of(asserts, start - 1) else {
         return Ok(None);
     };
     let Ok(parts) = start_at(&mut begun.walk, plan, &mut begun.frame, assert) else {
