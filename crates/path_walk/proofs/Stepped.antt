@@ -1,5 +1,6 @@
 -- Statements one behind another.
-use Rattle.std.proofs.Common.{◌≡◌, ℕ, zero, suc, ◌<◌, ◌≤◌, Option, Some, None, List, [], ◌∷◌, ◌++◌, length, drop, slice_get, append_assoc, refl, sym, ap, ◌∙◌, arith}
+use Rattle.std.proofs.lemmas.Grind.{common_steps}
+use Rattle.std.proofs.Common.{◌≡◌, ℕ, zero, suc, ◌-◌, get_or, take, ◌<◌, ◌≤◌, Option, Some, None, List, [], ◌∷◌, ◌++◌, length, drop, slice_get, append_assoc, refl, sym, ap, ◌∙◌, arith}
 use Rattle.formula.specs.Tree.{Tree}
 use Rattle.fort_model.specs.Events.{Event, takes}
 use Rattle.fort_model.specs.Seen.{Answers, Named}
@@ -113,3 +114,20 @@ events_along w (suc k) end steps m0 m1 m3 clock begun set told is e =
     e
     ∙ ((λ i. (set i).events ++ arrives_behind w (told i) end (gone w (stops steps) 0 (set i).now (set i).answers))
     ∙ from_assert w (slice_get (notes_here w).asserts k) end steps m0 begun is)
+
+-- ---- steps by their places
+
+pub drop_at : (xs : List Step) (k n : ℕ) (d x : Step) → k < length xs → get_or xs k d ≡ x → n ≡ suc k → drop k xs ≡ x ∷ drop n xs
+drop_at xs k n d x lt is e = at xs k lt is ∙ (λ i. x ∷ drop (sym e i) xs)
+  where
+    at : (xs : List Step) (k : ℕ) → k < length xs → get_or xs k d ≡ x → drop k xs ≡ x ∷ drop (suc k) xs
+    at [] k lt is = absurd (omega arith)
+    at (y ∷ xs) zero lt is = λ i. is i ∷ xs
+    at (y ∷ xs) (suc k) lt is = at xs k (omega arith) is
+
+-- all behind a place
+pub all_behind : (xs : List Step) (k : ℕ) → take (length xs - k) (drop k xs) ≡ drop k xs
+all_behind xs k = grind (arith, common_steps)
+
+pub all_dropped : (xs : List Step) (k : ℕ) → length xs ≤ k → drop k xs ≡ []
+all_dropped xs k le = grind (arith, common_steps)
