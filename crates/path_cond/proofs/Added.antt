@@ -21,7 +21,7 @@ use Rattle.path_cond.specs.Found.{Adds, IsDraft, trees_of}
 use Rattle.path_cond.specs.declared.found.Drafts.{Drafts}
 use Rattle.path_scene.specs.Scenes.{IsReady}
 use Rattle.path_scene.specs.declared.scene.Scene.{Scene}
-use Rattle.walk_setting.proofs.Ready.{ready_stays}
+use Rattle.path_scene.proofs.Staying.{ready_stays}
 use Rattle.walk_state.specs.Moments.{AreMet, events_in}
 use Rattle.walk_state.specs.declared.walk.Met.{Met}
 

@@ -9,7 +9,7 @@ use Rattle.path_ends.proofs.Arriving.{cut_beyond, cut_within}
 use Rattle.path_ends.proofs.Checked.{clock_grows, clock_in_grows, met_from}
 use Rattle.path_ends.specs.Ends.{clock_trees, told_in}
 use Rattle.path_starts.specs.Starts.{unit_of}
-use Rattle.walk_setting.proofs.Ready.{ready_on, ready_stays}
+use Rattle.walk_setting.proofs.Ready.{ready_on}
 use Rattle.walk_setting.specs.Settings.{seen_from}
 use Rattle.walk_state.proofs.Parts.{follows_then}
 use Rattle.walk_state.specs.Moments.{Moment, moment}

@@ -62,7 +62,7 @@ returns-clause-on c =
     let g2 = Grows-trans w0.pool p1 p2 c.in-Ok.ensures.grows second.grows in
     let one = went w0 w2 w3 _ (checks ClockCheck c.args.card (map at_least_0 ts)) c.requires.well g2 refl refl refl c.check_all.ensures.on c.in-Ok-check_all.ensures.did
         (ap (checks ClockCheck c.args.card) (ap (trees_in p2) c.deref-3.ensures.value ∙ (second.is ∙ ap (map at_least_0) (ap (trees_in p1) c.deref-2.ensures.value ∙ told)))) in
-    follows_then w0 w3 w4 one.on c.check_fall.ensures.on
+    follows_then w0 w3 w4 one.on c.in-Ok-check_fall.ensures.on
 
 pub returns-clause-did : goal.returns-clause-did
 returns-clause-did c =

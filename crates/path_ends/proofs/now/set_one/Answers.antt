@@ -4,6 +4,7 @@ use Rattle.path_ends.proofs.Told.{frame_one}
 use Rattle.walk_names.proofs.NameTables.{names_grow}
 use Rattle.walk_names.specs.Names.{IsSet}
 use Rattle.walk_state.proofs.Parts.{follows_then, grew}
+use Rattle.walk_state.specs.declared.walk.Walk.{Walk}
 use Rattle.walk_state.specs.Moments.{moment}
 use Rattle.path_ends.proofs.now.set_one.Goals as goal
 
@@ -12,10 +13,15 @@ set-requires-clause-kept c = names_grow c.args.walk.now.pool c.term.new.self.poo
 
 pub returns-clause-on : goal.returns-clause-on
 returns-clause-on c =
-    follows_then c.args.walk.now c.term.new.self _ c.term.ensures.on (grew c.term.new.self _ c.term.ensures.on.kept c.set.ensures.grows refl refl refl).on
+    let w1 = c.term.new.self in
+    let w2 : Walk = record { pool = c.set.new.pool; names = w1.names; met = w1.met; calls = w1.calls; alloc = w1.alloc } in
+    follows_then c.args.walk.now w1 w2 c.term.ensures.on (grew w1 w2 c.term.ensures.on.kept c.set.ensures.grows refl refl refl).on
 
 pub returns-clause-same : goal.returns-clause-same
-returns-clause-same c = (grew c.term.new.self _ c.term.ensures.on.kept c.set.ensures.grows refl refl refl).same ∙ c.term.ensures.same
+returns-clause-same c =
+    let w1 = c.term.new.self in
+    let w2 : Walk = record { pool = c.set.new.pool; names = w1.names; met = w1.met; calls = w1.calls; alloc = w1.alloc } in
+    (grew w1 w2 c.term.ensures.on.kept c.set.ensures.grows refl refl refl).same ∙ c.term.ensures.same
 
 pub returns-clause-frame : goal.returns-clause-frame
 returns-clause-frame c was h =

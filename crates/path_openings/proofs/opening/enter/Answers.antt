@@ -8,7 +8,8 @@ use Rattle.path_openings.proofs.Opened.{begun_at}
 use Rattle.path_plans.proofs.Planned.{shapes_here}
 use Rattle.path_starts.proofs.Taken.{still_now}
 use Rattle.path_starts.specs.Starts.{unit_of}
-use Rattle.walk_setting.proofs.Ready.{ready_on, ready_stays}
+use Rattle.path_scene.proofs.Staying.{ready_stays}
+use Rattle.walk_setting.proofs.Ready.{ready_on}
 use Rattle.walk_setting.specs.Settings.{seen_from}
 use Rattle.walk_state.proofs.Parts.{grew}
 use Rattle.walk_state.specs.declared.walk.Walk.{Walk}
