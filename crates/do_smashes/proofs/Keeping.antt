@@ -1,0 +1,97 @@
+-- Tables keep the names of DOs, one DO after the other.
+use Rattle.std.proofs.Common.{◌≡◌, ℕ, zero, suc, ◌+◌, ◌<◌, Bool, true, false, cond, ◌||◌, List, [], ◌∷◌, ◌++◌, length, take, get_or, Option, Some, None, refl, sym, ap, ◌∙◌, arith}
+use Rattle.std.specs.Prelude.{max}
+use Rattle.formula.specs.Atoms.{same_bytes, is_among}
+use Rattle.fort_syntax.specs.declared.name.Name.{Name}
+use Rattle.fort_syntax.specs.declared.stmt.Stmt.{Stmt}
+use Rattle.fort_syntax.specs.declared.unit.Line.{Line}
+use Rattle.fort_syntax.specs.declared.unit.Unit.{Unit as Routine}
+use Rattle.fort_model.specs.Ranges.{DoRange, do_of, do_range, dos_from}
+use Rattle.name_tables.proofs.Told.{same_names, swapped}
+use Rattle.call_tests.proofs.Sets.{among_both}
+use Rattle.do_smashes.specs.Guards.{kept_to, further, Keeps, kept_by, AreKept}
+
+-- ---- names
+
+-- one name more
+pub keeps_one : (old new : List (Name × ℕ)) (name : Name) (end had most : ℕ) → had ≡ kept_to old name → most ≡ max had end
+    → ((x : Name) → kept_to new x ≡ cond (same_bytes name x) most (kept_to old x)) → Keeps old new (name ∷ []) end
+keeps_one old new name end had most is is_most told x = told x ∙ by (same_bytes name x) refl
+  where
+    turned : (b : Bool) → same_bytes name x ≡ b → further (same_bytes x name || false) end (kept_to old x) ≡ further (b || false) end (kept_to old x)
+    turned b e = ap (λ (c : Bool). further (c || false) end (kept_to old x)) (swapped x name ∙ e)
+
+    by : (b : Bool) → same_bytes name x ≡ b → cond b most (kept_to old x) ≡ further (same_bytes x name || false) end (kept_to old x)
+    by true e = is_most ∙ ap (λ (n : ℕ). max n end) (is ∙ ap (kept_to old) (same_names name x e)) ∙ sym (turned true e)
+    by false e = sym (turned false e)
+
+twice : (had end : ℕ) → max (max had end) end ≡ max had end
+twice had end = omega arith
+
+joined : (b c : Bool) (end had : ℕ) → further c end (further b end had) ≡ further (b || c) end had
+joined true true end had = twice had end
+joined true false end had = refl
+joined false c end had = refl
+
+-- one list of names after another
+pub keeps_both : (first second third : List (Name × ℕ)) (xs ys : List Name) (end : ℕ) → Keeps first second xs end → Keeps second third ys end
+    → Keeps first third (xs ++ ys) end
+keeps_both first second third xs ys end f g x =
+    g x ∙ ap (further (is_among x ys) end) (f x) ∙ joined (is_among x xs) (is_among x ys) end (kept_to first x)
+    ∙ ap (λ (b : Bool). further b end (kept_to first x)) (sym (among_both x xs ys))
+
+pub keeps_three : (first second third fourth : List (Name × ℕ)) (xs ys zs : List Name) (end : ℕ) → Keeps first second xs end → Keeps second third ys end
+    → Keeps third fourth zs end → Keeps first fourth (xs ++ ys ++ zs) end
+keeps_three first second third fourth xs ys zs end f g h =
+    keeps_both first third fourth (xs ++ ys) zs end (keeps_both first second third xs ys end f g) h
+
+pub keeps_first : (first second third : List (Name × ℕ)) (x : Name) (ys : List Name) (end : ℕ) → Keeps first second (x ∷ []) end → Keeps second third ys end
+    → Keeps first third (x ∷ ys) end
+keeps_first first second third x ys end f g = keeps_both first second third (x ∷ []) ys end f g
+
+-- ---- DOs
+
+-- a DO that has a range
+pub keeps_range : (old new : List (Name × ℕ)) (at last end : ℕ) (names : List Name) (o : Option ℕ) → o ≡ Some last → end ≡ last + 1 → Keeps old new names end
+    → (x : Name) → kept_to new x ≡ kept_by (do_range at names o) x (kept_to old x)
+keeps_range old new at last end names o some is keeps x =
+    keeps x ∙ ap (λ (n : ℕ). further (is_among x names) n (kept_to old x)) (is ∙ next) ∙ ap (λ (q : Option ℕ). kept_by (do_range at names q) x (kept_to old x)) (sym some)
+  where
+    next : last + 1 ≡ suc last
+    next = omega arith
+
+pub keeps_no_range : (old : List (Name × ℕ)) (at : ℕ) (names : List Name) (o : Option ℕ) → o ≡ None
+    → (x : Name) → kept_to old x ≡ kept_by (do_range at names o) x (kept_to old x)
+keeps_no_range old at names o none x = ap (λ (q : Option ℕ). kept_by (do_range at names q) x (kept_to old x)) (sym none)
+
+-- DOs in two lists
+pub kept_by_both : (xs ys : List DoRange) (x : Name) (had : ℕ) → kept_by (xs ++ ys) x had ≡ kept_by ys x (kept_by xs x had)
+kept_by_both [] ys x had = refl
+kept_by_both (d ∷ xs) ys x had = kept_by_both xs ys x (further (is_among x d.names) (suc d.range.last) had)
+
+-- one statement more
+one_more : (u : Routine) (pc at : ℕ) (lines : List Line) (line : Line) (x : Name) (had : ℕ) → at < length lines → line ≡ get_or lines at line
+    → kept_by (dos_from u pc (take (at + 1) lines)) x had ≡ kept_by (do_of u (pc + at) line.stmt) x (kept_by (dos_from u pc (take at lines)) x had)
+one_more u pc at [] line x had inside is = absurd (omega arith)
+one_more u pc zero (l ∷ lines) line x had inside is =
+    kept_by_both (do_of u pc l.stmt) [] x had ∙ ap (λ (k : Line). kept_by (do_of u pc k.stmt) x had) (sym is) ∙ ap (λ (n : ℕ). kept_by (do_of u n line.stmt) x had) none
+  where
+    none : pc ≡ pc + 0
+    none = omega arith
+one_more u pc (suc at) (l ∷ lines) line x had inside is =
+    kept_by_both (do_of u pc l.stmt) (dos_from u (suc pc) (take (at + 1) lines)) x had
+    ∙ one_more u (suc pc) at lines line x (kept_by (do_of u pc l.stmt) x had) (omega (arith, inside)) is
+    ∙ ap (λ (n : ℕ). kept_by (do_of u n line.stmt) x (kept_by (dos_from u (suc pc) (take at lines)) x (kept_by (do_of u pc l.stmt) x had))) next
+    ∙ ap (kept_by (do_of u (pc + suc at) line.stmt) x) (sym (kept_by_both (do_of u pc l.stmt) (dos_from u (suc pc) (take at lines)) x had))
+  where
+    next : suc pc + at ≡ pc + suc at
+    next = omega arith
+
+pub kept_next : (u : Routine) (at : ℕ) (line : Line) (old new : List (Name × ℕ)) → at < length u.lines → line ≡ get_or u.lines at line → AreKept u at old
+    → ((x : Name) → kept_to new x ≡ kept_by (do_of u at line.stmt) x (kept_to old x)) → AreKept u (at + 1) new
+kept_next u at line old new inside is kept told x =
+    told x ∙ ap (kept_by (do_of u at line.stmt) x) (kept x) ∙ ap (λ (n : ℕ). kept_by (do_of u n line.stmt) x (kept_by (dos_from u 0 (take at u.lines)) x 0)) none
+    ∙ sym (one_more u 0 at u.lines line x 0 inside is)
+  where
+    none : at ≡ 0 + at
+    none = omega arith

@@ -1,0 +1,4 @@
+pub mod Keeping
+pub mod Told
+pub mod Reaching
+pub mod Passing

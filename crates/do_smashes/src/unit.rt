@@ -1,0 +1,77 @@
+// The statements of a unit, one after the other.
+ghost use Rattle.std.specs.Prelude.{◌≡◌, IfOk};
+ghost use Rattle.fort_syntax.specs.declared.rule.Rule.TheVariants.{DoSmashed};
+ghost use Rattle.fort_model.specs.Program.{Program};
+ghost use Rattle.fort_model.specs.Rules.{breaks_do};
+ghost use Rattle.unit_faults.specs.Sooner.{first_at};
+ghost use Rattle.unit_points.specs.Labels.{AreLabelsOf};
+ghost use Rattle.do_smashes.specs.Hits.{unit_of, program_of};
+
+use crate::calls::{Caller, Kept};
+use crate::guards::Guards;
+use crate::loops::keep_do;
+use crate::statements::breaks_do;
+use call_sites::{Book, DeckBook};
+use edge_io::{Keys, NoMemory};
+use fort_syntax::{Fault, Rule};
+use name_tables::NameSet;
+use std::alloc::Global;
+use unit_points::Labels;
+
+/// The first statement that breaks rule 29.
+fn first_smash(
+    alloc: Global,
+    keys: Keys,
+    caller: &Caller,
+    labels: &Labels,
+) -> Result<Option<Fault>, NoMemory>
+    requires { AreLabelsOf (unit_of caller.now).lines labels.now }
+    ensures { IfOk result (λ fault. fault ≡ first_at DoSmashed (breaks_do (program_of caller.now) (unit_of caller.now)) 0 (unit_of caller.now).lines) }
+{
+    let unit = caller.book.unit;
+    let lines = unit.lines.as_slice();
+    let mut guards = Guards::new(alloc, keys);
+    for at in 0..lines.len() {
+        let kept = Kept {
+            guards: &guards,
+            at,
+        };
+        let Ok(broken) = breaks_do(alloc, &kept, caller, &lines[at].stmt) else {
+            return Err(NoMemory);
+        };
+        if broken {
+            return Ok(Some(Fault {
+                rule: Rule::DoSmashed,
+                card: lines[at].card,
+            }));
+        }
+        let Ok(()) = keep_do(&mut guards, unit, labels, at, &lines[at].stmt) else {
+            return Err(NoMemory);
+        };
+    }
+    Ok(None)
+}
+
+/// The first fault of a unit by rule 29, or None where it keeps it: a statement in the range of a DO smashes a name of that DO,
+/// its variable or one of its parameters; or a DO has its variable as a parameter. The rows have the names that each unit of the
+/// deck smashes. It takes time for each statement, each actual, and each COMMON entity at each call; no answer depends on the keys.
+pub fn smashed_in_do(
+    alloc: Global,
+    keys: Keys,
+    deck: &DeckBook,
+    rows: &[NameSet],
+    caller: &Book,
+) -> Result<Option<Fault>, NoMemory>
+    ensures { IfOk result (λ fault. (p : Program) → p.units ≡ deck.now.units.now → p.smashes ≡ rows.now → fault ≡ first_at DoSmashed (breaks_do p caller.now.unit.now) 0 caller.now.unit.now.lines) }
+{
+    let labels = Labels::new(alloc, caller.unit.lines.as_slice())?;
+    let from = Caller {
+        deck,
+        rows,
+        book: caller,
+    };
+    let Ok(fault) = first_smash(alloc, keys, &from, &labels) else {
+        return Err(NoMemory);
+    };
+    Ok(fault)
+}
