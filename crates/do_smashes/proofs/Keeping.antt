@@ -79,13 +79,17 @@ one_more u pc zero (l ∷ lines) line x had inside is =
     none : pc ≡ pc + 0
     none = omega arith
 one_more u pc (suc at) (l ∷ lines) line x had inside is =
-    kept_by_both (do_of u pc l.stmt) (dos_from u (suc pc) (take (at + 1) lines)) x had
+    ap (λ (n : ℕ). kept_by (dos_from u pc (take n (l ∷ lines))) x had) longer
+    ∙ kept_by_both (do_of u pc l.stmt) (dos_from u (suc pc) (take (at + 1) lines)) x had
     ∙ one_more u (suc pc) at lines line x (kept_by (do_of u pc l.stmt) x had) (omega (arith, inside)) is
     ∙ ap (λ (n : ℕ). kept_by (do_of u n line.stmt) x (kept_by (dos_from u (suc pc) (take at lines)) x (kept_by (do_of u pc l.stmt) x had))) next
     ∙ ap (kept_by (do_of u (pc + suc at) line.stmt) x) (sym (kept_by_both (do_of u pc l.stmt) (dos_from u (suc pc) (take at lines)) x had))
   where
     next : suc pc + at ≡ pc + suc at
     next = omega arith
+
+    longer : suc at + 1 ≡ suc (at + 1)
+    longer = omega arith
 
 pub kept_next : (u : Routine) (at : ℕ) (line : Line) (old new : List (Name × ℕ)) → at < length u.lines → line ≡ get_or u.lines at line → AreKept u at old
     → ((x : Name) → kept_to new x ≡ kept_by (do_of u at line.stmt) x (kept_to old x)) → AreKept u (at + 1) new

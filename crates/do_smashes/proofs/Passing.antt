@@ -91,11 +91,11 @@ module _ (test f : Name → Bool) (n : ℕ) (items : List Item) (item : Item) (h
 
 filter_both : (f : Name → Bool) (xs ys : List Name) → filter f (xs ++ ys) ≡ filter f xs ++ filter f ys
 filter_both f [] ys = refl
-filter_both f (x ∷ xs) ys = by (f x)
+filter_both f (x ∷ xs) ys = by (filter_both f xs ys) (f x)
   where
-    by : (b : Bool) → cond b (x ∷ filter f (xs ++ ys)) (filter f (xs ++ ys)) ≡ cond b (x ∷ filter f xs) (filter f xs) ++ filter f ys
-    by true = ap (λ (zs : List Name). x ∷ zs) (filter_both f xs ys)
-    by false = filter_both f xs ys
+    by : filter f (xs ++ ys) ≡ filter f xs ++ filter f ys → (b : Bool) → cond b (x ∷ filter f (xs ++ ys)) (filter f (xs ++ ys)) ≡ cond b (x ∷ filter f xs) (filter f xs) ++ filter f ys
+    by rec true = ap (λ (zs : List Name). x ∷ zs) rec
+    by rec false = rec
 
 module _ (test f : Name → Bool) (n : ℕ) (groups : List Group) (group : Group) (hit whole : Bool) (inside : n < length groups) (is : group ≡ get_or groups n group)
     (is_hit : hit ≡ list_any test (filter f (map (λ (i : Item). i.name) group.items))) (so_far : list_any test (filter f (items_of (drop n groups))) ≡ whole) where

@@ -22,10 +22,18 @@ use Rattle.fort_laws.proofs.Near.{known}
 use Rattle.fort_laws.proofs.References.{among_either}
 use Rattle.fort_laws.proofs.Small.{both_parts, both_hold, some_passes}
 use Rattle.smash_laws.proofs.Tests.{any_passes, any_same}
-use Rattle.unit_faults.proofs.Least.{none_among, among_cases}
 use Rattle.smash_table.specs.Smashed.{stmt_names}
 use Rattle.do_smashes.specs.Guards.{kept_to, is_kept, further, kept_by, AreKept}
 use Rattle.do_smashes.proofs.Told.{stmt_told}
+
+-- ---- what stands in lists
+
+none_among : {X : Type 0} (x : X) → IsAmong x [] → ⊥
+none_among x h = (let never = h.1 in cc)
+
+among_cases : {X : Type 0} (x y : X) (ys : List X) → IsAmong x (y ∷ ys) → (x ≡ y) ⊎ IsAmong x ys
+among_cases x y ys (zero, e) = inl (cc)
+among_cases x y ys (suc k, e) = inr (k, e)
 
 -- ---- numbers
 

@@ -1,5 +1,5 @@
 // The names that DOs keep.
-ghost use Rattle.std.specs.Prelude.{◌≡◌, cond, [], ◌∷◌, OnOk};
+ghost use Rattle.std.specs.Prelude.{◌≡◌, ℕ, cond, List, [], ◌∷◌, OnOk};
 ghost use Rattle.formula.specs.Atoms.{same_bytes};
 ghost use Rattle.fort_model.specs.Ranges.{param_names, step_names};
 ghost use Rattle.do_smashes.specs.Guards.{kept_to, is_kept, Keeps};

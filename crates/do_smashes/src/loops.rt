@@ -1,5 +1,5 @@
 // DOs, and the names that they keep.
-ghost use Rattle.std.specs.Prelude.{◌≡◌, ◌++◌, ◌∷◌, OnOk};
+ghost use Rattle.std.specs.Prelude.{◌≡◌, ℕ, List, ◌++◌, ◌∷◌, OnOk};
 ghost use Rattle.formula.specs.Atoms.{is_among};
 ghost use Rattle.fort_model.specs.Ranges.{do_of, last_of_do, param_names, step_names};
 ghost use Rattle.fort_model.specs.Rules.{uses_itself};
