@@ -1,5 +1,5 @@
 -- Tables keep the names of DOs, one DO after the other.
-use Rattle.std.proofs.Common.{◌≡◌, ℕ, zero, suc, ◌+◌, ◌<◌, Bool, true, false, cond, ◌||◌, List, [], ◌∷◌, ◌++◌, length, take, get_or, Option, Some, None, refl, sym, ap, ◌∙◌, arith}
+use Rattle.std.proofs.Common.{◌≡◌, ℕ, zero, suc, ◌+◌, ◌<◌, Bool, true, false, cond, ◌||◌, List, [], ◌∷◌, ◌++◌, length, take, get_or, Option, Some, None, refl, sym, ap, ◌∙◌, subst, arith}
 use Rattle.std.specs.Prelude.{max}
 use Rattle.formula.specs.Atoms.{same_bytes, is_among}
 use Rattle.fort_syntax.specs.declared.name.Name.{Name}
@@ -99,3 +99,22 @@ kept_next u at line old new inside is kept told x =
   where
     none : at ≡ 0 + at
     none = omega arith
+
+pub same_default : {A : Type 0} (xs : List A) (n : ℕ) (a b : A) → n < length xs → get_or xs n a ≡ get_or xs n b
+same_default [] n a b h = absurd (omega arith)
+same_default (x ∷ xs) zero a b h = refl
+same_default (x ∷ xs) (suc n) a b h = same_default xs n a b (omega (arith, h))
+
+-- a line that was read in a list is that at its place in the same list under another word
+pub read_in : (xs ys : List Line) (n : ℕ) (d : Line) → xs ≡ ys → n < length xs → (n < length ys) × (get_or xs n d ≡ get_or ys n (get_or xs n d))
+read_in xs ys n d same inside = (
+  subst (λ (zs : List Line). n < length zs) same inside,
+  same_default xs n d (get_or xs n d) inside ∙ ap (λ (zs : List Line). get_or zs n (get_or xs n d)) same,
+)
+
+-- the statement at a point was read, and its names are kept
+pub kept_read : (u : Routine) (at : ℕ) (lines : List Line) (d : Line) (old new : List (Name × ℕ)) → lines ≡ u.lines → at < length lines → AreKept u at old
+    → ((x : Name) → kept_to new x ≡ kept_by (do_of u at (get_or lines at d).stmt) x (kept_to old x)) → AreKept u (at + 1) new
+kept_read u at lines d old new same inside kept told =
+    let r = read_in lines u.lines at d same inside in
+    kept_next u at (get_or lines at d) old new r.0 r.1 kept told

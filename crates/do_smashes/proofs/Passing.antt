@@ -22,6 +22,7 @@ use Rattle.smash_laws.specs.Ordered.{with_table}
 use Rattle.smash_table.specs.Smashed.{call_names, names_by, names_of_callee, site_names}
 use Rattle.unit_faults.specs.Sooner.{first_at, fault_at}
 use Rattle.do_smashes.specs.Hits.{row_of}
+use Rattle.do_smashes.proofs.Keeping.{read_in}
 
 -- the first of what is left of a list
 first_left : {A : Type 0} (xs : List A) (n : ℕ) (a : A) → n < length xs → a ≡ get_or xs n a → drop n xs ≡ a ∷ drop (n + 1) xs
@@ -176,6 +177,13 @@ module _ (rule : Rule) (test : ℕ → Stmt → Bool) (n : ℕ) (lines : List Li
 
   pub line_gone : broken ≡ false → first_at rule test (n + 1) (drop (n + 1) lines) ≡ whole
   line_gone f = sym (ap (λ (b : Bool). cond b (Some (fault_at rule line.card)) (first_at rule test (n + 1) (drop (n + 1) lines))) f) ∙ line_split
+
+-- the statement at a point was read, and does not break the rule
+pub line_read : (rule : Rule) (test : ℕ → Stmt → Bool) (n : ℕ) (xs lines : List Line) (d : Line) (broken : Bool) (whole : Option Fault) → xs ≡ lines → n < length xs
+    → broken ≡ test n (get_or xs n d).stmt → first_at rule test n (drop n lines) ≡ whole → broken ≡ false → first_at rule test (n + 1) (drop (n + 1) lines) ≡ whole
+line_read rule test n xs lines d broken whole same inside is so_far none =
+    let r = read_in xs lines n d same inside in
+    line_gone rule test n lines (get_or xs n d) broken whole r.0 r.1 is so_far none
 
 -- the units and the table alone count
 pub by_table : (rule : Rule) (u : Routine) (units : List Routine) (rows : List (List Name)) (p : Program) → p.units ≡ units → p.smashes ≡ rows

@@ -221,3 +221,7 @@ module _ (p : Program) (u : Routine) (at : ℕ) (s : Stmt) (table : List (Name �
   -- a statement at the point smashes a kept name just where it smashes a name of a DO in whose range it stands
   pub hits_are : hit ≡ smashed
   hits_are = same_truth hit smashed there back
+
+  -- a DO that does not use itself breaks the rule just where it smashes a kept name
+  pub broken_is : (uses broken : Bool) → uses ≡ uses_itself s → uses ≡ false → broken ≡ hit → broken ≡ breaks_do p u at s
+  broken_is uses broken is none e = e ∙ hits_are ∙ sym (ap (λ (b : Bool). b || smashed) (sym is ∙ none))

@@ -134,12 +134,7 @@ fn hits_site(kept: &Kept, caller: &Caller, site: &Site) -> bool
                 rows: caller.rows,
                 book,
             };
-            let passed = hits_actuals(
-                kept,
-                &called,
-                book.unit.dummies.as_slice(),
-                site.actuals(),
-            );
+            let passed = hits_actuals(kept, &called, book.unit.dummies.as_slice(), site.actuals());
             passed || hits_groups(kept, &called, caller.book.unit.blocks.as_slice())
         }
         None => false,

@@ -1,5 +1,5 @@
 // DOs, and the names that they keep.
-ghost use Rattle.std.specs.Prelude.{◌≡◌, ℕ, List, ◌++◌, ◌∷◌, OnOk};
+ghost use Rattle.std.specs.Prelude.{◌≡◌, ◌<◌, ℕ, List, ◌++◌, ◌∷◌, IfSome, OnOk};
 ghost use Rattle.formula.specs.Atoms.{is_among};
 ghost use Rattle.fort_model.specs.Ranges.{do_of, last_of_do, param_names, step_names};
 ghost use Rattle.fort_model.specs.Rules.{uses_itself};
@@ -45,7 +45,8 @@ pub(crate) fn uses_itself(stmt: &Stmt) -> bool
 /// The point of the last statement of a DO at a point.
 fn last_of_do(unit: &Unit, labels: &Labels, at: usize, label: u32) -> Option<usize>
     requires { AreLabelsOf unit.now.lines labels.now }
-    ensures { result ≡ last_of_do unit.now at label }
+    ensures value { result ≡ last_of_do unit.now at label }
+    ensures within { IfSome result (λ last. last < 18446744073709551615) }
 {
     let last = labels.point(label);
     if at < last && last < unit.lines.as_slice().len() {

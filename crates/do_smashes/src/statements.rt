@@ -38,12 +38,7 @@ fn sets_kept(kept: &Kept, stmt: &Stmt) -> bool
 }
 
 /// Whether a statement smashes a kept name.
-fn hits_stmt(
-    alloc: Global,
-    kept: &Kept,
-    caller: &Caller,
-    stmt: &Stmt,
-) -> Result<bool, NoMemory>
+fn hits_stmt(alloc: Global, kept: &Kept, caller: &Caller, stmt: &Stmt) -> Result<bool, NoMemory>
     ensures { IfOk result (λ hit. hit ≡ list_any (is_kept kept.now.guards.now kept.now.at) (stmt_names (program_of caller.now) (unit_of caller.now) stmt.now)) }
 {
     if sets_kept(kept, stmt) {

@@ -1,17 +1,15 @@
 -- The faults of units lead to the first fault of all of them.
-use Rattle.std.proofs.Common.{◌≡◌, ℕ, ◌+◌, ◌<◌, List, length, map, get_or, Option, Some, None, slice_get, refl, sym, ap, ◌∙◌, subst}
-use Rattle.std.proofs.lemmas.Option.{slice_get-get_or, slice_get_read}
+use Rattle.std.proofs.Common.{◌≡◌, ℕ, zero, suc, ◌+◌, ◌<◌, IsTrue, get_or, List, [], ◌∷◌, length, map, Option, Some, None, slice_get, sym, ap, ◌∙◌, subst}
+use Rattle.std.proofs.lemmas.Option.{slice_get-get_or}
 use Rattle.formula.specs.declared.node.Node.{Node}
+use Rattle.fort_syntax.specs.DeckOrder.{stand_between}
 use Rattle.fort_syntax.specs.FirstFaults.{TellsLeast}
-use Rattle.fort_syntax.specs.declared.deck.Deck.{Deck}
-use Rattle.fort_syntax.specs.WellFormed.{AreWellFormedUnits, IsWellFormed}
+use Rattle.fort_syntax.specs.WellFormed.{AreWellFormedUnits}
 use Rattle.fort_syntax.specs.declared.dialect.Dialect.{Dialect}
 use Rattle.fort_syntax.specs.declared.refusal.Fault.{Fault}
 use Rattle.fort_syntax.specs.declared.unit.Unit.{Unit as Routine}
 use Rattle.fort_notes.specs.Assertions.{Notes, notes_tree}
 use Rattle.fort_notes.specs.declared.notes.UnitSpec.{UnitSpec}
-use Rattle.fort_laws.proofs.Small.{map_at}
-use Rattle.fort_model.specs.Fitting.{HasFittingNotes}
 use Rattle.fort_model.specs.Program.{Program, notes_in, notes_of}
 use Rattle.fort_model.specs.Stages.{IsBrokenOf, IsFirstBroken, KeepsAll, rules_of_ranges}
 use Rattle.do_ranges.specs.Stage.{TellsRanges}
@@ -22,12 +20,30 @@ use Rattle.unit_stages.specs.Before.{TellsBefore}
 use Rattle.unit_stages.proofs.Joined.{none_before, one_more, all_before, kept_by_all}
 use Rattle.range_stage.specs.Ranges.{IsOfUnits, TellsAllRanges}
 
+-- what was read stands at its place
+pub at_place : {A : Type 0} (xs : List A) (n : ℕ) (x : A) → n < length xs → x ≡ get_or xs n x → slice_get xs n ≡ Some x
+at_place xs n x inside is = slice_get-get_or xs n x inside ∙ ap Some (sym is)
+
+-- the cards of a unit ascend
+pub cards_at : (d : Dialect) (units : List Routine) (n : ℕ) (u : Routine) → AreWellFormedUnits d units → slice_get units n ≡ Some u
+    → IsTrue (stand_between u.head u.lines u.«end»)
+cards_at d [] n u well at = absurd (cc)
+cards_at d (v ∷ units) zero u well at =
+    let same : v ≡ u = cc in
+    subst (λ (w : Routine). IsTrue (stand_between w.head w.lines w.«end»)) same well.0.cards
+cards_at d (v ∷ units) (suc n) u well at = cards_at d units n u well.1 at
+
 -- what is told of the units before a number
 abbrev pub TellsFirst : List Routine → List UnitSpec → ℕ → Option Fault → Type 0
 TellsFirst units specs n told = (p : Program) → IsOfUnits units specs p → TellsBefore p rules_of_ranges n told
 
 pub nothing_told : (units : List Routine) (specs : List UnitSpec) → TellsFirst units specs 0 None
 nothing_told units specs p is = none_before p rules_of_ranges
+
+map_at : {A B : Type 0} (f : A → B) (xs : List A) (n : ℕ) (x : A) → slice_get xs n ≡ Some x → slice_get (map f xs) n ≡ Some (f x)
+map_at f [] n x e = absurd (cc)
+map_at f (y ∷ xs) zero x e = let q : y ≡ x = cc in ap (λ z. Some (f z)) q
+map_at f (y ∷ xs) (suc n) x e = map_at f xs n x e
 
 -- the notes of the unit of a number
 notes_there : (specs : List UnitSpec) (n : ℕ) (spec : UnitSpec) (p : Program) (pool : List Node) → p.notes ≡ map (notes_tree pool) specs
@@ -62,16 +78,3 @@ scene_kept scene told tells none pool p is =
 pub scene_broken : (scene : Scene) (told : Option Fault) (f : Fault) → TellsAllRanges scene.books.now.units.now scene.notes.now told → told ≡ Some f
     → (pool : List Node) (p : Program) → IsScene pool scene p → IsFirstBroken p rules_of_ranges f
 scene_broken scene told f tells some pool p is = subst (TellsLeast (IsBrokenOf p rules_of_ranges)) some (tells p (is_of pool scene p is))
-
-mapped_long : {A B : Type 0} (f : A → B) (xs : List A) → length (map f xs) ≡ length xs
-mapped_long f xs = search
-
-pub well_units : (pool : List Node) (scene : Scene) (p : Program) (deck : Deck) → IsScene pool scene p → deck.units ≡ p.units → IsWellFormed p.dialect deck
-    → AreWellFormedUnits p.dialect scene.books.now.units.now
-well_units pool scene p deck is units well = subst (AreWellFormedUnits p.dialect) (units ∙ sym is.units) well.units
-
-pub as_long : (pool : List Node) (scene : Scene) (p : Program) → IsScene pool scene p → HasFittingNotes p
-    → length scene.notes.now ≡ length scene.books.now.units.now
-as_long pool scene p is fitting =
-    sym (mapped_long (notes_tree pool) scene.notes.now) ∙ ap (λ (ns : List Notes). length ns) is.notes ∙ fitting.count
-    ∙ ap (λ (us : List Routine). length us) (sym is.units)

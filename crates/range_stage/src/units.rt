@@ -35,11 +35,7 @@ fn unit_fault(alloc: Global, unit: &Unit, spec: &UnitSpec) -> Result<Option<Faul
 }
 
 /// The first fault of some units, if they have one.
-fn first_fault(
-    alloc: Global,
-    units: &[Unit],
-    specs: &[UnitSpec],
-) -> Result<Option<Fault>, NoMemory>
+fn first_fault(alloc: Global, units: &[Unit], specs: &[UnitSpec]) -> Result<Option<Fault>, NoMemory>
     requires long { length specs.now ≡ length units.now }
     requires well { (d : Dialect) × AreWellFormedUnits d units.now }
     ensures { IfOk result (TellsAllRanges units.now specs.now) }

@@ -1,16 +1,14 @@
 -- The sooner of what units before told and of the fault of a unit.
-use Rattle.std.proofs.Common.{◌≡◌, ℕ, zero, suc, ◌+◌, ◌<◌, ◌≤◌, ◌⊎◌, inl, inr, List, [], ◌∷◌, length, Option, Some, None, slice_get, refl, sym, ◌∙◌, subst, arith}
-use Rattle.fort_syntax.specs.FirstFaults.{TellsLeast}
-use Rattle.fort_syntax.specs.declared.refusal.Fault.{Fault}
+use Rattle.std.proofs.Common.{◌≡◌, ℕ, zero, suc, ◌+◌, ◌<◌, ◌⊎◌, inl, inr, List, [], ◌∷◌, length, Option, Some, slice_get, sym, ◌∙◌, subst, arith}
 use Rattle.fort_syntax.specs.declared.rule.Rule.{Rule}
 use Rattle.fort_syntax.specs.declared.unit.Unit.{Unit as Routine}
 use Rattle.fort_model.specs.Program.{Program}
 use Rattle.fort_model.specs.Rules.{Breaks, IsBroken}
-use Rattle.fort_model.specs.Stages.{IsBrokenOf, KeepsAll}
+use Rattle.fort_model.specs.Stages.{IsBrokenOf}
 use Rattle.unit_faults.specs.Breaking.{BreaksOneOf}
 use Rattle.unit_faults.specs.Sooner.{sooner}
 use Rattle.unit_faults.proofs.Least.{sooner_tells, tells_of}
-use Rattle.unit_stages.specs.Before.{IsBrokenBefore, TellsBefore, NoneBefore, OneMore, AllBefore, KeptByAll}
+use Rattle.unit_stages.specs.Before.{IsBrokenBefore, NoneBefore, OneMore, AllBefore, KeptByAll}
 
 pub none_before : NoneBefore
 none_before p rules rule card h = (let lt : h.unit < 0 = h.before in absurd (omega (arith, lt)))

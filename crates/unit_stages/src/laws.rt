@@ -9,5 +9,4 @@ pub fn first_of_units()
     ensures more { OneMore }
     ensures whole { AllBefore }
     ensures kept { KeptByAll }
-{
-}
+{}

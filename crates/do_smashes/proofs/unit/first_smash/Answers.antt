@@ -1,0 +1,17 @@
+use Rattle.std.proofs.Common.{arith}
+use Rattle.fort_syntax.specs.declared.rule.Rule.TheVariants.{DoSmashed}
+use Rattle.fort_model.specs.Rules.{breaks_do}
+use Rattle.do_smashes.specs.Hits.{unit_of, program_of}
+use Rattle.do_smashes.proofs.Keeping.{kept_read}
+use Rattle.do_smashes.proofs.Passing.{line_read}
+use Rattle.do_smashes.proofs.unit.first_smash.Goals as goal
+
+pub loop-at-preserved : goal.loop-at-preserved
+loop-at-preserved c =
+    let u = unit_of c.args.caller.now in
+    record {
+      kept = kept_read u c.loop-at.at c.as_slice-lines.result.now c.index-lines-at-in-loop-at.result c.loop-at.guards c.keep_do.new.guards
+          c.as_slice-lines.ensures (omega arith) c.loop-at.invariant.kept c.in-Ok-keep_do.ensures;
+      so_far = line_read DoSmashed (breaks_do (program_of c.args.caller.now) u) c.loop-at.at c.as_slice-lines.result.now u.lines c.index-lines-at.result c.in-Ok.broken _
+          c.as_slice-lines.ensures (omega arith) c.in-Ok.ensures c.loop-at.invariant.so_far c.if-broken.false;
+    }

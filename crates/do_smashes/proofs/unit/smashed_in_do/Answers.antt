@@ -1,0 +1,7 @@
+use Rattle.std.proofs.Common.{◌∙◌}
+use Rattle.fort_syntax.specs.declared.rule.Rule.TheVariants.{DoSmashed}
+use Rattle.do_smashes.proofs.Passing.{by_table}
+use Rattle.do_smashes.proofs.unit.smashed_in_do.Goals as goal
+
+pub returns : goal.returns
+returns c = λ p e f. c.in-Ok.ensures ∙ by_table DoSmashed c.args.caller.now.unit.now c.args.deck.now.units.now c.args.rows.now p e f
