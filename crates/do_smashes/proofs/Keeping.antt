@@ -1,29 +1,15 @@
 -- Tables keep the names of DOs, one DO after the other.
-use Rattle.std.proofs.Common.{◌≡◌, ℕ, zero, suc, ◌+◌, ◌<◌, Bool, true, false, cond, ◌||◌, List, [], ◌∷◌, ◌++◌, length, take, get_or, Option, Some, None, refl, sym, ap, ◌∙◌, subst, arith}
+use Rattle.std.proofs.Common.{◌≡◌, ℕ, zero, suc, ◌+◌, ◌<◌, Bool, true, false, ◌||◌, List, [], ◌∷◌, ◌++◌, length, take, get_or, refl, sym, ap, ◌∙◌, subst, arith}
 use Rattle.std.specs.Prelude.{max}
-use Rattle.formula.specs.Atoms.{same_bytes, is_among}
+use Rattle.formula.specs.Atoms.{is_among}
 use Rattle.fort_syntax.specs.declared.name.Name.{Name}
-use Rattle.fort_syntax.specs.declared.stmt.Stmt.{Stmt}
 use Rattle.fort_syntax.specs.declared.unit.Line.{Line}
 use Rattle.fort_syntax.specs.declared.unit.Unit.{Unit as Routine}
-use Rattle.fort_model.specs.Ranges.{DoRange, do_of, do_range, dos_from}
-use Rattle.name_tables.proofs.Told.{same_names, swapped}
+use Rattle.fort_model.specs.Ranges.{DoRange, do_of, dos_from}
 use Rattle.call_tests.proofs.Sets.{among_both}
 use Rattle.do_smashes.specs.Guards.{kept_to, further, Keeps, kept_by, AreKept}
 
 -- ---- names
-
--- one name more
-pub keeps_one : (old new : List (Name × ℕ)) (name : Name) (end had most : ℕ) → had ≡ kept_to old name → most ≡ max had end
-    → ((x : Name) → kept_to new x ≡ cond (same_bytes name x) most (kept_to old x)) → Keeps old new (name ∷ []) end
-keeps_one old new name end had most is is_most told x = told x ∙ by (same_bytes name x) refl
-  where
-    turned : (b : Bool) → same_bytes name x ≡ b → further (same_bytes x name || false) end (kept_to old x) ≡ further (b || false) end (kept_to old x)
-    turned b e = ap (λ (c : Bool). further (c || false) end (kept_to old x)) (swapped x name ∙ e)
-
-    by : (b : Bool) → same_bytes name x ≡ b → cond b most (kept_to old x) ≡ further (same_bytes x name || false) end (kept_to old x)
-    by true e = is_most ∙ ap (λ (n : ℕ). max n end) (is ∙ ap (kept_to old) (same_names name x e)) ∙ sym (turned true e)
-    by false e = sym (turned false e)
 
 twice : (had end : ℕ) → max (max had end) end ≡ max had end
 twice had end = omega arith
@@ -50,19 +36,6 @@ pub keeps_first : (first second third : List (Name × ℕ)) (x : Name) (ys : Lis
 keeps_first first second third x ys end f g = keeps_both first second third (x ∷ []) ys end f g
 
 -- ---- DOs
-
--- a DO that has a range
-pub keeps_range : (old new : List (Name × ℕ)) (at last end : ℕ) (names : List Name) (o : Option ℕ) → o ≡ Some last → end ≡ last + 1 → Keeps old new names end
-    → (x : Name) → kept_to new x ≡ kept_by (do_range at names o) x (kept_to old x)
-keeps_range old new at last end names o some is keeps x =
-    keeps x ∙ ap (λ (n : ℕ). further (is_among x names) n (kept_to old x)) (is ∙ next) ∙ ap (λ (q : Option ℕ). kept_by (do_range at names q) x (kept_to old x)) (sym some)
-  where
-    next : last + 1 ≡ suc last
-    next = omega arith
-
-pub keeps_no_range : (old : List (Name × ℕ)) (at : ℕ) (names : List Name) (o : Option ℕ) → o ≡ None
-    → (x : Name) → kept_to old x ≡ kept_by (do_range at names o) x (kept_to old x)
-keeps_no_range old at names o none x = ap (λ (q : Option ℕ). kept_by (do_range at names q) x (kept_to old x)) (sym none)
 
 -- DOs in two lists
 pub kept_by_both : (xs ys : List DoRange) (x : Name) (had : ℕ) → kept_by (xs ++ ys) x had ≡ kept_by ys x (kept_by xs x had)

@@ -1,5 +1,5 @@
 -- A statement smashes a name that is kept at its point just where it smashes a name of a DO in whose range it stands.
-use Rattle.std.proofs.Common.{◌≡◌, ℕ, zero, suc, ◌+◌, ◌<◌, ◌≤◌, ◌⊎◌, inl, inr, Bool, true, false, cond, ◌&&◌, ◌||◌, List, [], ◌∷◌, ◌++◌, length, take, drop, Option, Some, None, refl, sym, ap, ◌∙◌, subst, arith}
+use Rattle.std.proofs.Common.{◌≡◌, ℕ, zero, suc, ◌+◌, ◌<◌, ◌≤◌, ◌⊎◌, inl, inr, Bool, true, false, ◌&&◌, ◌||◌, List, [], ◌∷◌, ◌++◌, take, Option, Some, None, refl, sym, ap, ◌∙◌, subst, arith}
 use Rattle.std.specs.Prelude.{max, nat_lt, nat_le}
 use Rattle.std.specs.List.{list_any}
 use Rattle.std.proofs.lemmas.Bool.{cases_lt}
@@ -21,9 +21,9 @@ use Rattle.fort_laws.proofs.Kept.{among_left, among_right}
 use Rattle.fort_laws.proofs.Near.{known}
 use Rattle.fort_laws.proofs.References.{among_either}
 use Rattle.fort_laws.proofs.Small.{both_parts, both_hold, some_passes}
-use Rattle.smash_laws.proofs.Tests.{any_passes, any_same}
+use Rattle.smash_laws.proofs.Tests.{any_passes}
 use Rattle.smash_table.specs.Smashed.{stmt_names}
-use Rattle.do_smashes.specs.Guards.{kept_to, is_kept, further, kept_by, AreKept}
+use Rattle.do_smashes.specs.Guards.{is_kept, further, kept_by, AreKept}
 use Rattle.do_smashes.proofs.Told.{stmt_told}
 
 -- ---- what stands in lists

@@ -1,5 +1,5 @@
 -- The names that DOs keep, and how far: a table of names with points.
-use Rattle.std.specs.Prelude.{◌≡◌, ℕ, suc, max, nat_lt, Bool, cond, List, [], ◌∷◌, take, Option}
+use Rattle.std.specs.Prelude.{◌≡◌, ℕ, suc, max, nat_lt, Bool, cond, List, [], ◌∷◌, take}
 use Rattle.std.specs.Option.{unwrap_or}
 use Rattle.std.specs.Map.{lookup}
 use Rattle.formula.specs.Atoms.{same_bytes, is_among}

@@ -1,8 +1,6 @@
 -- What statements smash of what is kept at a point.
-use Rattle.std.specs.Prelude.{◌≡◌, ℕ, Bool, ◌||◌, List, Option, Some, slice_get}
-use Rattle.std.specs.List.{list_any}
+use Rattle.std.specs.Prelude.{ℕ, List, slice_get}
 use Rattle.fort_syntax.specs.declared.name.Name.{Name}
-use Rattle.fort_syntax.specs.declared.stmt.Stmt.{Stmt}
 use Rattle.fort_syntax.specs.declared.unit.Unit.{Unit as Routine}
 use Rattle.fort_model.specs.Program.{Program, names_if_any}
 use Rattle.smash_laws.specs.Ordered.{with_table}

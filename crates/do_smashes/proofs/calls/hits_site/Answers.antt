@@ -1,4 +1,4 @@
-use Rattle.std.proofs.Common.{◌≡◌, false, sym, ◌∙◌}
+use Rattle.std.proofs.Common.{false, sym, ◌∙◌}
 use Rattle.do_smashes.specs.Guards.{is_kept}
 use Rattle.do_smashes.specs.Hits.{unit_of}
 use Rattle.do_smashes.proofs.Passing.{site_hit}
