@@ -1,5 +1,5 @@
 -- The routes of the unit of a number.
-use Rattle.std.proofs.Common.{◌≡◌, ℕ, ◌<◌, List, [], ◌∷◌, length, map, Option, Some, slice_get, IsTrue, refl, sym, ap, ◌∙◌, subst}
+use Rattle.std.proofs.Common.{◌≡◌, ℕ, suc, ◌<◌, List, [], ◌∷◌, length, map, Option, Some, slice_get, IsTrue, refl, sym, ap, ◌∙◌, subst}
 use Rattle.formula.specs.declared.node.Node.{Node}
 use Rattle.fort_syntax.specs.DeckOrder.{stand_between}
 use Rattle.fort_syntax.specs.FirstFaults.{TellsLeast}
@@ -33,7 +33,7 @@ ordered pool scene p n v ready here = (ready_unit pool scene p n v ready (there 
 
 mapped_long : {A B : Type 0} (f : A → B) (xs : List A) → length (map f xs) ≡ length xs
 mapped_long f [] = refl
-mapped_long f (x ∷ xs) = ap (λ (n : ℕ). n + 1) (mapped_long f xs)
+mapped_long f (x ∷ xs) = ap suc (mapped_long f xs)
 
 -- each unit has notes
 pub as_long : (pool : List Node) (scene : Scene) (p : Program) → IsReady pool scene p → length scene.notes.now ≡ length scene.books.now.units.now
