@@ -1,3 +1,3 @@
-pub mod Early
+pub mod Sooner
 pub mod Routing
-pub mod Whole
+pub mod Together

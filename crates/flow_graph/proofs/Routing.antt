@@ -1,5 +1,6 @@
 -- The routes of the unit of a number.
-use Rattle.std.proofs.Common.{◌≡◌, ℕ, suc, ◌<◌, List, [], ◌∷◌, length, map, Option, Some, slice_get, IsTrue, refl, sym, ap, ◌∙◌, subst}
+use Rattle.std.proofs.Common.{◌≡◌, ℕ, suc, ◌<◌, List, [], ◌∷◌, length, get_or, map, Some, slice_get, IsTrue, refl, sym, ap, ◌∙◌, subst, arith}
+use Rattle.std.proofs.lemmas.Option.{slice_get-get_or}
 use Rattle.formula.specs.declared.node.Node.{Node}
 use Rattle.fort_syntax.specs.DeckOrder.{stand_between}
 use Rattle.fort_syntax.specs.FirstFaults.{TellsLeast}
@@ -14,9 +15,9 @@ use Rattle.path_scene.specs.Scenes.{IsReady}
 use Rattle.path_scene.specs.declared.scene.Scene.{Scene}
 use Rattle.ready_flows.proofs.Ready.{ready_unit, ready_flows}
 use Rattle.flow_cycles.specs.Routes.{TellsRoutes, StandAt, IsUncutAt, IsGraphIn, fault_in}
-use Rattle.flow_cycles.specs.declared.routes.Routes.{Routes}
+use Rattle.flow_cycles.specs.declared.graphs.Routes.{Routes}
 use Rattle.flow_graph.specs.Units.{TellsRoutesIn}
-use Rattle.flow_graph.proofs.Early.{one_unit}
+use Rattle.flow_graph.proofs.Sooner.{one_unit}
 
 there : (pool : List Node) (scene : Scene) (p : Program) (n : ℕ) (v : Routine) → IsReady pool scene p → slice_get scene.books.now.units.now n ≡ Some v
     → slice_get p.units n ≡ Some v
@@ -24,8 +25,7 @@ there pool scene p n v ready here = sym (ap (λ (us : List Routine). slice_get u
 
 pub flows : (pool : List Node) (scene : Scene) (p : Program) (n : ℕ) (v : Routine) → IsReady pool scene p → slice_get scene.books.now.units.now n ≡ Some v → IsFlowing v
 flows pool scene p n v ready here =
-    let at = there pool scene p n v ready here in
-    ready_flows pool scene p n v ready at (ready.few n v at)
+    ready_flows pool scene p n v ready (there pool scene p n v ready here)
 
 pub ordered : (pool : List Node) (scene : Scene) (p : Program) (n : ℕ) (v : Routine) → IsReady pool scene p → slice_get scene.books.now.units.now n ≡ Some v
     → IsTrue (stand_between v.head v.lines v.«end»)
@@ -40,6 +40,11 @@ pub as_long : (pool : List Node) (scene : Scene) (p : Program) → IsReady pool 
 as_long pool scene p ready =
     sym (mapped_long (notes_tree pool) scene.notes.now) ∙ ap (λ (ns : List Notes). length ns) ready.is_scene.notes ∙ ready.fitting.count
     ∙ ap (λ (us : List Routine). length us) (sym ready.is_scene.units)
+
+pub spec_at : (pool : List Node) (scene : Scene) (p : Program) (n : ℕ) (d : UnitSpec) → IsReady pool scene p → n < length scene.books.now.units.now
+    → slice_get scene.notes.now n ≡ Some (get_or scene.notes.now n d)
+spec_at pool scene p n d ready inside =
+    slice_get-get_or scene.notes.now n d (let long : length scene.notes.now ≡ length scene.books.now.units.now = as_long pool scene p ready in omega (arith, long, inside))
 
 -- the ASSERTs of a unit stand where its notes say
 points_stand : (pool : List Node) (asserts : List AssertSpec)

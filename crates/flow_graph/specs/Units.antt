@@ -15,7 +15,7 @@ use Rattle.unit_faults.specs.Breaking.{BreaksOneOf, IsBrokenAt}
 use Rattle.path_scene.specs.Scenes.{IsReady}
 use Rattle.path_scene.specs.declared.scene.Scene.{Scene}
 use Rattle.flow_cycles.specs.Routes.{IsUncutAt, IsGraphIn, fault_in}
-use Rattle.flow_cycles.specs.declared.routes.Routes.{Routes}
+use Rattle.flow_cycles.specs.declared.graphs.Routes.{Routes}
 
 -- something holds of the unit of number n, in every program that a scene is of
 abbrev pub OfUnit : Scene → ℕ → (Program → Routine → Type 0) → Type 0

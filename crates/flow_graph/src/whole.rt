@@ -5,9 +5,9 @@ ghost use Rattle.fort_syntax.specs.declared.refusal.Fault.{Fault};
 ghost use Rattle.fort_syntax.specs.declared.refusal.Refusal.TheVariants.{Broken};
 ghost use Rattle.fort_model.specs.Program.{Program};
 ghost use Rattle.path_scene.specs.Scenes.{IsReady};
-ghost use Rattle.unit_faults.specs.Sooner.{sooner};
+ghost use Rattle.unit_faults.specs.Sooner.{comes_first, sooner};
 ghost use Rattle.flow_cycles.specs.Routes.{fault_in};
-ghost use Rattle.flow_cycles.specs.declared.routes.Routes.TheVariants.{Whole};
+ghost use Rattle.flow_cycles.specs.declared.graphs.Routes.TheVariants.{Whole};
 ghost use Rattle.flow_graph.specs.Units.{IsGraphOfUnit, TellsFlow};
 
 use crate::early::early_fault;
@@ -18,15 +18,26 @@ use fort_model::Graph;
 use fort_syntax::{Fault, Refusal};
 use path_scene::Scene;
 use std::alloc::Global;
-use unit_faults::sooner;
+
+/// Whether a fault stands before another, or is it.
+fn comes_first(fault: &Fault, other: &Fault) -> bool
+    ensures { result ≡ comes_first fault.now other.now }
+{
+    fault.card < other.card
+        || (fault.card == other.card && fault.rule.number() <= other.rule.number())
+}
 
 /// The sooner of a fault that there may be and one that there is.
 fn soonest(early: Option<Fault>, uncut: Fault) -> Fault
     ensures { sooner early (Some uncut) ≡ Some result }
 {
-    match sooner(early, Some(uncut)) {
-        Some(fault) => fault,
-        None => uncut,
+    let Some(first) = early else {
+        return uncut;
+    };
+    if comes_first(&first, &uncut) {
+        first
+    } else {
+        uncut
     }
 }
 

@@ -1,8 +1,8 @@
 -- The rules on the flow, all three.
-use Rattle.std.proofs.Common.{◌≡◌, ℕ, zero, suc, ◌⊎◌, inl, inr, List, Option, Some, None, slice_get, refl, sym, ap, ◌∙◌, subst}
-use Rattle.formula.specs.declared.node.Node.{Node}
+use Rattle.std.proofs.Common.{◌≡◌, ℕ, zero, suc, ◌⊎◌, inl, inr, Option, Some, None, Result, Ok, Err, IfOk, slice_get, refl, sym, ap, ◌∙◌, subst}
 use Rattle.fort_syntax.specs.FirstFaults.{TellsLeast}
 use Rattle.fort_syntax.specs.declared.refusal.Fault.{Fault}
+use Rattle.fort_syntax.specs.declared.refusal.Refusal.{Refusal}
 use Rattle.fort_syntax.specs.declared.rule.Rule.{Rule}
 use Rattle.fort_syntax.specs.declared.rule.Rule.TheVariants.{DoSmashed, FallsOffEnd, UncutCycle}
 use Rattle.fort_syntax.specs.declared.unit.Unit.{Unit as Routine}
@@ -15,8 +15,8 @@ use Rattle.unit_faults.specs.Sooner.{sooner}
 use Rattle.unit_faults.proofs.Least.{sooner_tells, tells_of}
 use Rattle.path_scene.specs.declared.scene.Scene.{Scene}
 use Rattle.flow_cycles.specs.Routes.{IsUncutAt, IsGraphIn, fault_in}
-use Rattle.flow_cycles.specs.declared.routes.Routes.{Routes}
-use Rattle.flow_cycles.specs.declared.routes.Routes.TheVariants.{Whole}
+use Rattle.flow_cycles.specs.declared.graphs.Routes.{Routes}
+use Rattle.flow_cycles.specs.declared.graphs.Routes.TheVariants.{Whole}
 use Rattle.flow_graph.specs.Units.{IsEarly, TellsEarly, TellsRoutesIn, TellsFlow, IsGraphOfUnit}
 
 module _ (p : Program) (i : ℕ) (u : Routine) where
@@ -65,3 +65,15 @@ none_told scene n early routes g a b whole none =
 
 pub graph_told : (scene : Scene) (n : ℕ) (routes : Routes) (g : Graph) → TellsRoutesIn scene n routes → routes ≡ Whole g → IsGraphOfUnit scene n g
 graph_told scene n routes g b whole pool p u ready at = subst (IsGraphIn p n u) whole (b pool p u ready at).1
+
+-- ---- what was decided
+
+pub graph_decided : (scene : Scene) (n : ℕ) (early : Option Fault) (routes : Routes) (r : Result Graph Refusal) → TellsRoutesIn scene n routes
+    → IfOk r (λ g. (routes ≡ Whole g) × (early ≡ None)) → IfOk r (IsGraphOfUnit scene n)
+graph_decided scene n early routes (Ok g) b h = graph_told scene n routes g b h.0
+graph_decided scene n early routes (Err e) b h = h
+
+pub none_decided : (scene : Scene) (n : ℕ) (early : Option Fault) (routes : Routes) (r : Result Graph Refusal) → TellsEarly scene n early → TellsRoutesIn scene n routes
+    → IfOk r (λ g. (routes ≡ Whole g) × (early ≡ None)) → IfOk r (λ g. TellsFlow scene n None)
+none_decided scene n early routes (Ok g) a b h = none_told scene n early routes g a b h.0 h.1
+none_decided scene n early routes (Err e) a b h = h

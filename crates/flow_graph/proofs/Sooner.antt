@@ -1,10 +1,9 @@
 -- The sooner of the faults by 29 and by 30.
-use Rattle.std.proofs.Common.{◌≡◌, ℕ, List, Option, Some, slice_get, IsTrue, refl, sym, ap, ◌∙◌, subst}
+use Rattle.std.proofs.Common.{◌≡◌, ℕ, List, Option, Some, slice_get, sym, ap, ◌∙◌, subst}
 use Rattle.formula.specs.declared.node.Node.{Node}
 use Rattle.fort_syntax.specs.FirstFaults.{TellsLeast}
 use Rattle.fort_syntax.specs.WellFormed.{IsWellFormedUnit}
 use Rattle.fort_syntax.specs.declared.dialect.Dialect.{Dialect}
-use Rattle.fort_syntax.specs.declared.name.Name.{Name}
 use Rattle.fort_syntax.specs.declared.refusal.Fault.{Fault}
 use Rattle.fort_syntax.specs.declared.rule.Rule.TheVariants.{DoSmashed, FallsOffEnd}
 use Rattle.fort_syntax.specs.declared.unit.Unit.{Unit as Routine}
