@@ -144,7 +144,7 @@ module _ (p : Program) (i : ℕ) (u : Routine) where
   CapClock (Some ns) None = ⊥
   CapClock (Some ns) (Some m) = IsCapOf (sum ns) m
 
-  fall_capped : (clock : Option (List ℕ)) (clock' : Option ℕ) (ns ms : List ℕ) → CapClock clock clock' → AreCapsOf ns ms → Caps Any (g.fall v clock ns) (c.fall w clock' ms)
+  fall_capped : (clock : Option (List ℕ)) (clock' : Option ℕ) (ns ms : List ℕ) → CapClock clock clock' → AreCapsOf ns ms → Caps Any (g.fall v clock ns) (c.fall clock' ms)
   fall_capped None None ns ms q e = rests Any tt tt tt
   fall_capped None (Some m) ns ms q e = absurd q
   fall_capped (Some past) None ns ms q e = absurd q
@@ -156,9 +156,9 @@ module _ (p : Program) (i : ℕ) (u : Routine) where
   arrive_capped clock clock' AtEnd now now' q e = tests_all (g.told v now notes.output) (c.told w now' notes.output) (told_capped now now' e notes.output)
   arrive_capped clock clock' (AtAssert a) now now' q e =
       then Any Any (h.all_tested (g.told v now a.terms)) (t.all_tested (c.told w now' a.terms))
-      (λ z. h.◌>>◌ (h.all_tested (g.told v now a.clock)) (g.fall v clock (g.told v now a.clock))) (λ z. t.◌>>◌ (t.all_tested (c.told w now' a.clock)) (c.fall w clock' (c.told w now' a.clock)))
+      (λ z. h.◌>>◌ (h.all_tested (g.told v now a.clock)) (g.fall v clock (g.told v now a.clock))) (λ z. t.◌>>◌ (t.all_tested (c.told w now' a.clock)) (c.fall clock' (c.told w now' a.clock)))
       (tests_all (g.told v now a.terms) (c.told w now' a.terms) (told_capped now now' e a.terms))
-      (λ x y z. then Any Any (h.all_tested (g.told v now a.clock)) (t.all_tested (c.told w now' a.clock)) (λ z. g.fall v clock (g.told v now a.clock)) (λ z. c.fall w clock' (c.told w now' a.clock))
+      (λ x y z. then Any Any (h.all_tested (g.told v now a.clock)) (t.all_tested (c.told w now' a.clock)) (λ z. g.fall v clock (g.told v now a.clock)) (λ z. c.fall clock' (c.told w now' a.clock))
       (tests_all (g.told v now a.clock) (c.told w now' a.clock) (told_capped now now' e a.clock))
       (λ x y z. fall_capped clock clock' (g.told v now a.clock) (c.told w now' a.clock) q (told_capped now now' e a.clock)))
 

@@ -1,5 +1,5 @@
 -- Expressions and statements weigh the same as far as the cap.
-use Rattle.std.proofs.Common.{◌≡◌, ℕ, zero, suc, pred, ◌+◌, ◌*◌, Bool, true, false, cond, List, [], ◌∷◌, map, length, Option, Some, None, slice_get, refl, sym, ap, ◌∙◌, subst}
+use Rattle.std.proofs.Common.{◌≡◌, ℕ, zero, suc, pred, ◌+◌, ◌*◌, Bool, true, false, cond, List, [], ◌∷◌, map, length, take, Option, Some, None, slice_get, refl, sym, ap, ◌∙◌, subst}
 use Rattle.std.specs.Prelude.{nat_lt, ◌==◌, sum}
 use mathlib.Core.Former.{Count}
 use Rattle.fort_syntax.specs.TreePatterns.{only, carried, row_of}
@@ -40,10 +40,10 @@ module _ (p : Program) (i : ℕ) (u : Routine) where
 
   -- ---- expressions
 
-  read_capped : (n m : ℕ) → IsCapOf n m → Caps IsCapOf (g.read v n) (c.read w m)
+  read_capped : (n m : ℕ) → IsCapOf n m → Caps IsCapOf (g.read v n) (c.read m)
   read_capped n m e = then Any IsCapOf (h.tested n) (t.tested m) (λ z. h.weighed n) (λ z. t.tallied m) (tests n m e) (λ a b z. rests IsCapOf n m e)
 
-  operand_read : (x y : Operand ℕ) → CapOperand x y → Caps IsCapOf (g.read_operand v x) (c.read_operand w y)
+  operand_read : (x y : Operand ℕ) → CapOperand x y → Caps IsCapOf (g.read_operand v x) (c.read_operand y)
   operand_read (Bare x n) (Bare y m) q = read_capped n m q.1
   operand_read (Part n) (Part m) q = read_capped n m q
   operand_read (Computed n) (Computed m) q = rests IsCapOf n m q
@@ -54,10 +54,10 @@ module _ (p : Program) (i : ℕ) (u : Routine) where
   operand_read (Computed n) (Bare y m) q = absurd q
   operand_read (Computed n) (Part m) q = absurd q
 
-  valued_capped : (x : h.Weigh (Operand ℕ)) (y : t.Tally (Operand ℕ)) → Caps CapOperand x y → Caps IsCapOf (g.valued v x) (c.valued w y)
-  valued_capped x y e = then CapOperand IsCapOf x y (λ a. g.read_operand v a) (λ b. c.read_operand w b) e (λ a b q. operand_read a b q)
+  valued_capped : (x : h.Weigh (Operand ℕ)) (y : t.Tally (Operand ℕ)) → Caps CapOperand x y → Caps IsCapOf (g.valued v x) (c.valued y)
+  valued_capped x y e = then CapOperand IsCapOf x y (λ a. g.read_operand v a) (λ b. c.read_operand b) e (λ a b q. operand_read a b q)
 
-  reckoned_capped : (x : h.Weigh ℕ) (y : t.Tally ℕ) → Caps IsCapOf x y → Caps CapOperand (g.reckoned v x) (c.reckoned w y)
+  reckoned_capped : (x : h.Weigh ℕ) (y : t.Tally ℕ) → Caps IsCapOf x y → Caps CapOperand (g.reckoned v x) (c.reckoned y)
   reckoned_capped x y e = then IsCapOf CapOperand x y (λ n. h.weighed (Computed n)) (λ m. t.tallied (Computed m)) e (λ n m q. rests CapOperand (Computed n) (Computed m) q)
 
   one_capped : Caps IsCapOf (h.weighed 1) (t.tallied 1)
@@ -72,32 +72,32 @@ module _ (p : Program) (i : ℕ) (u : Routine) where
       then Any IsCapOf (h.all_tested (cond (nat_lt p.bound n) (1 ∷ []) [])) (t.all_tested (cond (nat_lt p.bound n) (1 ∷ []) [])) (λ z. h.weighed 1) (λ z. t.tallied 1)
       (tests_all (cond (nat_lt p.bound n) (1 ∷ []) []) (cond (nat_lt p.bound n) (1 ∷ []) []) (constant_by (nat_lt p.bound n))) (λ a b z. one_capped)
 
-  pair_read : (a b x y : ℕ) → IsCapOf a x → IsCapOf b y → Caps IsCapOf (g.ranged v (suc (a + b))) (c.read w (t.pair x y))
+  pair_read : (a b x y : ℕ) → IsCapOf a x → IsCapOf b y → Caps IsCapOf (g.ranged v (suc (a + b))) (c.read (t.pair x y))
   pair_read a b x y e f = read_capped (suc (a + b)) (t.pair x y) (cap_pair a b x y e f)
 
-  operate_capped : (o : BinOp) (a b x y : ℕ) → IsCapOf a x → IsCapOf b y → Caps IsCapOf (g.operate v o a b) (c.operate w o x y)
+  operate_capped : (o : BinOp) (a b x y : ℕ) → IsCapOf a x → IsCapOf b y → Caps IsCapOf (g.operate v o a b) (c.operate o x y)
   operate_capped Add a b x y e f = pair_read a b x y e f
   operate_capped Sub a b x y e f = pair_read a b x y e f
   operate_capped Mul a b x y e f = pair_read a b x y e f
   operate_capped Div a b x y e f =
-      then Any IsCapOf (h.tested b) (t.tested y) (λ z. g.ranged v (suc (a + b))) (λ z. c.read w (t.pair x y)) (tests b y f) (λ z z' q. pair_read a b x y e f)
+      then Any IsCapOf (h.tested b) (t.tested y) (λ z. g.ranged v (suc (a + b))) (λ z. c.read (t.pair x y)) (tests b y f) (λ z z' q. pair_read a b x y e f)
 
-  power_capped : (others n base k product : ℕ) → IsCapOf n base → IsCapOf (k * n + k) product → Caps IsCapOf (g.power_from v n k others) (c.power_from w base product others)
+  power_capped : (others n base k product : ℕ) → IsCapOf n base → IsCapOf (k * n + k) product → Caps IsCapOf (g.power_from v n k others) (c.power_from base product others)
   power_capped zero n base k product e f = rests IsCapOf (k * n + k) product f
   power_capped (suc others) n base k product e f =
       let q = cap_factor k n base product e f in
-      then Any IsCapOf (h.tested (suc k * n + suc k)) (t.tested (t.both product (t.next base))) (λ z. g.power_from v n (suc k) others) (λ z. c.power_from w base (t.both product (t.next base)) others)
+      then Any IsCapOf (h.tested (suc k * n + suc k)) (t.tested (t.both product (t.next base))) (λ z. g.power_from v n (suc k) others) (λ z. c.power_from base (t.both product (t.next base)) others)
       (tests (suc k * n + suc k) (t.both product (t.next base)) q) (λ a b z. power_capped others n base (suc k) (t.both product (t.next base)) e q)
 
-  intrinsic_capped : (f : Intrinsic) (ns : List ℕ) → Caps IsCapOf (g.intrinsic_weight v f ns) (c.intrinsic_weight w f (map capped ns))
+  intrinsic_capped : (f : Intrinsic) (ns : List ℕ) → Caps IsCapOf (g.intrinsic_weight v f ns) (c.intrinsic_weight f (map capped ns))
   intrinsic_capped Absolute [] = one_capped
   intrinsic_capped Absolute (a ∷ []) = read_capped (suc a) (t.next (capped a)) (cap_next a (capped a) refl)
   intrinsic_capped Absolute (a ∷ (b ∷ ns)) = one_capped
   intrinsic_capped Modulo [] = one_capped
   intrinsic_capped Modulo (a ∷ []) = one_capped
   intrinsic_capped Modulo (a ∷ (b ∷ [])) =
-      then Any IsCapOf (h.tested b) (t.tested (capped b)) (λ z. h.◌>>◌ (g.ranged v (suc (a + b))) (h.weighed (suc (a + b)))) (λ z. t.◌>>◌ (c.read w (t.pair (capped a) (capped b))) (t.tallied (t.pair (capped a) (capped b)))) (tests b (capped b) refl)
-      (λ z z' q. then IsCapOf IsCapOf (g.ranged v (suc (a + b))) (c.read w (t.pair (capped a) (capped b))) (λ z. h.weighed (suc (a + b))) (λ z. t.tallied (t.pair (capped a) (capped b)))
+      then Any IsCapOf (h.tested b) (t.tested (capped b)) (λ z. h.◌>>◌ (g.ranged v (suc (a + b))) (h.weighed (suc (a + b)))) (λ z. t.◌>>◌ (c.read (t.pair (capped a) (capped b))) (t.tallied (t.pair (capped a) (capped b)))) (tests b (capped b) refl)
+      (λ z z' q. then IsCapOf IsCapOf (g.ranged v (suc (a + b))) (c.read (t.pair (capped a) (capped b))) (λ z. h.weighed (suc (a + b))) (λ z. t.tallied (t.pair (capped a) (capped b)))
       (pair_read a b (capped a) (capped b) refl refl) (λ n m q. rests IsCapOf (suc (a + b)) (t.pair (capped a) (capped b)) (cap_pair a b (capped a) (capped b) refl refl)))
   intrinsic_capped Modulo (a ∷ (b ∷ (d ∷ ns))) = one_capped
   intrinsic_capped Greatest [] = one_capped
@@ -105,33 +105,34 @@ module _ (p : Program) (i : ℕ) (u : Routine) where
   intrinsic_capped Least [] = one_capped
   intrinsic_capped Least (a ∷ ns) = rests IsCapOf (suc (sum (a ∷ ns))) (t.next (t.all (map capped (a ∷ ns)))) (cap_next (sum (a ∷ ns)) (t.all (map capped (a ∷ ns))) (cap_all (a ∷ ns) (map capped (a ∷ ns)) refl))
 
-  intrinsic_caps : (f : Intrinsic) (ns ms : List ℕ) → AreCapsOf ns ms → Caps IsCapOf (g.intrinsic_weight v f ns) (c.intrinsic_weight w f ms)
-  intrinsic_caps f ns ms e = let T : List ℕ → Type 0 = λ xs. Caps IsCapOf (g.intrinsic_weight v f ns) (c.intrinsic_weight w f xs) in subst T (sym e) (intrinsic_capped f ns)
+  intrinsic_caps : (f : Intrinsic) (ns ms : List ℕ) → AreCapsOf ns ms → Caps IsCapOf (g.intrinsic_weight v f ns) (c.intrinsic_weight f ms)
+  intrinsic_caps f ns ms e = let T : List ℕ → Type 0 = λ xs. Caps IsCapOf (g.intrinsic_weight v f ns) (c.intrinsic_weight f xs) in subst T (sym e) (intrinsic_capped f ns)
 
-  subscripts_mapped : (is : List ℕ) (dims : List Dim) → g.subscripts w (map capped is) dims ≡ map capped (g.subscripts v is dims)
-  subscripts_mapped [] dims = refl
+  subscripts_mapped : (is : List ℕ) (dims : List Dim) → take (length dims) (map capped is) ≡ map capped (g.subscripts v is dims)
+  subscripts_mapped [] [] = refl
+  subscripts_mapped [] (d ∷ ds) = refl
   subscripts_mapped (n ∷ is) [] = refl
   subscripts_mapped (n ∷ is) (d ∷ ds) = ap (λ ks. capped n ∷ ks) (subscripts_mapped is ds)
 
-  subscripts_capped : (is js : List ℕ) (dims : List Dim) → AreCapsOf is js → AreCapsOf (g.subscripts v is dims) (g.subscripts w js dims)
-  subscripts_capped is js dims e = ap (λ ks. g.subscripts w ks dims) e ∙ subscripts_mapped is dims
+  subscripts_capped : (is js : List ℕ) (dims : List Dim) → AreCapsOf is js → AreCapsOf (g.subscripts v is dims) (take (length dims) js)
+  subscripts_capped is js dims e = ap (take (length dims)) e ∙ subscripts_mapped is dims
 
   -- subscripts are tested, and something follows
   placed : {A B : Type 0} (Q : A → B → Type 0) (dims : List Dim) (is js : List ℕ) (f : h.Weigh A) (r : t.Tally B) → AreCapsOf is js → Caps Q f r
-      → Caps Q (h.◌>>◌ (h.all_tested (g.subscripts v is dims)) f) (t.◌>>◌ (t.all_tested (g.subscripts w js dims)) r)
+      → Caps Q (h.◌>>◌ (h.all_tested (g.subscripts v is dims)) f) (t.◌>>◌ (t.all_tested (take (length dims) js)) r)
   placed Q dims is js f r e m =
-      then Any Q (h.all_tested (g.subscripts v is dims)) (t.all_tested (g.subscripts w js dims)) (λ z. f) (λ z. r) (tests_all (g.subscripts v is dims) (g.subscripts w js dims) (subscripts_capped is js dims e)) (λ a b q. m)
+      then Any Q (h.all_tested (g.subscripts v is dims)) (t.all_tested (take (length dims) js)) (λ z. f) (λ z. r) (tests_all (g.subscripts v is dims) (take (length dims) js) (subscripts_capped is js dims e)) (λ a b q. m)
 
   apply_capped : (now now' : Named ℕ) (a : Name) (o : Applied) (values : h.Weigh (List ℕ)) (values' : t.Tally (List ℕ)) (actuals : h.Weigh (List (Operand ℕ))) (actuals' : t.Tally (List (Operand ℕ)))
       → CapNames now now' → Caps AreCapsOf values values' → Caps CapOperands actuals actuals' → Caps CapOperand (g.apply_weight v now a o values actuals) (c.apply_weight w now' a o values' actuals')
   apply_capped now now' a (Element dims) values values' actuals actuals' e l m =
       then AreCapsOf CapOperand values values' (λ is. h.◌>>◌ (h.all_tested (g.subscripts v is dims)) (h.weighed (Part (suc (now a + sum is)))))
-      (λ js. t.◌>>◌ (t.all_tested (g.subscripts w js dims)) (t.tallied (Part (t.next (t.both (now' a) (t.all js)))))) l
+      (λ js. t.◌>>◌ (t.all_tested (take (length dims) js)) (t.tallied (Part (t.next (t.both (now' a) (t.all js)))))) l
       (λ is js q. placed CapOperand dims is js (h.weighed (Part (suc (now a + sum is)))) (t.tallied (Part (t.next (t.both (now' a) (t.all js))))) q
       (rests CapOperand (Part (suc (now a + sum is))) (Part (t.next (t.both (now' a) (t.all js)))) (cap_pair (now a) (sum is) (now' a) (t.all js) (e a) (cap_all is js q))))
   apply_capped now now' a (BuiltIn f) values values' actuals actuals' e l m =
-      then AreCapsOf CapOperand values values' (λ ns. g.reckoned v (g.intrinsic_weight v f ns)) (λ ms. c.reckoned w (c.intrinsic_weight w f ms)) l
-      (λ ns ms q. reckoned_capped (g.intrinsic_weight v f ns) (c.intrinsic_weight w f ms) (intrinsic_caps f ns ms q))
+      then AreCapsOf CapOperand values values' (λ ns. g.reckoned v (g.intrinsic_weight v f ns)) (λ ms. c.reckoned (c.intrinsic_weight f ms)) l
+      (λ ns ms q. reckoned_capped (g.intrinsic_weight v f ns) (c.intrinsic_weight f ms) (intrinsic_caps f ns ms q))
   apply_capped now now' a Reference values values' actuals actuals' e l m =
       then CapOperands CapOperand actuals actuals' (λ xs. h.◌>>◌ (g.called v (function p.units a) now xs) (h.weighed (Computed 1))) (λ xs. t.◌>>◌ (c.called w (function p.units a) now' xs) (t.tallied (Computed 1))) m
       (λ xs ys q. then CapNames CapOperand (g.called v (function p.units a) now xs) (c.called w (function p.units a) now' ys) (λ z. h.weighed (Computed 1)) (λ z. t.tallied (Computed 1))
@@ -139,14 +140,14 @@ module _ (p : Program) (i : ℕ) (u : Routine) where
 
   -- operands are read, and something follows
   one_more : {A B : Type 0} (Q : A → B → Type 0) (x : h.Weigh (Operand ℕ)) (x' : t.Tally (Operand ℕ)) (f : ℕ → h.Weigh A) (r : ℕ → t.Tally B)
-      → Caps CapOperand x x' → ((n m : ℕ) → IsCapOf n m → Caps Q (f n) (r m)) → Caps Q (h.◌>>=◌ (g.valued v x) f) (t.◌>>=◌ (c.valued w x') r)
-  one_more Q x x' f r e m = then IsCapOf Q (g.valued v x) (c.valued w x') f r (valued_capped x x' e) m
+      → Caps CapOperand x x' → ((n m : ℕ) → IsCapOf n m → Caps Q (f n) (r m)) → Caps Q (h.◌>>=◌ (g.valued v x) f) (t.◌>>=◌ (c.valued x') r)
+  one_more Q x x' f r e m = then IsCapOf Q (g.valued v x) (c.valued x') f r (valued_capped x x' e) m
 
   two_more : {A B : Type 0} (Q : A → B → Type 0) (x y : h.Weigh (Operand ℕ)) (x' y' : t.Tally (Operand ℕ)) (f : ℕ → ℕ → h.Weigh A) (r : ℕ → ℕ → t.Tally B)
       → Caps CapOperand x x' → Caps CapOperand y y' → ((n m n' m' : ℕ) → IsCapOf n n' → IsCapOf m m' → Caps Q (f n m) (r n' m'))
-      → Caps Q (h.◌>>=◌ (g.valued v x) (λ n. h.◌>>=◌ (g.valued v y) (λ m. f n m))) (t.◌>>=◌ (c.valued w x') (λ n. t.◌>>=◌ (c.valued w y') (λ m. r n m)))
+      → Caps Q (h.◌>>=◌ (g.valued v x) (λ n. h.◌>>=◌ (g.valued v y) (λ m. f n m))) (t.◌>>=◌ (c.valued x') (λ n. t.◌>>=◌ (c.valued y') (λ m. r n m)))
   two_more Q x y x' y' f r e d m =
-      one_more Q x x' (λ n. h.◌>>=◌ (g.valued v y) (λ j. f n j)) (λ n. t.◌>>=◌ (c.valued w y') (λ j. r n j)) e
+      one_more Q x x' (λ n. h.◌>>=◌ (g.valued v y) (λ j. f n j)) (λ n. t.◌>>=◌ (c.valued y') (λ j. r n j)) e
       (λ n n' q. one_more Q y y' (λ j. f n j) (λ j. r n' j) d (λ j j' o. m n j n' j' q o))
 
   computed_pair : (n m n' m' : ℕ) → IsCapOf n n' → IsCapOf m m' → Caps CapOperand (h.weighed (Computed (suc (n + m)))) (t.tallied (Computed (t.pair n' m')))
@@ -159,17 +160,17 @@ module _ (p : Program) (i : ℕ) (u : Routine) where
     operand_capped now now' e (Var x) = rests CapOperand (Bare x (now x)) (Bare x (now' x)) (refl, e x)
     operand_capped now now' e (Apply' a _ args) =
         apply_capped now now' a (applied u a) (g.values v now args) (c.values w now' args) (g.operands v now args) (c.operands w now' args) e (values_capped now now' e args) (operands_capped now now' e args)
-    operand_capped now now' e (Paren' _ (only a)) = reckoned_capped (g.valued v (g.operand v now a)) (c.valued w (c.operand w now' a)) (valued_capped (g.operand v now a) (c.operand w now' a) (operand_capped now now' e a))
-    operand_capped now now' e (Pos' _ (only a)) = reckoned_capped (g.valued v (g.operand v now a)) (c.valued w (c.operand w now' a)) (valued_capped (g.operand v now a) (c.operand w now' a) (operand_capped now now' e a))
+    operand_capped now now' e (Paren' _ (only a)) = reckoned_capped (g.valued v (g.operand v now a)) (c.valued (c.operand w now' a)) (valued_capped (g.operand v now a) (c.operand w now' a) (operand_capped now now' e a))
+    operand_capped now now' e (Pos' _ (only a)) = reckoned_capped (g.valued v (g.operand v now a)) (c.valued (c.operand w now' a)) (valued_capped (g.operand v now a) (c.operand w now' a) (operand_capped now now' e a))
     operand_capped now now' e (Neg' _ (only a)) =
-        one_more CapOperand (g.operand v now a) (c.operand w now' a) (λ n. g.reckoned v (g.ranged v (suc n))) (λ m. c.reckoned w (c.read w (t.next m))) (operand_capped now now' e a)
-        (λ n m q. reckoned_capped (g.ranged v (suc n)) (c.read w (t.next m)) (read_capped (suc n) (t.next m) (cap_next n m q)))
+        one_more CapOperand (g.operand v now a) (c.operand w now' a) (λ n. g.reckoned v (g.ranged v (suc n))) (λ m. c.reckoned (c.read (t.next m))) (operand_capped now now' e a)
+        (λ n m q. reckoned_capped (g.ranged v (suc n)) (c.read (t.next m)) (read_capped (suc n) (t.next m) (cap_next n m q)))
     operand_capped now now' e (Power' _ (only a) j) =
-        one_more CapOperand (g.operand v now a) (c.operand w now' a) (λ n. g.reckoned v (g.power v n j)) (λ m. c.reckoned w (c.power w m j)) (operand_capped now now' e a)
-        (λ n m q. reckoned_capped (g.power v n j) (c.power w m j) (power_capped (pred j) n m 1 (t.next m) q (cap_first_factor n m q)))
+        one_more CapOperand (g.operand v now a) (c.operand w now' a) (λ n. g.reckoned v (g.power v n j)) (λ m. c.reckoned (c.power m j)) (operand_capped now now' e a)
+        (λ n m q. reckoned_capped (g.power v n j) (c.power m j) (power_capped (pred j) n m 1 (t.next m) q (cap_first_factor n m q)))
     operand_capped now now' e (Bin' o _ (only a) _ (only b)) =
-        two_more CapOperand (g.operand v now a) (g.operand v now b) (c.operand w now' a) (c.operand w now' b) (λ n m. g.reckoned v (g.operate v o n m)) (λ n m. c.reckoned w (c.operate w o n m))
-        (operand_capped now now' e a) (operand_capped now now' e b) (λ n m n' m' q r. reckoned_capped (g.operate v o n m) (c.operate w o n' m') (operate_capped o n m n' m' q r))
+        two_more CapOperand (g.operand v now a) (g.operand v now b) (c.operand w now' a) (c.operand w now' b) (λ n m. g.reckoned v (g.operate v o n m)) (λ n m. c.reckoned (c.operate o n m))
+        (operand_capped now now' e a) (operand_capped now now' e b) (λ n m n' m' q r. reckoned_capped (g.operate v o n m) (c.operate o n' m') (operate_capped o n m n' m' q r))
     operand_capped now now' e (Rel' o _ (only a) _ (only b)) =
         two_more CapOperand (g.operand v now a) (g.operand v now b) (c.operand w now' a) (c.operand w now' b) (λ n m. h.weighed (Computed (suc (n + m)))) (λ n m. t.tallied (Computed (t.pair n m)))
         (operand_capped now now' e a) (operand_capped now now' e b) computed_pair
@@ -210,7 +211,7 @@ module _ (p : Program) (i : ℕ) (u : Routine) where
   assign_capped now now' e (Apply' a _ args) n m q =
       then AreCapsOf CapNames (g.values v now args) (c.values w now' args)
       (λ is. h.◌>>◌ (h.all_tested (g.subscripts v is (dims_of u a))) (h.weighed (with_name now a (suc (now a + sum is + n)))))
-      (λ js. t.◌>>◌ (t.all_tested (g.subscripts w js (dims_of u a))) (t.tallied (with_name now' a (t.next (t.both (t.both (now' a) (t.all js)) m))))) (values_capped now now' e args)
+      (λ js. t.◌>>◌ (t.all_tested (take (length (dims_of u a)) js)) (t.tallied (with_name now' a (t.next (t.both (t.both (now' a) (t.all js)) m))))) (values_capped now now' e args)
       (λ is js r. placed CapNames (dims_of u a) is js (h.weighed (with_name now a (suc (now a + sum is + n)))) (t.tallied (with_name now' a (t.next (t.both (t.both (now' a) (t.all js)) m)))) r
       (stays (with_name now a (suc (now a + sum is + n))) (with_name now' a (t.next (t.both (t.both (now' a) (t.all js)) m)))
       (cap_with now now' a (suc (now a + sum is + n)) (t.next (t.both (t.both (now' a) (t.all js)) m)) e
@@ -235,7 +236,7 @@ module _ (p : Program) (i : ℕ) (u : Routine) where
   step_capped now now' e None = one_capped
   step_capped now now' e (Some m) = parameter_capped now now' e m
 
-  left_capped : (dialect : Dialect) (n m : ℕ) → IsCapOf n m → IsCapOf (g.left_with v dialect n) (c.left_with w dialect m)
+  left_capped : (dialect : Dialect) (n m : ℕ) → IsCapOf n m → IsCapOf (g.left_with v dialect n) (c.left_with dialect m)
   left_capped Common n m q = cap_one
   left_capped SeventySeven n m q = cap_next n m q
 
@@ -247,30 +248,30 @@ module _ (p : Program) (i : ℕ) (u : Routine) where
   tests_capped [] now now' e cs = stays now now' e
   tests_capped (d ∷ ds) now now' e [] = stays now now' e
   tests_capped (d ∷ ds) now now' e (j ∷ cs) =
-      then IsCapOf CapNames (g.read v (now d.variable)) (c.read w (now' d.variable))
+      then IsCapOf CapNames (g.read v (now d.variable)) (c.read (now' d.variable))
       (λ n. h.◌>>=◌ (g.step_weight v now d.step) (λ by. h.◌>>=◌ (g.ranged v (suc (n + by))) (λ s. h.◌>>=◌ (g.parameter v now d.last) (λ last. on s last))))
-      (λ n. t.◌>>=◌ (c.step_weight w now' d.step) (λ by. t.◌>>=◌ (c.read w (t.pair n by)) (λ s. t.◌>>=◌ (c.parameter w now' d.last) (λ last. on' s last))))
+      (λ n. t.◌>>=◌ (c.step_weight w now' d.step) (λ by. t.◌>>=◌ (c.read (t.pair n by)) (λ s. t.◌>>=◌ (c.parameter w now' d.last) (λ last. on' s last))))
       (read_capped (now d.variable) (now' d.variable) (e d.variable))
       (λ n n' q. then IsCapOf CapNames (g.step_weight v now d.step) (c.step_weight w now' d.step)
       (λ by. h.◌>>=◌ (g.ranged v (suc (n + by))) (λ s. h.◌>>=◌ (g.parameter v now d.last) (λ last. on s last)))
-      (λ by. t.◌>>=◌ (c.read w (t.pair n' by)) (λ s. t.◌>>=◌ (c.parameter w now' d.last) (λ last. on' s last)))
+      (λ by. t.◌>>=◌ (c.read (t.pair n' by)) (λ s. t.◌>>=◌ (c.parameter w now' d.last) (λ last. on' s last)))
       (step_capped now now' e d.step)
-      (λ by by' r. then IsCapOf CapNames (g.ranged v (suc (n + by))) (c.read w (t.pair n' by'))
+      (λ by by' r. then IsCapOf CapNames (g.ranged v (suc (n + by))) (c.read (t.pair n' by'))
       (λ s. h.◌>>=◌ (g.parameter v now d.last) (λ last. on s last)) (λ s. t.◌>>=◌ (c.parameter w now' d.last) (λ last. on' s last))
       (pair_read n by n' by' q r)
       (λ s s' o. then IsCapOf CapNames (g.parameter v now d.last) (c.parameter w now' d.last) (λ last. on s last) (λ last. on' s' last) (parameter_capped now now' e d.last)
       (λ last last' f. choice CapNames (suc (s + last)) (t.pair s' last') (tail s) (tail' s') (cap_pair s last s' last' o f)
       (either CapNames (j == 1) (h.weighed (with_name now d.variable (suc s))) (g.tests v (with_name now d.variable (g.left_with v p.dialect s)) ds cs)
-      (t.tallied (with_name now' d.variable (t.next s'))) (c.tests w (with_name now' d.variable (c.left_with w p.dialect s')) ds cs)
+      (t.tallied (with_name now' d.variable (t.next s'))) (c.tests w (with_name now' d.variable (c.left_with p.dialect s')) ds cs)
       (stays (with_name now d.variable (suc s)) (with_name now' d.variable (t.next s')) (cap_with now now' d.variable (suc s) (t.next s') e (cap_next s s' o)))
-      (tests_capped ds (with_name now d.variable (g.left_with v p.dialect s)) (with_name now' d.variable (c.left_with w p.dialect s'))
-      (cap_with now now' d.variable (g.left_with v p.dialect s) (c.left_with w p.dialect s') e (left_capped p.dialect s s' o)) cs))))))
+      (tests_capped ds (with_name now d.variable (g.left_with v p.dialect s)) (with_name now' d.variable (c.left_with p.dialect s'))
+      (cap_with now now' d.variable (g.left_with v p.dialect s) (c.left_with p.dialect s') e (left_capped p.dialect s s' o)) cs))))))
     where
       tail : ℕ → h.Weigh (Named ℕ)
       tail s = cond (j == 1) (h.weighed (with_name now d.variable (suc s))) (g.tests v (with_name now d.variable (g.left_with v p.dialect s)) ds cs)
 
       tail' : ℕ → t.Tally (Named ℕ)
-      tail' s = cond (j == 1) (t.tallied (with_name now' d.variable (t.next s))) (c.tests w (with_name now' d.variable (c.left_with w p.dialect s)) ds cs)
+      tail' s = cond (j == 1) (t.tallied (with_name now' d.variable (t.next s))) (c.tests w (with_name now' d.variable (c.left_with p.dialect s)) ds cs)
 
       on : ℕ → ℕ → h.Weigh (Named ℕ)
       on s last = h.◌>>◌ (h.decided (suc (s + last))) (tail s)
@@ -296,10 +297,10 @@ module _ (p : Program) (i : ℕ) (u : Routine) where
   begin_capped SeventySeven last pc now now' e x n1 n2 n3 m1 m2 m3 q r s cs =
       then Any CapNames (h.tested n3) (t.tested m3)
       (λ z. h.◌>>◌ (g.ranged v (suc (n2 + n1))) (h.◌>>◌ (g.ranged v (suc (suc (n2 + n1) + n3))) on))
-      (λ z. t.◌>>◌ (c.read w (t.pair m2 m1)) (t.◌>>◌ (c.read w (t.pair (t.pair m2 m1) m3)) on')) (tests n3 m3 s)
-      (λ a b z. then IsCapOf CapNames (g.ranged v (suc (n2 + n1))) (c.read w (t.pair m2 m1)) (λ z. h.◌>>◌ (g.ranged v (suc (suc (n2 + n1) + n3))) on) (λ z. t.◌>>◌ (c.read w (t.pair (t.pair m2 m1) m3)) on')
+      (λ z. t.◌>>◌ (c.read (t.pair m2 m1)) (t.◌>>◌ (c.read (t.pair (t.pair m2 m1) m3)) on')) (tests n3 m3 s)
+      (λ a b z. then IsCapOf CapNames (g.ranged v (suc (n2 + n1))) (c.read (t.pair m2 m1)) (λ z. h.◌>>◌ (g.ranged v (suc (suc (n2 + n1) + n3))) on) (λ z. t.◌>>◌ (c.read (t.pair (t.pair m2 m1) m3)) on')
       (pair_read n2 n1 m2 m1 r q)
-      (λ a b z. then IsCapOf CapNames (g.ranged v (suc (suc (n2 + n1) + n3))) (c.read w (t.pair (t.pair m2 m1) m3)) (λ z. on) (λ z. on')
+      (λ a b z. then IsCapOf CapNames (g.ranged v (suc (suc (n2 + n1) + n3))) (c.read (t.pair (t.pair m2 m1) m3)) (λ z. on) (λ z. on')
       (pair_read (suc (n2 + n1)) n3 (t.pair m2 m1) m3 (cap_pair n2 n1 m2 m1 r q) s)
       (λ a b z. entered_capped last pc (with_name now x (suc n1)) (with_name now' x (t.next m1)) (cap_with now now' x (suc n1) (t.next m1) e (cap_next n1 m1 q)) n1 n2 m1 m2 q r cs)))
     where
@@ -322,7 +323,7 @@ module _ (p : Program) (i : ℕ) (u : Routine) where
   nothing_done : Caps Any (h.weighed tt) (t.tallied tt)
   nothing_done = rests Any tt tt tt
 
-  selector_capped : (dialect : Dialect) (n m : ℕ) → IsCapOf n m → Caps Any (g.selector v dialect n) (c.selector w dialect m)
+  selector_capped : (dialect : Dialect) (n m : ℕ) → IsCapOf n m → Caps Any (g.selector v dialect n) (c.selector dialect m)
   selector_capped Common n m q = tests n m q
   selector_capped SeventySeven n m q = nothing_done
 
@@ -343,9 +344,9 @@ module _ (p : Program) (i : ℕ) (u : Routine) where
       (λ after after' r. behind_capped pc after after' r cs))
   performed_capped pc now now' e (GoTo label) cs = stays now now' e
   performed_capped pc now now' e (ComputedGoTo labels x) cs =
-      then IsCapOf CapNames (g.read v (now x)) (c.read w (now' x)) (λ n. h.◌>>◌ (g.selector v p.dialect n) (g.selected v pc now (length labels) n cs))
-      (λ n. t.◌>>◌ (c.selector w p.dialect n) (c.selected w pc now' (length labels) n cs)) (read_capped (now x) (now' x) (e x))
-      (λ n m q. then Any CapNames (g.selector v p.dialect n) (c.selector w p.dialect m) (λ z. g.selected v pc now (length labels) n cs) (λ z. c.selected w pc now' (length labels) m cs)
+      then IsCapOf CapNames (g.read v (now x)) (c.read (now' x)) (λ n. h.◌>>◌ (g.selector v p.dialect n) (g.selected v pc now (length labels) n cs))
+      (λ n. t.◌>>◌ (c.selector p.dialect n) (c.selected w pc now' (length labels) n cs)) (read_capped (now x) (now' x) (e x))
+      (λ n m q. then Any CapNames (g.selector v p.dialect n) (c.selector p.dialect m) (λ z. g.selected v pc now (length labels) n cs) (λ z. c.selected w pc now' (length labels) m cs)
       (selector_capped p.dialect n m q) (λ a b z. selected_capped pc now now' e (length labels) n m q cs))
   performed_capped pc now now' e (ArithIf x l m n) cs = judged_capped CapNames now now' e x (h.weighed now) (t.tallied now') (stays now now' e)
   performed_capped pc now now' e (LogicalIf' x _ (carried stmt)) [] = stays now now' e

@@ -1,6 +1,6 @@
 -- The weights of the conditions along a path, as far as the cap: the walk of weights, by loads. Names stand for weights as
 -- far as the cap, and each sum is capped. A path is given by its steps.
-use Rattle.std.specs.Prelude.{ℕ, zero, suc, pred, ◌==◌, nat_lt, cond, Bool, true, false, List, [], ◌∷◌, map, length, Option, Some, None, slice_get}
+use Rattle.std.specs.Prelude.{ℕ, zero, suc, pred, ◌==◌, nat_lt, cond, Bool, true, false, List, [], ◌∷◌, map, length, take, Option, Some, None, slice_get}
 use mathlib.Core.Former.{Count}
 use Rattle.formula.specs.Tree.{Tree}
 use Rattle.fort_syntax.specs.TreePatterns.{only, carried, row_of}
@@ -29,12 +29,76 @@ use Rattle.fort_model.specs.WalkStmt.{with_name}
 use Rattle.path_cut.specs.Ways.{Way}
 use Rattle.path_cut.specs.declared.step.Step.{Step}
 use Rattle.path_cut.specs.declared.step.Step.TheVariants.{At, Choice}
-use Rattle.path_sizes.specs.Weights.{of_weights, all_one, subscripts}
+use Rattle.path_sizes.specs.Weights.{of_weights, all_one}
 use Rattle.way_laws.specs.PathsOf.{turns}
 use Rattle.weight_caps.specs.Capped.{capped}
 use Rattle.weight_caps.specs.Loads.{nothing_yet}
 use Rattle.weight_caps.specs.declared.loads.Load.{Load}
 use Rattle.weight_tallies.specs.Tallied.{Tally, ◌>>=◌, ◌>>◌, tallied, added, decided, tested, all_tested, next, both, pair, all}
+
+-- ---- what needs no program
+
+abbrev pub read : ℕ → Tally ℕ
+read n = do
+  tested n
+  tallied n
+
+abbrev pub read_operand : Operand ℕ → Tally ℕ
+read_operand (Bare x n) = read n
+read_operand (Part n) = read n
+read_operand (Reckoned n) = tallied n
+
+abbrev pub valued : Tally (Operand ℕ) → Tally ℕ
+valued part = do
+  x ← part
+  read_operand x
+
+abbrev pub reckoned : Tally ℕ → Tally (Operand ℕ)
+reckoned part = do
+  n ← part
+  tallied (Reckoned n)
+
+abbrev pub operate : BinOp → ℕ → ℕ → Tally ℕ
+operate Add a b = read (pair a b)
+operate Sub a b = read (pair a b)
+operate Mul a b = read (pair a b)
+operate Div a b = do
+  tested b
+  read (pair a b)
+
+-- a product, with some factors more; each is tested
+abbrev pub power_from : ℕ → ℕ → ℕ → Tally ℕ
+power_from base product zero = tallied product
+power_from base product (suc others) = do
+  tested (both product (next base))
+  power_from base (both product (next base)) others
+
+abbrev pub power : ℕ → ℕ → Tally ℕ
+power base exponent = power_from base (next base) (pred exponent)
+
+abbrev pub intrinsic_weight : Intrinsic → List ℕ → Tally ℕ
+intrinsic_weight Absolute (a ∷ []) = read (next a)
+intrinsic_weight Modulo (a ∷ b ∷ []) = do
+  tested b
+  read (pair a b)
+  tallied (pair a b)
+intrinsic_weight Greatest (a ∷ ns) = tallied (next (all (a ∷ ns)))
+intrinsic_weight Least (a ∷ ns) = tallied (next (all (a ∷ ns)))
+intrinsic_weight i ns = tallied 1
+
+-- what the variable of a DO weighs that is left
+abbrev pub left_with : Dialect → ℕ → ℕ
+left_with Common n = 1
+left_with SeventySeven n = next n
+
+abbrev pub selector : Dialect → ℕ → Tally (Unit {0})
+selector Common i = tested i
+selector SeventySeven i = tallied tt
+
+-- where the path started at an ASSERT, the weight of whose clock is told, the old and new parts are tested
+abbrev pub fall : Option ℕ → List ℕ → Tally (Unit {0})
+fall None new = tallied tt
+fall (Some past) new = tested (both past (all new))
 
 module _ (w : Sight ℕ) where
   -- the weights of terms of notes, by what names weighed before and weigh now
@@ -68,64 +132,16 @@ module _ (w : Sight ℕ) where
 
   -- ---- expressions
 
-  abbrev pub read : ℕ → Tally ℕ
-  read n = do
-    tested n
-    tallied n
-
-  abbrev pub read_operand : Operand ℕ → Tally ℕ
-  read_operand (Bare x n) = read n
-  read_operand (Part n) = read n
-  read_operand (Reckoned n) = tallied n
-
-  abbrev pub valued : Tally (Operand ℕ) → Tally ℕ
-  valued part = do
-    x ← part
-    read_operand x
-
-  abbrev pub reckoned : Tally ℕ → Tally (Operand ℕ)
-  reckoned part = do
-    n ← part
-    tallied (Reckoned n)
-
   -- a constant up to the bound needs no check
   abbrev pub constant : ℕ → Tally ℕ
   constant c = do
     all_tested (cond (nat_lt w.program.bound c) (1 ∷ []) [])
     tallied 1
 
-  abbrev pub operate : BinOp → ℕ → ℕ → Tally ℕ
-  operate Add a b = read (pair a b)
-  operate Sub a b = read (pair a b)
-  operate Mul a b = read (pair a b)
-  operate Div a b = do
-    tested b
-    read (pair a b)
-
-  -- a product, with some factors more; each is tested
-  abbrev pub power_from : ℕ → ℕ → ℕ → Tally ℕ
-  power_from base product zero = tallied product
-  power_from base product (suc others) = do
-    tested (both product (next base))
-    power_from base (both product (next base)) others
-
-  abbrev pub power : ℕ → ℕ → Tally ℕ
-  power base exponent = power_from base (next base) (pred exponent)
-
-  abbrev pub intrinsic_weight : Intrinsic → List ℕ → Tally ℕ
-  intrinsic_weight Absolute (a ∷ []) = read (next a)
-  intrinsic_weight Modulo (a ∷ b ∷ []) = do
-    tested b
-    read (pair a b)
-    tallied (pair a b)
-  intrinsic_weight Greatest (a ∷ ns) = tallied (next (all (a ∷ ns)))
-  intrinsic_weight Least (a ∷ ns) = tallied (next (all (a ∷ ns)))
-  intrinsic_weight i ns = tallied 1
-
   abbrev pub apply_weight : Named ℕ → Name → Applied → Tally (List ℕ) → Tally (List (Operand ℕ)) → Tally (Operand ℕ)
   apply_weight now a (Element dims) values actuals = do
     is ← values
-    all_tested (subscripts w is dims)
+    all_tested (take (length dims) is)
     tallied (Part (next (both (now a) (all is))))
   apply_weight now a (BuiltIn i) values actuals = do
     ns ← values
@@ -192,7 +208,7 @@ module _ (w : Sight ℕ) where
   assign now (Var x) n = tallied (with_name now x (next n))
   assign now (Apply' a _ args) n = do
     is ← values now args
-    all_tested (subscripts w is (dims_of w.unit a))
+    all_tested (take (length (dims_of w.unit a)) is)
     tallied (with_name now a (next (both (both (now a) (all is)) n)))
   assign now _ n = tallied now
 
@@ -203,11 +219,6 @@ module _ (w : Sight ℕ) where
   abbrev pub step_weight : Named ℕ → Option Param → Tally ℕ
   step_weight now None = tallied 1
   step_weight now (Some m) = parameter now m
-
-  -- what the variable of a DO weighs that is left
-  abbrev pub left_with : Dialect → ℕ → ℕ
-  left_with Common n = 1
-  left_with SeventySeven n = next n
 
   abbrev pub tests : Named ℕ → List Loop → List ℕ → Tally (Named ℕ)
   tests now [] cs = tallied now
@@ -255,10 +266,6 @@ module _ (w : Sight ℕ) where
   abbrev pub selected : ℕ → Named ℕ → ℕ → ℕ → List ℕ → Tally (Named ℕ)
   selected pc now labels i [] = tallied now
   selected pc now labels i (c ∷ cs) = select w.program.dialect pc now labels i c cs
-
-  abbrev pub selector : Dialect → ℕ → Tally (Unit {0})
-  selector Common i = tested i
-  selector SeventySeven i = tallied tt
 
   abbrev pub result : Named ℕ → Bool → Tally (Unit {0})
   result now false = tallied tt
@@ -323,11 +330,6 @@ module _ (w : Sight ℕ) where
   -- a path begins with 2, the number of the data names, and the terms of INPUT
   abbrev pub entry_weight : ℕ
   entry_weight = both (both 2 (capped (length w.unit.names))) (all (told all_one notes_here.input))
-
-  -- where the path started at an ASSERT, the weight of whose clock is told, the old and new parts are tested
-  abbrev pub fall : Option ℕ → List ℕ → Tally (Unit {0})
-  fall None new = tallied tt
-  fall (Some past) new = tested (both past (all new))
 
   abbrev pub arrive : Option ℕ → Cut → Named ℕ → Tally (Unit {0})
   arrive clock NoCut now = tallied tt

@@ -1,5 +1,5 @@
 -- Terms that wait to be weighed.
-use Rattle.std.proofs.Common.{◌≡◌, ℕ, suc, ◌+◌, ◌<◌, Bool, true, false, cond, List, [], ◌∷◌, length, Option, Some, None, refl, sym, ap, ◌∙◌, arith}
+use Rattle.std.proofs.Common.{◌≡◌, ℕ, suc, ◌+◌, ◌<◌, ◌≤◌, Bool, true, false, cond, List, [], ◌∷◌, length, Option, Some, None, refl, sym, ap, ◌∙◌, arith}
 use Rattle.std.specs.Prelude.{unwrap_or, sum}
 use Rattle.std.specs.Map.{lookup}
 use Rattle.formula.specs.Atoms.{same_bytes}
@@ -114,7 +114,7 @@ module _ (pool : List Node) where
   arguments_wait n m (Truth b) rest h k l = k
   arguments_wait n m (Symbol s) rest h k l = k
   arguments_wait n m (Old s) rest h k l = k
-  arguments_wait n m (Apply f args) rest h k l = let le = omega arith in pushed_below m args rest (AllBelow-more n m args le h) k
+  arguments_wait n m (Apply f args) rest h k l = let le : n ≤ m = omega arith in pushed_below m args rest (AllBelow-more n m args le h) k
 
   pub still_below : (id : TermId) (rest : List TermId) (node : Node) → HasArgumentsBelow id.place node → AllBelow (length pool) (id ∷ rest) → AllBelow (length pool) (pushed (arguments_of node) rest)
   still_below id rest node h k = arguments_wait id.place (length pool) node rest h k.1 k.0

@@ -78,6 +78,6 @@ impl NameWeights {
 /// What names weigh in a note: at the entry, and now.
 #[derive(Clone, Copy)]
 pub struct Told<'a> {
-    pub entry: &'a NameWeights,
+    pub before: &'a NameWeights,
     pub now: &'a NameWeights,
 }

@@ -17,12 +17,12 @@ use weight_caps::{Load, plus};
 pub fn test_terms(
     alloc: Global,
     pool: &TermPool,
-    told: Told,
+    told: &Told,
     ids: &[TermId],
     load: &mut Load,
 ) -> Result<(), NoMemory>
     requires { AllBelow (length pool.now) ids.now }
-    ensures { OnOk result (load.new ≡ with_tests load.old (weights_told pool.now (held told.entry.now) (held told.now.now) ids.now)) }
+    ensures { OnOk result (load.new ≡ with_tests load.old (weights_told pool.now (held told.now.before.now) (held told.now.now.now) ids.now)) }
 {
     for id in ids {
         let Ok(weight) = term_weight(alloc, pool, told, *id) else {
@@ -37,11 +37,11 @@ pub fn test_terms(
 pub fn sum_terms(
     alloc: Global,
     pool: &TermPool,
-    told: Told,
+    told: &Told,
     ids: &[TermId],
 ) -> Result<u32, NoMemory>
     requires { AllBelow (length pool.now) ids.now }
-    ensures { IfOk result (λ n. n ≡ capped (sum (weights_told pool.now (held told.entry.now) (held told.now.now) ids.now))) }
+    ensures { IfOk result (λ n. n ≡ capped (sum (weights_told pool.now (held told.now.before.now) (held told.now.now.now) ids.now))) }
 {
     let mut all: u32 = 0;
     for id in ids {

@@ -1,0 +1,85 @@
+-- What the names of a called unit weigh.
+use Rattle.std.proofs.Common.{◌≡◌, ℕ, zero, suc, ◌+◌, ◌<◌, ◌≤◌, ◌⊎◌, inl, inr, ◌||◌, Bool, true, false, cond, List, [], ◌∷◌, ◌++◌, length, drop, get_or, Option, Some, None, refl, sym, ap, ◌∙◌, arith}
+use Rattle.formula.specs.Atoms.{same_bytes, is_among}
+use Rattle.fort_syntax.specs.Names.{data_name, data_name_in, has_common, has_role, is_in_common}
+use Rattle.fort_syntax.specs.declared.name.Name.{Name}
+use Rattle.fort_syntax.specs.declared.unit.DataName.{DataName}
+use Rattle.fort_syntax.specs.declared.unit.Unit.{Unit as Routine}
+use Rattle.fort_model.specs.Seen.{Named}
+use Rattle.fort_model.specs.WalkCalls.{Sight, seen_by, with_actuals}
+use Rattle.fort_model.specs.WalkStmt.{with_name}
+use Rattle.fort_model.specs.Program.{Program}
+use Rattle.name_tables.specs.Sets.{with_names}
+use Rattle.name_tables.proofs.Told.{same_names, swapped}
+use Rattle.call_tests.proofs.Sets.{among_more}
+use Rattle.std.proofs.lemmas.List.{drop_all}
+use Rattle.weight_tallies.specs.Tallies.{weighed_at}
+use Rattle.path_sizes.specs.Weights.{all_one}
+use Rattle.weight_calls.specs.Calls.{ones_set}
+use Rattle.weight_calls.specs.Seen.{by_names, changed_by, data_weight}
+
+-- ---- names of a called unit
+
+known_by : (now : Named ℕ) (d : DataName) (x : Name) (b : Bool) (o : Option DataName) (rest : ℕ) → same_bytes d.name x ≡ b
+    → rest ≡ cond (has_role is_in_common o) (now x) 1
+    → cond b (data_weight now d) rest ≡ cond (has_role is_in_common (cond b (Some d) o)) (now x) 1
+known_by now d x true o rest same e = ap (λ y. cond (is_in_common d.role) (now y) 1) (same_names d.name x same)
+known_by now d x false o rest same e = e
+
+named_so : (now : Named ℕ) (ds : List DataName) (x : Name) → by_names now ds all_one x ≡ cond (has_role is_in_common (data_name_in ds x)) (now x) 1
+named_so now [] x = refl
+named_so now (d ∷ ds) x = known_by now d x (same_bytes d.name x) (data_name_in ds x) (by_names now ds all_one x) refl (named_so now ds x)
+
+-- a table that was told the data names, the unit's own name and the dummies tells what the names weigh
+pub seen_so : (q : Program) (i : ℕ) (v u : Routine) (ns : List ℕ) (now : Named ℕ) (first second third : Named ℕ)
+    → first ≡ by_names now u.names all_one → second ≡ with_name first u.name 1 → third ≡ with_actuals (weighed_at q i v) u.dummies ns second
+    → third ≡ seen_by (weighed_at q i v) u ns now 1
+seen_so q i v u ns now first second third e f g = g ∙ ap (with_actuals (weighed_at q i v) u.dummies ns) (f ∙ (ap (λ (n : Named ℕ). with_name n u.name 1) e ∙ (λ j x. inner x j)))
+  where
+    inner : (x : Name) → with_name (by_names now u.names all_one) u.name 1 x ≡ cond (same_bytes u.name x) 1 (cond (has_common u x) (now x) 1)
+    inner x = ap (λ n. cond (same_bytes u.name x) 1 n) (named_so now u.names x)
+
+-- ---- loops over lists from behind
+
+drop_last : {A : Type 0} (xs : List A) (k : ℕ) (d : A) → k < length xs → drop k xs ≡ get_or xs k d ∷ drop (suc k) xs
+drop_last [] k d h = absurd (omega arith)
+drop_last (x ∷ xs) zero d h = refl
+drop_last (x ∷ xs) (suc k) d h = drop_last xs k d (omega arith)
+
+pub one_name : (now other : Named ℕ) (ds : List DataName) (k : ℕ) (d : DataName) (table new : Named ℕ) → k < length ds → d ≡ get_or ds k d
+    → table ≡ by_names now (drop (suc k) ds) other → new ≡ with_name table d.name (data_weight now d) → new ≡ by_names now (drop k ds) other
+one_name now other ds k d table new h read e f =
+    f ∙ (ap (λ (n : Named ℕ). with_name n d.name (data_weight now d)) e ∙ sym (ap (λ es. by_names now es other) (drop_last ds k d h ∙ ap (λ x. x ∷ drop (suc k) ds) (sym read))))
+
+pub one_actual : (w : Sight ℕ) (other : Named ℕ) (ds : List Name) (ns : List ℕ) (k : ℕ) (d : Name) (n : ℕ) (table new : Named ℕ) → k < length ds → k < length ns → d ≡ get_or ds k d → n ≡ get_or ns k n
+    → table ≡ with_actuals w (drop (suc k) ds) (drop (suc k) ns) other → new ≡ with_name table d n → new ≡ with_actuals w (drop k ds) (drop k ns) other
+one_actual w other ds ns k d n table new h l read told e f =
+    f ∙ (ap (λ (t : Named ℕ). with_name t d n) e
+    ∙ sym (λ i. with_actuals w ((drop_last ds k d h ∙ ap (λ x. x ∷ drop (suc k) ds) (sym read)) i) ((drop_last ns k n l ∙ ap (λ x. x ∷ drop (suc k) ns) (sym told)) i) other))
+
+-- where one of two lists is at its end no dummy has an actual
+pub no_actual : (w : Sight ℕ) (other : Named ℕ) (ds : List Name) (ns : List ℕ) (k : ℕ) → ((length ds ≤ k) ⊎ (length ns ≤ k)) → with_actuals w (drop k ds) (drop k ns) other ≡ other
+no_actual w other ds ns k (inl h) = ap (λ es. with_actuals w es (drop k ns) other) (drop_all k ds h)
+no_actual w other ds ns k (inr h) = ap (λ ms. with_actuals w (drop k ds) ms other) (drop_all k ns h) ∙ none (drop k ds)
+  where
+    none : (es : List Name) → with_actuals w es [] other ≡ other
+    none [] = refl
+    none (x ∷ es) = refl
+
+-- ---- smashed names
+
+ones_by : (b d : Bool) (n : ℕ) → cond (b || d) 1 n ≡ cond d 1 (cond b 1 n)
+ones_by true true n = refl
+ones_by true false n = refl
+ones_by false d n = refl
+
+pub ones_so : (xs : List Name) (now : Named ℕ) → ones_set xs now ≡ changed_by xs now
+ones_so [] now = refl
+ones_so (x ∷ xs) now = ones_so xs (with_name now x 1) ∙ (λ i y. (ap (λ b. cond (is_among y xs) 1 (cond b 1 (now y))) (swapped x y) ∙ sym (ones_by (same_bytes y x) (is_among y xs) (now y))) i)
+
+-- a set of names tells which names are among them
+pub changed_same : (xs ys : List Name) (now : Named ℕ) → xs ≡ with_names [] ys → changed_by xs now ≡ changed_by ys now
+changed_same xs ys now e = λ i x. (ap (λ zs. cond (is_among x zs) 1 (now x)) e ∙ ap (λ b. cond b 1 (now x)) (among_more x [] ys)) i
+
+pub changed_none : (now : Named ℕ) → changed_by [] now ≡ now
+changed_none now = refl

@@ -1,0 +1,3 @@
+mod CalledNames
+mod HitNames
+mod NoteTerms

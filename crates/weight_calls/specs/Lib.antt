@@ -1,0 +1,4 @@
+pub mod Subjects
+pub mod Operands
+pub mod Seen
+pub mod Calls

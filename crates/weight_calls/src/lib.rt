@@ -1,0 +1,11 @@
+//! The weights of calls along a path.
+#![tactic(auto)]
+
+mod calls;
+mod operands;
+mod seen;
+mod subject;
+
+pub use calls::{call, refer};
+pub use operands::Operand;
+pub use subject::Subject;

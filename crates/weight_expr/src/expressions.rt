@@ -1,0 +1,202 @@
+// Expressions.
+ghost use Rattle.std.specs.Prelude.{◌≡◌, map, IfOk, OnOk};
+ghost use Rattle.fort_syntax.specs.TreePatterns.{row_of};
+ghost use Rattle.weight_calls.specs.Operands.{operand_of};
+ghost use Rattle.weight_calls.specs.Subjects.{sight_of};
+ghost use Rattle.weight_terms.specs.Held.{held};
+ghost use Rattle.weight_tallies.specs.Tallies as tally;
+
+use crate::functions::{Applied, applied, intrinsic_weight, test_subscripts};
+use crate::operations::{constant, next, operate, pair, power, read, read_operand};
+use edge_io::NoMemory;
+use fort_syntax::{Expr, Name};
+use weight_calls::{Operand, Subject, refer};
+use weight_caps::{Load, plus, sum_of};
+use weight_terms::NameWeights;
+
+/// An element, an intrinsic function, or a reference to a FUNCTION of the deck.
+#[cycle(expressions)]
+fn applied_weight(
+    subject: &Subject,
+    names: &NameWeights,
+    load: &mut Load,
+    name: &Name,
+    args: &[Expr],
+) -> Result<Operand, NoMemory>
+    ensures load { OnOk result (load.new ≡ (tally.apply_weight (sight_of subject.now) (held names.now) name.now (applied subject.now.book.now.unit.now name.now) (tally.values (sight_of subject.now) (held names.now) (row_of args.now)) (tally.operands (sight_of subject.now) (held names.now) (row_of args.now)) load.old).load) }
+    ensures value { IfOk result (λ x. operand_of x ≡ (tally.apply_weight (sight_of subject.now) (held names.now) name.now (applied subject.now.book.now.unit.now name.now) (tally.values (sight_of subject.now) (held names.now) (row_of args.now)) (tally.operands (sight_of subject.now) (held names.now) (row_of args.now)) load.old).value) }
+{
+    match applied(subject.book, name) {
+        Applied::Element(dims) => {
+            let Ok(subscripts) = values(subject, names, load, args) else {
+                return Err(NoMemory);
+            };
+            test_subscripts(load, subscripts.as_slice(), dims);
+            Ok(Operand::Part(next(plus(
+                names.of(name),
+                sum_of(subscripts.as_slice()),
+            ))))
+        }
+        Applied::BuiltIn(function) => {
+            let Ok(weights) = values(subject, names, load, args) else {
+                return Err(NoMemory);
+            };
+            Ok(Operand::Computed(intrinsic_weight(
+                load,
+                function,
+                weights.as_slice(),
+            )))
+        }
+        Applied::Reference => {
+            let Ok(actuals) = operands(subject, names, load, args) else {
+                return Err(NoMemory);
+            };
+            let number = subject
+                .numbers
+                .function(subject.scene.books.units, name);
+            let Ok(()) = refer(subject, number, names, actuals.as_slice(), load) else {
+                return Err(NoMemory);
+            };
+            Ok(Operand::Computed(1))
+        }
+    }
+}
+
+/// An expression as an operand, which is not read where it is a bare name or an element.
+#[cycle(expressions)]
+fn operand(
+    subject: &Subject,
+    names: &NameWeights,
+    load: &mut Load,
+    e: &Expr,
+) -> Result<Operand, NoMemory>
+    ensures load { OnOk result (load.new ≡ (tally.operand (sight_of subject.now) (held names.now) e.now load.old).load) }
+    ensures value { IfOk result (λ x. operand_of x ≡ (tally.operand (sight_of subject.now) (held names.now) e.now load.old).value) }
+{
+    match e {
+        Expr::Const(number) => Ok(Operand::Computed(constant(subject, load, *number))),
+        Expr::Truth(_) => Ok(Operand::Computed(1)),
+        Expr::Var(name) => Ok(Operand::Bare(*name, names.of(name))),
+        Expr::Apply(name, args) => applied_weight(subject, names, load, name, args.as_slice()),
+        Expr::Paren(a) | Expr::Pos(a) => {
+            let Ok(weight) = value(subject, names, load, a.get()) else {
+                return Err(NoMemory);
+            };
+            Ok(Operand::Computed(weight))
+        }
+        Expr::Neg(a) => {
+            let Ok(weight) = value(subject, names, load, a.get()) else {
+                return Err(NoMemory);
+            };
+            Ok(Operand::Computed(read(load, next(weight))))
+        }
+        Expr::Power(a, exponent) => {
+            let Ok(weight) = value(subject, names, load, a.get()) else {
+                return Err(NoMemory);
+            };
+            Ok(Operand::Computed(power(load, weight, *exponent)))
+        }
+        Expr::Bin(operator, a, b) => {
+            let Ok((first, second)) = two_values(subject, names, load, a.get(), b.get()) else {
+                return Err(NoMemory);
+            };
+            Ok(Operand::Computed(operate(load, *operator, first, second)))
+        }
+        Expr::Not(a) => {
+            let Ok(weight) = value(subject, names, load, a.get()) else {
+                return Err(NoMemory);
+            };
+            Ok(Operand::Computed(next(weight)))
+        }
+        Expr::Rel(_, a, b) | Expr::And(a, b) | Expr::Or(a, b) => {
+            let Ok((first, second)) = two_values(subject, names, load, a.get(), b.get()) else {
+                return Err(NoMemory);
+            };
+            Ok(Operand::Computed(pair(first, second)))
+        }
+    }
+}
+
+/// The values of two expressions, one after another.
+#[cycle(expressions)]
+fn two_values(
+    subject: &Subject,
+    names: &NameWeights,
+    load: &mut Load,
+    a: &Expr,
+    b: &Expr,
+) -> Result<(u32, u32), NoMemory>
+    ensures load { OnOk result (load.new ≡ (two (sight_of subject.now) (held names.now) a.now b.now load.old).load) }
+    ensures value { IfOk result (λ x. x ≡ (two (sight_of subject.now) (held names.now) a.now b.now load.old).value) }
+{
+    let Ok(first) = value(subject, names, load, a) else {
+        return Err(NoMemory);
+    };
+    let Ok(second) = value(subject, names, load, b) else {
+        return Err(NoMemory);
+    };
+    Ok((first, second))
+}
+
+/// The value of an expression.
+#[cycle(expressions)]
+pub fn value(
+    subject: &Subject,
+    names: &NameWeights,
+    load: &mut Load,
+    e: &Expr,
+) -> Result<u32, NoMemory>
+    ensures load { OnOk result (load.new ≡ (tally.value (sight_of subject.now) (held names.now) e.now load.old).load) }
+    ensures value { IfOk result (λ n. n ≡ (tally.value (sight_of subject.now) (held names.now) e.now load.old).value) }
+{
+    let Ok(part) = operand(subject, names, load, e) else {
+        return Err(NoMemory);
+    };
+    Ok(read_operand(load, part))
+}
+
+/// The values of expressions, one after another.
+#[cycle(expressions)]
+pub fn values(
+    subject: &Subject,
+    names: &NameWeights,
+    load: &mut Load,
+    args: &[Expr],
+) -> Result<Vec<u32>, NoMemory>
+    ensures load { OnOk result (load.new ≡ (tally.values (sight_of subject.now) (held names.now) (row_of args.now) load.old).load) }
+    ensures value { IfOk result (λ ns. ns.items ≡ (tally.values (sight_of subject.now) (held names.now) (row_of args.now) load.old).value) }
+{
+    let mut weights = Vec::new(subject.alloc);
+    for e in args {
+        let Ok(weight) = value(subject, names, load, e) else {
+            return Err(NoMemory);
+        };
+        let Ok(()) = weights.push(weight) else {
+            return Err(NoMemory);
+        };
+    }
+    Ok(weights)
+}
+
+/// Expressions as operands, one after another.
+#[cycle(expressions)]
+pub fn operands(
+    subject: &Subject,
+    names: &NameWeights,
+    load: &mut Load,
+    args: &[Expr],
+) -> Result<Vec<Operand>, NoMemory>
+    ensures load { OnOk result (load.new ≡ (tally.operands (sight_of subject.now) (held names.now) (row_of args.now) load.old).load) }
+    ensures value { IfOk result (λ xs. map operand_of xs.items ≡ (tally.operands (sight_of subject.now) (held names.now) (row_of args.now) load.old).value) }
+{
+    let mut found = Vec::new(subject.alloc);
+    for e in args {
+        let Ok(part) = operand(subject, names, load, e) else {
+            return Err(NoMemory);
+        };
+        let Ok(()) = found.push(part) else {
+            return Err(NoMemory);
+        };
+    }
+    Ok(found)
+}
