@@ -132,7 +132,7 @@ fn weigh(
     };
     let told = Told {
         before: &before,
-        now: &before,
+        behind: &before,
     };
     let input = subject.input(callee.number);
     let Ok(()) = test_terms(subject.alloc, subject.pool, &told, input, load) else {
@@ -147,7 +147,7 @@ fn weigh(
     };
     let told = Told {
         before: &before,
-        now: &behind,
+        behind: &behind,
     };
     let output = subject.output(callee.number);
     let Ok(sum) = sum_terms(subject.alloc, subject.pool, &told, output) else {

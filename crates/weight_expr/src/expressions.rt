@@ -1,10 +1,11 @@
 // Expressions.
 ghost use Rattle.std.specs.Prelude.{◌≡◌, map, IfOk, OnOk};
-ghost use Rattle.fort_syntax.specs.TreePatterns.{row_of};
+ghost use Rattle.fort_syntax.specs.Names as text;
 ghost use Rattle.weight_calls.specs.Operands.{operand_of};
 ghost use Rattle.weight_calls.specs.Subjects.{sight_of};
 ghost use Rattle.weight_terms.specs.Held.{held};
 ghost use Rattle.weight_tallies.specs.Tallies as tally;
+ghost use Rattle.weight_expr.specs.Listed.{operands_listed, two, values_listed};
 
 use crate::functions::{Applied, applied, intrinsic_weight, test_subscripts};
 use crate::operations::{constant, next, operate, pair, power, read, read_operand};
@@ -23,8 +24,8 @@ fn applied_weight(
     name: &Name,
     args: &[Expr],
 ) -> Result<Operand, NoMemory>
-    ensures load { OnOk result (load.new ≡ (tally.apply_weight (sight_of subject.now) (held names.now) name.now (applied subject.now.book.now.unit.now name.now) (tally.values (sight_of subject.now) (held names.now) (row_of args.now)) (tally.operands (sight_of subject.now) (held names.now) (row_of args.now)) load.old).load) }
-    ensures value { IfOk result (λ x. operand_of x ≡ (tally.apply_weight (sight_of subject.now) (held names.now) name.now (applied subject.now.book.now.unit.now name.now) (tally.values (sight_of subject.now) (held names.now) (row_of args.now)) (tally.operands (sight_of subject.now) (held names.now) (row_of args.now)) load.old).value) }
+    ensures load { OnOk result (load.new ≡ (tally.apply_weight (sight_of subject.now) (held names.now) name.now (text.applied subject.now.book.now.unit.now name.now) (values_listed (sight_of subject.now) (held names.now) args.now) (operands_listed (sight_of subject.now) (held names.now) args.now) load.old).load) }
+    ensures value { IfOk result (λ x. operand_of x ≡ (tally.apply_weight (sight_of subject.now) (held names.now) name.now (text.applied subject.now.book.now.unit.now name.now) (values_listed (sight_of subject.now) (held names.now) args.now) (operands_listed (sight_of subject.now) (held names.now) args.now) load.old).value) }
 {
     match applied(subject.book, name) {
         Applied::Element(dims) => {
@@ -163,8 +164,8 @@ pub fn values(
     load: &mut Load,
     args: &[Expr],
 ) -> Result<Vec<u32>, NoMemory>
-    ensures load { OnOk result (load.new ≡ (tally.values (sight_of subject.now) (held names.now) (row_of args.now) load.old).load) }
-    ensures value { IfOk result (λ ns. ns.items ≡ (tally.values (sight_of subject.now) (held names.now) (row_of args.now) load.old).value) }
+    ensures load { OnOk result (load.new ≡ (values_listed (sight_of subject.now) (held names.now) args.now load.old).load) }
+    ensures value { IfOk result (λ ns. ns.items ≡ (values_listed (sight_of subject.now) (held names.now) args.now load.old).value) }
 {
     let mut weights = Vec::new(subject.alloc);
     for e in args {
@@ -186,8 +187,8 @@ pub fn operands(
     load: &mut Load,
     args: &[Expr],
 ) -> Result<Vec<Operand>, NoMemory>
-    ensures load { OnOk result (load.new ≡ (tally.operands (sight_of subject.now) (held names.now) (row_of args.now) load.old).load) }
-    ensures value { IfOk result (λ xs. map operand_of xs.items ≡ (tally.operands (sight_of subject.now) (held names.now) (row_of args.now) load.old).value) }
+    ensures load { OnOk result (load.new ≡ (operands_listed (sight_of subject.now) (held names.now) args.now load.old).load) }
+    ensures value { IfOk result (λ xs. map operand_of xs.items ≡ (operands_listed (sight_of subject.now) (held names.now) args.now load.old).value) }
 {
     let mut found = Vec::new(subject.alloc);
     for e in args {

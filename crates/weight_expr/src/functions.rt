@@ -1,7 +1,7 @@
 // Intrinsic functions of weights, and what a name before a bracket is.
 ghost use Rattle.std.specs.Prelude.{◌≡◌, [], take};
 ghost use Rattle.formula.specs.Atoms.{same_bytes};
-ghost use Rattle.fort_syntax.specs.Names.{Absolute, Greatest, Least, Modulo, applied, applied_by, intrinsic};
+ghost use Rattle.fort_syntax.specs.Names as text;
 ghost use Rattle.weight_caps.specs.Loads.{with_tests};
 ghost use Rattle.weight_caps.specs.declared.loads.Load.{Load};
 ghost use Rattle.weight_expr.specs.Applied.{is_applied, meaning};
@@ -40,7 +40,7 @@ fn is_word(name: &Name, word: &[u8]) -> bool
 
 /// What a name before a bracket is where it is no array.
 fn function_of(name: &Name) -> Applied
-    ensures { is_applied (applied_by [] (intrinsic name.now)) result }
+    ensures { is_applied (text.applied_by [] (text.intrinsic name.now)) result }
 {
     if is_word(name, b"IABS") {
         return Applied::BuiltIn(Function::Absolute);
@@ -59,7 +59,7 @@ fn function_of(name: &Name) -> Applied
 
 /// What a name before a bracket is in a unit.
 pub(crate) fn applied(book: &Book, name: &Name) -> Applied
-    ensures { is_applied (applied book.now.unit.now name.now) result }
+    ensures { is_applied (text.applied book.now.unit.now name.now) result }
 {
     let dims = book.dims(name);
     if dims.is_empty() {
@@ -70,8 +70,8 @@ pub(crate) fn applied(book: &Book, name: &Name) -> Applied
 
 /// An intrinsic function of one weight, IABS; of any other number it weighs 1.
 fn absolute(load: &mut Load, weights: &[u32]) -> u32
-    ensures load { load.new ≡ (tally.intrinsic_weight Absolute weights.now load.old).load }
-    ensures value { result ≡ (tally.intrinsic_weight Absolute weights.now load.old).value }
+    ensures load { load.new ≡ (tally.intrinsic_weight text.Absolute weights.now load.old).load }
+    ensures value { result ≡ (tally.intrinsic_weight text.Absolute weights.now load.old).value }
 {
     let [a] = weights else {
         return 1;
@@ -81,8 +81,8 @@ fn absolute(load: &mut Load, weights: &[u32]) -> u32
 
 /// MOD of two weights; of any other number it weighs 1.
 fn modulo(load: &mut Load, weights: &[u32]) -> u32
-    ensures load { load.new ≡ (tally.intrinsic_weight Modulo weights.now load.old).load }
-    ensures value { result ≡ (tally.intrinsic_weight Modulo weights.now load.old).value }
+    ensures load { load.new ≡ (tally.intrinsic_weight text.Modulo weights.now load.old).load }
+    ensures value { result ≡ (tally.intrinsic_weight text.Modulo weights.now load.old).value }
 {
     let [a, b] = weights else {
         return 1;
@@ -93,7 +93,7 @@ fn modulo(load: &mut Load, weights: &[u32]) -> u32
 
 /// MAX0 or MIN0 of one weight or more; of none it weighs 1.
 fn greatest(weights: &[u32]) -> u32
-    ensures { (load : Load) → (tally.intrinsic_weight Greatest weights.now load ≡ record { value = result; load = load }) × (tally.intrinsic_weight Least weights.now load ≡ record { value = result; load = load }) }
+    ensures { (load : Load) → (tally.intrinsic_weight text.Greatest weights.now load ≡ record { value = result; load = load }) × (tally.intrinsic_weight text.Least weights.now load ≡ record { value = result; load = load }) }
 {
     if weights.is_empty() {
         return 1;

@@ -28,10 +28,13 @@ use Rattle.weight_caps.specs.declared.loads.Load.{Load}
 use Rattle.weight_tallies.specs.Laws.{TalliesAreWeights}
 use Rattle.weight_tallies.specs.Tallied as t
 use Rattle.weight_tallies.specs.Tallies as c
-use Rattle.weight_tallies.proofs.Capping.{Caps, Any, IsCapOf, AreCapsOf, CapNames, then, rests, adds, tests, tests_all, cap_both, cap_all}
+use Rattle.weight_tallies.proofs.Capping.{Caps, Any, IsCapOf, AreCapsOf, CapNames, then, rests, nothing_done, adds, tests, tests_all, cap_both, cap_all}
 use Rattle.weight_tallies.proofs.CapCalls as k
 use Rattle.weight_tallies.proofs.CapCalls.{cap_notes}
 use Rattle.weight_tallies.proofs.Weighing.{performed_capped}
+
+apart : (x y : ℕ) (xs ys : List ℕ) → x ∷ xs ≡ y ∷ ys → (x ≡ y) × (xs ≡ ys)
+apart x y xs ys e = (cc, cc)
 
 module _ (p : Program) (i : ℕ) (u : Routine) where
   abbrev v : Sight ℕ
@@ -97,10 +100,9 @@ module _ (p : Program) (i : ℕ) (u : Routine) where
   from_along [] clock end pc now l f = absurd l
   from_along (Choice j d ∷ steps) clock end pc now l f = from_along steps clock end pc now l f
   from_along (At r ∷ steps) clock end pc now l f =
-      let same : pc ≡ r = cc in
-      let rest : on_from (leads_at p.dialect u pc (turns steps)) (λ q. points_from p.dialect u q (choices_of steps)) ≡ points_in steps ++ end ∷ [] = cc in
-      line_along steps clock end (λ q after. from_along steps clock end q after) (slice_get u.lines pc) pc now l rest
-      ∙ ap (λ s. h.◌>>=◌ (perform (slice_get u.lines s) s now (turns steps)) (λ after. along clock steps end after)) same
+      let parts = apart pc r (on_from (leads_at p.dialect u pc (turns steps)) (λ q. points_from p.dialect u q (choices_of steps))) (points_in steps ++ end ∷ []) f in
+      line_along steps clock end (λ q after. from_along steps clock end q after) (slice_get u.lines pc) pc now l parts.1
+      ∙ ap (λ s. h.◌>>=◌ (perform (slice_get u.lines s) s now (turns steps)) (λ after. along clock steps end after)) parts.0
 
   abbrev weigh_assert : Option Assertion → List Step → ℕ → h.Weigh (Unit {0})
   weigh_assert None steps end = h.weighed tt
@@ -145,14 +147,14 @@ module _ (p : Program) (i : ℕ) (u : Routine) where
   CapClock (Some ns) (Some m) = IsCapOf (sum ns) m
 
   fall_capped : (clock : Option (List ℕ)) (clock' : Option ℕ) (ns ms : List ℕ) → CapClock clock clock' → AreCapsOf ns ms → Caps Any (g.fall v clock ns) (c.fall clock' ms)
-  fall_capped None None ns ms q e = rests Any tt tt tt
+  fall_capped None None ns ms q e = nothing_done
   fall_capped None (Some m) ns ms q e = absurd q
   fall_capped (Some past) None ns ms q e = absurd q
   fall_capped (Some past) (Some m) ns ms q e = tests (sum past + sum ns) (t.both m (t.all ms)) (cap_both (sum past) (sum ns) m (t.all ms) q (cap_all ns ms e))
 
   arrive_capped : (clock : Option (List ℕ)) (clock' : Option ℕ) (cut : Cut) (now now' : Named ℕ) → CapClock clock clock' → CapNames now now'
       → Caps Any (g.arrive v clock cut now (h.weighed tt)) (c.arrive w clock' cut now')
-  arrive_capped clock clock' NoCut now now' q e = rests Any tt tt tt
+  arrive_capped clock clock' NoCut now now' q e = nothing_done
   arrive_capped clock clock' AtEnd now now' q e = tests_all (g.told v now notes.output) (c.told w now' notes.output) (told_capped now now' e notes.output)
   arrive_capped clock clock' (AtAssert a) now now' q e =
       then Any Any (h.all_tested (g.told v now a.terms)) (t.all_tested (c.told w now' a.terms))
@@ -180,7 +182,7 @@ module _ (p : Program) (i : ℕ) (u : Routine) where
       (cap_both 2 (length u.names) 2 (capped (length u.names)) refl refl) (weight_told g.all_one g.all_one ones notes.input)
 
   assert_capped : (o : Option Assertion) (steps : List Step) (end : ℕ) → Caps Any (weigh_assert o steps end) (c.from_assert w o steps end)
-  assert_capped None steps end = rests Any tt tt tt
+  assert_capped None steps end = nothing_done
   assert_capped (Some a) steps end =
       then Any Any (h.added (g.entry_weight v + sum (g.told v g.all_one a.terms) + sum (g.told v g.all_one a.clock))) (t.added (t.both (t.both (c.entry_weight w) (t.all (c.told w g.all_one a.terms))) (t.all (c.told w g.all_one a.clock))))
       (λ z. along (Some (g.told v g.all_one a.clock)) steps end g.all_one) (λ z. c.along w (Some (t.all (c.told w g.all_one a.clock))) steps end g.all_one)

@@ -119,3 +119,9 @@ one_factor n = omega arith
 
 pub cap_first_factor : (n base : ℕ) → IsCapOf n base → IsCapOf (1 * n + 1) (t.next base)
 cap_first_factor n base e = cap_next n base e ∙ ap capped (one_factor n)
+
+abbrev pub Nil : Type 0
+Nil = Unit {0}
+
+pub nothing_done : Caps {A = Nil} {B = Nil} Any (h.weighed tt) (t.tallied tt)
+nothing_done = rests {A = Nil} {B = Nil} Any tt tt tt

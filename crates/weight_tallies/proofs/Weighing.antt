@@ -27,7 +27,7 @@ use Rattle.path_sizes.specs.Weights as g
 use Rattle.weight_caps.specs.Capped.{capped}
 use Rattle.weight_tallies.specs.Tallied as t
 use Rattle.weight_tallies.specs.Tallies as c
-use Rattle.weight_tallies.proofs.Capping.{Caps, Any, IsCapOf, AreCapsOf, CapNames, then, rests, adds, decides, tests, tests_all, either, cap_next, cap_both, cap_pair, cap_all, cap_one, cap_more, cap_with, cap_factor, cap_first_factor}
+use Rattle.weight_tallies.proofs.Capping.{Caps, Any, IsCapOf, AreCapsOf, CapNames, then, rests, nothing_done, decides, tests, tests_all, either, cap_next, cap_both, cap_pair, cap_all, cap_one, cap_more, cap_with, cap_factor, cap_first_factor}
 use Rattle.weight_tallies.proofs.CapCalls as k
 use Rattle.weight_tallies.proofs.CapCalls.{CapOperand, CapOperands, call_capped}
 
@@ -319,9 +319,6 @@ module _ (p : Program) (i : ℕ) (u : Routine) where
   selected_capped : (pc : ℕ) (now now' : Named ℕ) → CapNames now now' → (labels n m : ℕ) → IsCapOf n m → (cs : List ℕ) → Caps CapNames (g.selected v pc now labels n cs) (c.selected w pc now' labels m cs)
   selected_capped pc now now' e labels n m q [] = stays now now' e
   selected_capped pc now now' e labels n m q (j ∷ cs) = select_capped p.dialect pc now now' e labels n m q j cs
-
-  nothing_done : Caps Any (h.weighed tt) (t.tallied tt)
-  nothing_done = rests Any tt tt tt
 
   selector_capped : (dialect : Dialect) (n m : ℕ) → IsCapOf n m → Caps Any (g.selector v dialect n) (c.selector dialect m)
   selector_capped Common n m q = tests n m q

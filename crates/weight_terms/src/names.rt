@@ -79,5 +79,5 @@ impl NameWeights {
 #[derive(Clone, Copy)]
 pub struct Told<'a> {
     pub before: &'a NameWeights,
-    pub now: &'a NameWeights,
+    pub behind: &'a NameWeights,
 }

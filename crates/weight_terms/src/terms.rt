@@ -33,11 +33,11 @@ fn symbol_weight(now: &NameWeights, word: &Word) -> u32
 
 /// What a node weighs by itself.
 fn own_weight(told: &Told, node: &Node) -> u32
-    ensures { result ≡ own_weight (held told.now.before.now) (held told.now.now.now) node.now }
+    ensures { result ≡ own_weight (held told.now.before.now) (held told.now.behind.now) node.now }
 {
     match node {
         Node::Num(_) | Node::Truth(_) | Node::Apply(..) => 1,
-        Node::Symbol(word) => symbol_weight(told.now, word),
+        Node::Symbol(word) => symbol_weight(told.behind, word),
         Node::Old(word) => told.before.of_word(word),
     }
 }
@@ -73,7 +73,7 @@ pub fn term_weight(
     id: TermId,
 ) -> Result<u32, NoMemory>
     requires { IsIn pool.now id }
-    ensures { IfOk result (λ n. n ≡ capped (note of_weights (held told.now.before.now) (held told.now.now.now) (tree_of pool.now id))) }
+    ensures { IfOk result (λ n. n ≡ capped (note of_weights (held told.now.before.now) (held told.now.behind.now) (tree_of pool.now id))) }
 {
     let mut all: u32 = 0;
     let mut waiting = Stack::new(alloc);

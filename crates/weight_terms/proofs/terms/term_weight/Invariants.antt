@@ -11,7 +11,7 @@ abbrev pub invariant-loop-next : goal.invariant-loop-next
 invariant-loop-next l = record {
   below : AllBelow (length l.pool) l.waiting;
   whole : capped l.all ≡ l.all;
-  same : capped (l.all + waiting_weight l.pool (held l.told.before.now) (held l.told.now.now) l.waiting) ≡ capped (note of_weights (held l.told.before.now) (held l.told.now.now) (tree_of l.pool l.fn.id));
+  same : capped (l.all + waiting_weight l.pool (held l.told.before.now) (held l.told.behind.now) l.waiting) ≡ capped (note of_weights (held l.told.before.now) (held l.told.behind.now) (tree_of l.pool l.fn.id));
 }
 
 abbrev pub decreases-loop-next : goal.decreases-loop-next

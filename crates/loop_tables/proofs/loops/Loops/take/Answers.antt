@@ -1,4 +1,4 @@
-use Rattle.std.proofs.Common.{None, sym, ◌∙◌, get_or}
+use Rattle.std.proofs.Common.{sym, ◌∙◌}
 use Rattle.loop_tables.proofs.FromBehind.{at_line, is_none, loop_taken, none_taken}
 use Rattle.loop_tables.proofs.loops.Loops.take.Goals as goal
 
