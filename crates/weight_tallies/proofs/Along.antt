@@ -1,29 +1,26 @@
 -- A path weighs what its way does.
-use Rattle.std.proofs.Common.{◌≡◌, ℕ, zero, suc, ◌+◌, List, [], ◌∷◌, ◌++◌, map, length, Option, Some, None, slice_get, refl, sym, ap, ◌∙◌, subst, arith}
+use Rattle.std.proofs.Common.{◌≡◌, ℕ, zero, suc, ◌+◌, List, [], ◌∷◌, ◌++◌, map, length, Option, Some, None, slice_get, refl, sym, ap, ◌∙◌, arith}
 use Rattle.std.specs.Prelude.{sum}
 use Rattle.formula.specs.Tree.{Tree}
 use Rattle.fort_syntax.specs.declared.unit.Line.{Line}
 use Rattle.fort_syntax.specs.declared.unit.Unit.{Unit as Routine}
 use Rattle.fort_notes.specs.Assertions.{Assertion, Notes}
 use Rattle.fort_model.specs.Flow.{leads, leads_at, leads_by}
-use Rattle.fort_model.specs.Graphs.{IsGraphOf}
-use Rattle.fort_model.specs.Lists.{IsAmong}
 use Rattle.fort_model.specs.PathPoints.{on_from, points_from, point_in, start_point}
 use Rattle.fort_model.specs.Paths.{Cut, NoCut, AtEnd, AtAssert, cut_at, over_or, goes_on, goes_from, IsWay, starts_at, is_path_from}
 use Rattle.fort_model.specs.Program.{Program, notes_of}
 use Rattle.fort_model.specs.Seen.{Named}
 use Rattle.fort_model.specs.WalkCalls.{Sight}
-use Rattle.fort_model.specs.declared.graph.Graph.{Graph}
-use Rattle.path_cut.specs.Ways.{Way, ways_of}
+use Rattle.path_cut.specs.Ways.{ways_of}
 use Rattle.path_cut.specs.declared.step.Step.{Step}
 use Rattle.path_cut.specs.declared.step.Step.TheVariants.{At, Choice}
 use Rattle.path_sizes.specs.Weighed as h
 use Rattle.path_sizes.specs.Weights as g
-use Rattle.way_laws.specs.PathsOf.{turns, choices_of, path_of, paths_of, points_in, way_points}
+use Rattle.way_laws.specs.PathsOf.{turns, choices_of, path_of, points_in}
 use Rattle.way_laws.proofs.Read.{ways_have_points}
 use Rattle.way_laws.proofs.Whole.{ways_are_paths}
 use Rattle.weight_caps.specs.Capped.{capped}
-use Rattle.weight_caps.specs.Loads.{nothing_yet, behind}
+use Rattle.weight_caps.specs.Loads.{nothing_yet}
 use Rattle.weight_caps.specs.declared.loads.Load.{Load}
 use Rattle.weight_tallies.specs.Laws.{TalliesAreWeights}
 use Rattle.weight_tallies.specs.Tallied as t

@@ -1,5 +1,5 @@
 -- Expressions and statements weigh the same as far as the cap.
-use Rattle.std.proofs.Common.{◌≡◌, ℕ, zero, suc, pred, ◌+◌, ◌*◌, Bool, true, false, cond, List, [], ◌∷◌, map, length, take, Option, Some, None, slice_get, refl, sym, ap, ◌∙◌, subst}
+use Rattle.std.proofs.Common.{◌≡◌, ℕ, zero, suc, pred, ◌+◌, ◌*◌, Bool, true, false, cond, List, [], ◌∷◌, map, length, take, Option, Some, None, refl, sym, ap, ◌∙◌, subst}
 use Rattle.std.specs.Prelude.{nat_lt, ◌==◌, sum}
 use mathlib.Core.Former.{Count}
 use Rattle.fort_syntax.specs.TreePatterns.{only, carried, row_of}
