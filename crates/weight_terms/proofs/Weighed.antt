@@ -1,11 +1,10 @@
 -- Terms that wait to be weighed.
-use Rattle.std.proofs.Common.{◌≡◌, ℕ, suc, ◌+◌, ◌<◌, ◌≤◌, Bool, true, false, cond, List, [], ◌∷◌, length, Option, Some, None, refl, sym, ap, ◌∙◌, arith}
+use Rattle.std.proofs.Common.{◌≡◌, ℕ, suc, ◌+◌, ◌<◌, ◌≤◌, Bool, true, false, cond, List, [], ◌∷◌, length, Option, Some, refl, sym, ap, ◌∙◌, subst, arith}
 use Rattle.std.specs.Prelude.{unwrap_or, sum}
 use Rattle.std.specs.Map.{lookup}
 use Rattle.formula.specs.Atoms.{same_bytes}
 use Rattle.formula.specs.Facts.{tree_size, tree_row_size}
 use Rattle.formula.specs.Pool.{AllBelow, HasArgumentsBelow, arguments_of, row_in, tree_in, tree_of, trees}
-use Rattle.formula.specs.Tree.{Tree}
 use Rattle.formula.specs.declared.node.Node.{Node}
 use Rattle.formula.specs.declared.node.Node.TheVariants.{Num, Truth, Symbol, Old, Apply}
 use Rattle.formula.specs.declared.node.TermId.{TermId}
@@ -16,7 +15,7 @@ use Rattle.fort_model.specs.Senses.{note, with_bounds}
 use Rattle.fort_model.specs.WalkStmt.{with_name}
 use Rattle.path_sizes.specs.Weights.{of_weights, row_weight}
 use Rattle.weight_caps.specs.Capped.{capped}
-use Rattle.weight_caps.proofs.CappedSums.{cap_first, cap_second, cap_twice, sum_more}
+use Rattle.weight_caps.proofs.CappedSums.{cap_first, cap_twice, sum_more}
 use Rattle.weight_terms.specs.Held.{held, Sets}
 use Rattle.weight_terms.specs.Terms.{own_weight, pushed}
 
@@ -142,3 +141,32 @@ from_none n = omega arith
 
 pub summed_is : (ns : List ℕ) → summed 0 ns ≡ capped (sum ns)
 summed_is ns = summed_from ns 0 refl ∙ ap capped (from_none (sum ns))
+
+-- ---- one step of the loops
+
+pub smaller : (pool : List Node) (id : TermId) (waiting rest new : List TermId) (node : Node) → tree_of pool id ≡ tree_in (trees pool) node → waiting ≡ id ∷ rest → new ≡ pushed (arguments_of node) rest
+    → waiting_size pool new < waiting_size pool waiting
+smaller pool id waiting rest new node e f g =
+    let a = less_waits pool id rest node e in
+    let b = ap (waiting_size pool) f in
+    let d = ap (waiting_size pool) g in
+    omega arith
+
+pub stepped : (pool : List Node) (past now : Named ℕ) (id : TermId) (waiting rest new : List TermId) (node : Node) (all own next whole : ℕ) → tree_of pool id ≡ tree_in (trees pool) node
+    → waiting ≡ id ∷ rest → new ≡ pushed (arguments_of node) rest → own ≡ own_weight past now node → next ≡ capped (all + own) → capped (all + waiting_weight pool past now waiting) ≡ whole
+    → capped (next + waiting_weight pool past now new) ≡ whole
+stepped pool past now id waiting rest new node all own next whole e f g h k l =
+    (λ i. capped ((k ∙ ap (λ n. capped (all + n)) h) i + waiting_weight pool past now (g i)))
+    ∙ (visited pool past now id rest node all e ∙ (ap (λ ids. capped (all + waiting_weight pool past now ids)) (sym f) ∙ l))
+
+pub next_capped : (next n : ℕ) → next ≡ capped n → capped next ≡ next
+next_capped next n e = ap capped e ∙ (cap_twice n ∙ sym e)
+
+pub wait_below : (pool : List Node) (id : TermId) (waiting rest new : List TermId) (node : Node) → waiting ≡ id ∷ rest → new ≡ pushed (arguments_of node) rest → HasArgumentsBelow id.place node
+    → AllBelow (length pool) waiting → AllBelow (length pool) new
+wait_below pool id waiting rest new node f g h k =
+    let T : List TermId → Type 0 = AllBelow (length pool) in
+    subst T (sym g) (still_below pool id rest node h (subst T f k))
+
+pub summed_end : (ns ms : List ℕ) (all : ℕ) → ms ≡ [] → summed all ms ≡ summed 0 ns → all ≡ capped (sum ns)
+summed_end ns ms all e f = sym (ap (summed all) e) ∙ (f ∙ summed_is ns)

@@ -66,12 +66,7 @@ fn push_arguments(waiting: &mut Stack<TermId>, node: &Node) -> Result<(), NoMemo
 
 /// What a term of a note weighs by what names weigh: 1 for each number, truth value and function,
 /// and what its symbols and entry values weigh. It takes time in its size.
-pub fn term_weight(
-    alloc: Global,
-    pool: &TermPool,
-    told: &Told,
-    id: TermId,
-) -> Result<u32, NoMemory>
+pub fn term_weight(alloc: Global, pool: &TermPool, told: &Told, id: TermId) -> Result<u32, NoMemory>
     requires { IsIn pool.now id }
     ensures { IfOk result (λ n. n ≡ capped (note of_weights (held told.now.before.now) (held told.now.behind.now) (tree_of pool.now id))) }
 {

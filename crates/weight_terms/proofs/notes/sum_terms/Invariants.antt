@@ -1,4 +1,4 @@
-use Rattle.std.proofs.Common.{◌≡◌, drop, length}
+use Rattle.std.proofs.Common.{◌≡◌, drop}
 use Rattle.weight_terms.specs.Held.{held}
 use Rattle.weight_terms.specs.Terms.{weights_told}
 use Rattle.weight_terms.proofs.Weighed.{summed}

@@ -1,5 +1,4 @@
-use Rattle.std.proofs.Common.{◌≡◌, drop, length}
-use Rattle.formula.specs.Pool.{AllBelow}
+use Rattle.std.proofs.Common.{◌≡◌, drop}
 use Rattle.weight_caps.specs.Loads.{with_tests}
 use Rattle.weight_terms.specs.Held.{held}
 use Rattle.weight_terms.specs.Terms.{weights_told}
