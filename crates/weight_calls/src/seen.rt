@@ -63,11 +63,11 @@ pub(crate) fn weights_behind(
 
 /// What a data name of a called unit weighs: a COMMON entity what it does for the caller, and any
 /// other 1.
-fn data_weight(caller: &Caller, data: &DataName) -> u32
-    ensures { result ≡ data_weight (changed_by caller.now.smashed.now (held caller.now.names.now)) data.now }
+fn data_weight(caller: &Caller, named: &DataName) -> u32
+    ensures { result ≡ data_weight (changed_by caller.now.smashed.now (held caller.now.names.now)) named.now }
 {
-    match data.role {
-        Role::InCommon => caller.weight(&data.name),
+    match named.role {
+        Role::InCommon => caller.weight(&named.name),
         _ => 1,
     }
 }
@@ -79,8 +79,8 @@ fn set_names(table: &mut NameWeights, caller: &Caller, names: &[DataName]) -> Re
     let mut left = names.len();
     while left > 0 {
         left -= 1;
-        let data = &names[left];
-        let Ok(()) = table.set(&data.name, data_weight(caller, data)) else {
+        let named = &names[left];
+        let Ok(()) = table.set(&named.name, data_weight(caller, named)) else {
             return Err(NoMemory);
         };
     }

@@ -7,8 +7,8 @@ use Rattle.fort_model.specs.WalkCalls.{Sight, Operand, Part, Computed}
 use Rattle.weight_caps.specs.Loads.{with_tests}
 use Rattle.weight_caps.specs.declared.loads.Load.{Load}
 use Rattle.weight_expr.specs.Applied.{is_applied, meaning}
-use Rattle.weight_expr.specs.declared.functions.Applied.{Applied}
-use Rattle.weight_expr.specs.declared.functions.Applied.TheVariants as code
+use Rattle.weight_expr.specs.declared.functions.Bracketed.{Bracketed}
+use Rattle.weight_expr.specs.declared.functions.Bracketed.TheVariants as code
 use Rattle.weight_expr.specs.declared.functions.Function.{Function}
 use Rattle.weight_tallies.specs.Tallied as t
 use Rattle.weight_tallies.specs.Tallies as c

@@ -7,7 +7,7 @@ ghost use Rattle.weight_terms.specs.Held.{held};
 ghost use Rattle.weight_tallies.specs.Tallies as tally;
 ghost use Rattle.weight_expr.specs.Listed.{operands_listed, two, values_listed};
 
-use crate::functions::{Applied, applied, intrinsic_weight, test_subscripts};
+use crate::functions::{Bracketed, applied, intrinsic_weight, test_subscripts};
 use crate::operations::{constant, next, operate, pair, power, read, read_operand};
 use edge_io::NoMemory;
 use fort_syntax::{Expr, Name};
@@ -28,7 +28,7 @@ fn applied_weight(
     ensures value { IfOk result (λ x. operand_of x ≡ (tally.apply_weight (sight_of subject.now) (held names.now) name.now (text.applied subject.now.book.now.unit.now name.now) (values_listed (sight_of subject.now) (held names.now) args.now) (operands_listed (sight_of subject.now) (held names.now) args.now) load.old).value) }
 {
     match applied(subject.book, name) {
-        Applied::Element(dims) => {
+        Bracketed::Element(dims) => {
             let Ok(subscripts) = values(subject, names, load, args) else {
                 return Err(NoMemory);
             };
@@ -38,7 +38,7 @@ fn applied_weight(
                 sum_of(subscripts.as_slice()),
             ))))
         }
-        Applied::BuiltIn(function) => {
+        Bracketed::BuiltIn(function) => {
             let Ok(weights) = values(subject, names, load, args) else {
                 return Err(NoMemory);
             };
@@ -48,7 +48,7 @@ fn applied_weight(
                 weights.as_slice(),
             )))
         }
-        Applied::Reference => {
+        Bracketed::Reference => {
             let Ok(actuals) = operands(subject, names, load, args) else {
                 return Err(NoMemory);
             };

@@ -25,7 +25,7 @@ pub(crate) enum Function {
 /// What a name before a bracket is: an array with so many dimensions, an intrinsic function, or a
 /// FUNCTION of the deck.
 #[derive(Clone, Copy, Debug)]
-pub(crate) enum Applied {
+pub(crate) enum Bracketed {
     Element(usize),
     BuiltIn(Function),
     Reference,
@@ -39,33 +39,33 @@ fn is_word(name: &Name, word: &[u8]) -> bool
 }
 
 /// What a name before a bracket is where it is no array.
-fn function_of(name: &Name) -> Applied
+fn function_of(name: &Name) -> Bracketed
     ensures { is_applied (text.applied_by [] (text.intrinsic name.now)) result }
 {
     if is_word(name, b"IABS") {
-        return Applied::BuiltIn(Function::Absolute);
+        return Bracketed::BuiltIn(Function::Absolute);
     }
     if is_word(name, b"MOD") {
-        return Applied::BuiltIn(Function::Modulo);
+        return Bracketed::BuiltIn(Function::Modulo);
     }
     if is_word(name, b"MAX0") {
-        return Applied::BuiltIn(Function::Greatest);
+        return Bracketed::BuiltIn(Function::Greatest);
     }
     if is_word(name, b"MIN0") {
-        return Applied::BuiltIn(Function::Least);
+        return Bracketed::BuiltIn(Function::Least);
     }
-    Applied::Reference
+    Bracketed::Reference
 }
 
 /// What a name before a bracket is in a unit.
-pub(crate) fn applied(book: &Book, name: &Name) -> Applied
+pub(crate) fn applied(book: &Book, name: &Name) -> Bracketed
     ensures { is_applied (text.applied book.now.unit.now name.now) result }
 {
     let dims = book.dims(name);
     if dims.is_empty() {
         return function_of(name);
     }
-    Applied::Element(dims.len())
+    Bracketed::Element(dims.len())
 }
 
 /// An intrinsic function of one weight, IABS; of any other number it weighs 1.
