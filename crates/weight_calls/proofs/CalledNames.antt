@@ -1,5 +1,10 @@
 -- What the names of a called unit weigh.
-use Rattle.std.proofs.Common.{◌≡◌, ℕ, zero, suc, ◌+◌, ◌<◌, ◌≤◌, ◌⊎◌, inl, inr, ◌||◌, Bool, true, false, cond, List, [], ◌∷◌, ◌++◌, length, drop, get_or, Option, Some, None, refl, sym, ap, ◌∙◌, arith}
+use Rattle.std.proofs.Common.{◌≡◌, ℕ, zero, suc, ◌+◌, ◌<◌, ◌≤◌, ◌⊎◌, inl, inr, ◌||◌, Bool, true, false, cond, List, [], ◌∷◌, ◌++◌, map, length, take, drop, min, get_or, Option, Some, None, refl, sym, ap, ◌∙◌, arith}
+use Rattle.std.specs.Prelude.{nat_le}
+use Rattle.std.proofs.lemmas.Bool.Decides.{nat_tests}
+use Rattle.fort_model.specs.WalkCalls as model
+use Rattle.weight_calls.specs.Operands.{operand_of}
+use Rattle.weight_calls.specs.declared.operands.Operand.{Operand}
 use Rattle.formula.specs.Atoms.{same_bytes, is_among}
 use Rattle.fort_syntax.specs.Names.{data_name, data_name_in, has_common, has_role, is_in_common}
 use Rattle.fort_syntax.specs.declared.name.Name.{Name}
@@ -51,11 +56,20 @@ pub one_name : (now other : Named ℕ) (ds : List DataName) (k : ℕ) (d : DataN
 one_name now other ds k d table new h read e f =
     f ∙ (ap (λ (n : Named ℕ). with_name n d.name (data_weight now d)) e ∙ sym (ap (λ es. by_names now es other) (drop_last ds k d h ∙ ap (λ x. x ∷ drop (suc k) ds) (sym read))))
 
-pub one_actual : (w : Sight ℕ) (other : Named ℕ) (ds : List Name) (ns : List ℕ) (k : ℕ) (d : Name) (n : ℕ) (table new : Named ℕ) → k < length ds → k < length ns → d ≡ get_or ds k d → n ≡ get_or ns k n
-    → table ≡ with_actuals w (drop (suc k) ds) (drop (suc k) ns) other → new ≡ with_name table d n → new ≡ with_actuals w (drop k ds) (drop k ns) other
-one_actual w other ds ns k d n table new h l read told e f =
-    f ∙ (ap (λ (t : Named ℕ). with_name t d n) e
-    ∙ sym (λ i. with_actuals w ((drop_last ds k d h ∙ ap (λ x. x ∷ drop (suc k) ds) (sym read)) i) ((drop_last ns k n l ∙ ap (λ x. x ∷ drop (suc k) ns) (sym told)) i) other))
+pub one_actual : (w : Sight ℕ) (other : Named ℕ) (ds : List Name) (ns : List ℕ) (k n : ℕ) (d : Name) (table new : Named ℕ) → n ≡ suc k → n ≤ length ds → n ≤ length ns → d ≡ get_or ds k d
+    → table ≡ with_actuals w (drop n ds) (drop n ns) other → new ≡ with_name table d (get_or ns k 0) → new ≡ with_actuals w (drop k ds) (drop k ns) other
+one_actual w other ds ns k n d table new next h l read e f =
+    let in_dummies : k < length ds = omega arith in
+    let in_weights : k < length ns = omega arith in
+    f ∙ (ap (λ (t : Named ℕ). with_name t d (get_or ns k 0)) (e ∙ ap (λ m. with_actuals w (drop m ds) (drop m ns) other) next)
+    ∙ sym (λ i. with_actuals w ((drop_last ds k d in_dummies ∙ ap (λ x. x ∷ drop (suc k) ds) (sym read)) i) (drop_last ns k 0 in_weights i) other))
+
+pub min_end : (a b k : ℕ) → k ≡ min a b → (a ≤ k) ⊎ (b ≤ k)
+min_end a b k e = by (nat_le a b) refl
+  where
+    by : (t : Bool) → nat_le a b ≡ t → (a ≤ k) ⊎ (b ≤ k)
+    by true f = let le : a ≤ b = grind (arith, nat_tests) in let same : a ≤ k = omega arith in inl same
+    by false f = let lt : b < a = grind (arith, nat_tests) in let same : b ≤ k = omega arith in inr same
 
 -- where one of two lists is at its end no dummy has an actual
 pub no_actual : (w : Sight ℕ) (other : Named ℕ) (ds : List Name) (ns : List ℕ) (k : ℕ) → ((length ds ≤ k) ⊎ (length ns ≤ k)) → with_actuals w (drop k ds) (drop k ns) other ≡ other
@@ -83,3 +97,28 @@ changed_same xs ys now e = λ i x. (ap (λ zs. cond (is_among x zs) 1 (now x)) e
 
 pub changed_none : (now : Named ℕ) → changed_by [] now ≡ now
 changed_none now = refl
+
+-- ---- weights behind a call
+
+take_one : (xs : List Operand) (i : ℕ) (x : Operand) → i < length xs → x ≡ get_or xs i x → take (suc i) xs ≡ take i xs ++ x ∷ []
+take_one [] i x h e = absurd (omega arith)
+take_one (y ∷ xs) zero x h e = ap (λ z. z ∷ []) (sym e)
+take_one (y ∷ xs) (suc i) x h e = ap (λ zs. y ∷ zs) (take_one xs i x (omega arith) e)
+
+map_push : {A B : Type 0} (f : A → B) (xs : List A) (x : A) → map f (xs ++ x ∷ []) ≡ map f xs ++ f x ∷ []
+map_push f [] x = refl
+map_push f (y ∷ xs) x = ap (λ zs. f y ∷ zs) (map_push f xs x)
+
+pub weight_more : (f : model.Operand ℕ → ℕ) (xs : List Operand) (i n k : ℕ) (x : Operand) (ns new : List ℕ) → n ≡ suc i → i < length xs → x ≡ get_or xs i x → ns ≡ map f (map operand_of (take i xs)) → k ≡ f (operand_of x)
+    → new ≡ ns ++ k ∷ [] → new ≡ map f (map operand_of (take n xs))
+weight_more f xs i n k x ns new next h read e g l =
+    l ∙ ((λ j. e j ++ g j ∷ [])
+    ∙ sym (ap (λ m. map f (map operand_of (take m xs))) next
+    ∙ (ap (λ ys. map f (map operand_of ys)) (take_one xs i x h read)
+    ∙ (ap (map f) (map_push operand_of (take i xs) x) ∙ map_push f (map operand_of (take i xs)) (operand_of x)))))
+
+pub take_whole : (xs : List Operand) (k : ℕ) → length xs ≤ k → take k xs ≡ xs
+take_whole [] zero h = refl
+take_whole [] (suc k) h = refl
+take_whole (x ∷ xs) zero h = absurd (omega arith)
+take_whole (x ∷ xs) (suc k) h = ap (λ ys. x ∷ ys) (take_whole xs k (omega arith))

@@ -1,3 +1,5 @@
+pub mod Inside
+pub mod Programs
 pub mod Subjects
 pub mod Operands
 pub mod Seen

@@ -1,5 +1,6 @@
 // A call.
 ghost use Rattle.std.specs.Prelude.{◌≡◌, length, map, IfOk, OnOk};
+ghost use Rattle.fort_model.specs.Program.{smashed_names};
 ghost use Rattle.fort_model.specs.WalkCalls.{hits, seen_by, stands_for};
 ghost use Rattle.weight_caps.specs.Capped.{capped};
 ghost use Rattle.weight_terms.specs.Held.{held};
@@ -7,6 +8,7 @@ ghost use Rattle.weight_tallies.specs.Tallies as tally;
 ghost use Rattle.weight_calls.specs.Calls.{IsWeighed, ones_set};
 ghost use Rattle.weight_calls.specs.Operands.{operand_of};
 ghost use Rattle.weight_calls.specs.Seen.{changed_by};
+ghost use Rattle.weight_calls.specs.Programs.{seen_program};
 ghost use Rattle.weight_calls.specs.Subjects.{sight_of};
 
 use crate::operands::{Operand, bare_names, weights_of};
@@ -38,21 +40,18 @@ fn count_of(names: &[Name]) -> u32
     count
 }
 
-/// The names that a call smashes.
-fn smashed_by(
+/// The names that a call smashes, where the called unit smashes some names.
+fn hit_names(
     subject: &Subject,
     callee: &Callee,
     operands: &[Operand],
+    smashed: &NameSet,
 ) -> Result<List<Name>, NoMemory>
+    requires { smashed_names (seen_program subject.now.pool.now subject.now.scene.now) callee.now.number ≡ smashed.now }
     ensures { IfOk result (λ ns. ns ≡ hits (sight_of subject.now) callee.now.number callee.now.book.now.unit.now (map operand_of operands.now)) }
 {
     let Ok(bare) = bare_names(subject.alloc, operands) else {
         return Err(NoMemory);
-    };
-    let none = NameSet::new(subject.alloc, subject.keys);
-    let smashed = match subject.smashes(callee.number) {
-        Some(names) => names,
-        None => &none,
     };
     let Ok(names) = call_hits(
         subject.alloc,
@@ -64,6 +63,21 @@ fn smashed_by(
         return Err(NoMemory);
     };
     Ok(names)
+}
+
+/// The names that a call smashes.
+fn smashed_by(
+    subject: &Subject,
+    callee: &Callee,
+    operands: &[Operand],
+) -> Result<List<Name>, NoMemory>
+    ensures { IfOk result (λ ns. ns ≡ hits (sight_of subject.now) callee.now.number callee.now.book.now.unit.now (map operand_of operands.now)) }
+{
+    let none = NameSet::new(subject.alloc, subject.keys);
+    match subject.smashes(callee.number) {
+        Some(smashed) => hit_names(subject, callee, operands, smashed),
+        None => hit_names(subject, callee, operands, &none),
+    }
 }
 
 /// What the names of a called unit weigh at its entry.

@@ -5,6 +5,7 @@ mod calls;
 mod operands;
 mod seen;
 mod subject;
+mod unit_notes;
 
 pub use calls::{call, refer};
 pub use operands::Operand;

@@ -19,10 +19,3 @@ operands_listed w now (e ∷ es) = do
   x ← operand w now e
   xs ← operands_listed w now es
   tallied (x ∷ xs)
-
--- the values of two expressions
-abbrev pub two : Sight ℕ → Named ℕ → Expr → Expr → Tally (ℕ × ℕ)
-two w now a b = do
-  n ← value w now a
-  m ← value w now b
-  tallied (n, m)

@@ -5,12 +5,13 @@ ghost use Rattle.weight_calls.specs.Operands.{operand_of};
 ghost use Rattle.weight_calls.specs.Subjects.{sight_of};
 ghost use Rattle.weight_terms.specs.Held.{held};
 ghost use Rattle.weight_tallies.specs.Tallies as tally;
-ghost use Rattle.weight_expr.specs.Listed.{operands_listed, two, values_listed};
+ghost use Rattle.weight_expr.specs.Listed.{operands_listed, values_listed};
+ghost use Rattle.weight_expr.specs.Parts.{bracketed_part, denied_part, joined_part, negated_part, operated_part, raised_part};
 
 use crate::functions::{Bracketed, applied, intrinsic_weight, test_subscripts};
 use crate::operations::{constant, next, operate, pair, power, read, read_operand};
 use edge_io::NoMemory;
-use fort_syntax::{Expr, Name};
+use fort_syntax::{BinOp, Expr, Name};
 use weight_calls::{Operand, Subject, refer};
 use weight_caps::{Load, plus, sum_of};
 use weight_terms::NameWeights;
@@ -63,6 +64,123 @@ fn applied_weight(
     }
 }
 
+/// What stands before the second side of an operator: the operator, and the weight of the first side.
+#[derive(Clone, Copy, Debug)]
+struct Before {
+    operator: BinOp,
+    first: u32,
+}
+
+/// An expression in brackets, or with the sign `+`.
+#[cycle(expressions)]
+fn bracketed(
+    subject: &Subject,
+    names: &NameWeights,
+    load: &mut Load,
+    e: &Expr,
+) -> Result<Operand, NoMemory>
+    ensures load { OnOk result (load.new ≡ (bracketed_part (sight_of subject.now) (held names.now) e.now load.old).load) }
+    ensures value { IfOk result (λ x. operand_of x ≡ (bracketed_part (sight_of subject.now) (held names.now) e.now load.old).value) }
+{
+    let Ok(weight) = value(subject, names, load, e) else {
+        return Err(NoMemory);
+    };
+    Ok(Operand::Computed(weight))
+}
+
+/// An expression with the sign `-`.
+#[cycle(expressions)]
+fn negated(
+    subject: &Subject,
+    names: &NameWeights,
+    load: &mut Load,
+    e: &Expr,
+) -> Result<Operand, NoMemory>
+    ensures load { OnOk result (load.new ≡ (negated_part (sight_of subject.now) (held names.now) e.now load.old).load) }
+    ensures value { IfOk result (λ x. operand_of x ≡ (negated_part (sight_of subject.now) (held names.now) e.now load.old).value) }
+{
+    let Ok(weight) = value(subject, names, load, e) else {
+        return Err(NoMemory);
+    };
+    Ok(Operand::Computed(read(load, next(weight))))
+}
+
+/// The opposite of a condition.
+#[cycle(expressions)]
+fn denied(
+    subject: &Subject,
+    names: &NameWeights,
+    load: &mut Load,
+    e: &Expr,
+) -> Result<Operand, NoMemory>
+    ensures load { OnOk result (load.new ≡ (denied_part (sight_of subject.now) (held names.now) e.now load.old).load) }
+    ensures value { IfOk result (λ x. operand_of x ≡ (denied_part (sight_of subject.now) (held names.now) e.now load.old).value) }
+{
+    let Ok(weight) = value(subject, names, load, e) else {
+        return Err(NoMemory);
+    };
+    Ok(Operand::Computed(next(weight)))
+}
+
+/// A power of an expression.
+#[cycle(expressions)]
+fn raised(
+    subject: &Subject,
+    names: &NameWeights,
+    load: &mut Load,
+    exponent: u8,
+    e: &Expr,
+) -> Result<Operand, NoMemory>
+    ensures load { OnOk result (load.new ≡ (raised_part (sight_of subject.now) (held names.now) exponent e.now load.old).load) }
+    ensures value { IfOk result (λ x. operand_of x ≡ (raised_part (sight_of subject.now) (held names.now) exponent e.now load.old).value) }
+{
+    let Ok(weight) = value(subject, names, load, e) else {
+        return Err(NoMemory);
+    };
+    Ok(Operand::Computed(power(load, weight, exponent)))
+}
+
+/// A relation, or a conjunction or disjunction, with its second side.
+#[cycle(expressions)]
+fn joined(
+    subject: &Subject,
+    names: &NameWeights,
+    load: &mut Load,
+    first: u32,
+    e: &Expr,
+) -> Result<Operand, NoMemory>
+    ensures load { OnOk result (load.new ≡ (joined_part (sight_of subject.now) (held names.now) first e.now load.old).load) }
+    ensures value { IfOk result (λ x. operand_of x ≡ (joined_part (sight_of subject.now) (held names.now) first e.now load.old).value) }
+{
+    let Ok(weight) = value(subject, names, load, e) else {
+        return Err(NoMemory);
+    };
+    Ok(Operand::Computed(pair(first, weight)))
+}
+
+/// An operator with its second side.
+#[cycle(expressions)]
+fn operated(
+    subject: &Subject,
+    names: &NameWeights,
+    load: &mut Load,
+    before: &Before,
+    e: &Expr,
+) -> Result<Operand, NoMemory>
+    ensures load { OnOk result (load.new ≡ (operated_part (sight_of subject.now) (held names.now) before.now.operator before.now.first e.now load.old).load) }
+    ensures value { IfOk result (λ x. operand_of x ≡ (operated_part (sight_of subject.now) (held names.now) before.now.operator before.now.first e.now load.old).value) }
+{
+    let Ok(weight) = value(subject, names, load, e) else {
+        return Err(NoMemory);
+    };
+    Ok(Operand::Computed(operate(
+        load,
+        before.operator,
+        before.first,
+        weight,
+    )))
+}
+
 /// An expression as an operand, which is not read where it is a bare name or an element.
 #[cycle(expressions)]
 fn operand(
@@ -79,64 +197,40 @@ fn operand(
         Expr::Truth(_) => Ok(Operand::Computed(1)),
         Expr::Var(name) => Ok(Operand::Bare(*name, names.of(name))),
         Expr::Apply(name, args) => applied_weight(subject, names, load, name, args.as_slice()),
-        Expr::Paren(a) | Expr::Pos(a) => {
-            let Ok(weight) = value(subject, names, load, a.get()) else {
-                return Err(NoMemory);
-            };
-            Ok(Operand::Computed(weight))
-        }
-        Expr::Neg(a) => {
-            let Ok(weight) = value(subject, names, load, a.get()) else {
-                return Err(NoMemory);
-            };
-            Ok(Operand::Computed(read(load, next(weight))))
-        }
-        Expr::Power(a, exponent) => {
-            let Ok(weight) = value(subject, names, load, a.get()) else {
-                return Err(NoMemory);
-            };
-            Ok(Operand::Computed(power(load, weight, *exponent)))
-        }
+        Expr::Paren(a) => bracketed(subject, names, load, a.get()),
+        Expr::Pos(a) => bracketed(subject, names, load, a.get()),
+        Expr::Neg(a) => negated(subject, names, load, a.get()),
+        Expr::Not(a) => denied(subject, names, load, a.get()),
+        Expr::Power(a, exponent) => raised(subject, names, load, *exponent, a.get()),
         Expr::Bin(operator, a, b) => {
-            let Ok((first, second)) = two_values(subject, names, load, a.get(), b.get()) else {
+            let Ok(first) = value(subject, names, load, a.get()) else {
                 return Err(NoMemory);
             };
-            Ok(Operand::Computed(operate(load, *operator, first, second)))
+            let before = Before {
+                operator: *operator,
+                first,
+            };
+            operated(subject, names, load, &before, b.get())
         }
-        Expr::Not(a) => {
-            let Ok(weight) = value(subject, names, load, a.get()) else {
+        Expr::Rel(_, a, b) => {
+            let Ok(first) = value(subject, names, load, a.get()) else {
                 return Err(NoMemory);
             };
-            Ok(Operand::Computed(next(weight)))
+            joined(subject, names, load, first, b.get())
         }
-        Expr::Rel(_, a, b) | Expr::And(a, b) | Expr::Or(a, b) => {
-            let Ok((first, second)) = two_values(subject, names, load, a.get(), b.get()) else {
+        Expr::And(a, b) => {
+            let Ok(first) = value(subject, names, load, a.get()) else {
                 return Err(NoMemory);
             };
-            Ok(Operand::Computed(pair(first, second)))
+            joined(subject, names, load, first, b.get())
+        }
+        Expr::Or(a, b) => {
+            let Ok(first) = value(subject, names, load, a.get()) else {
+                return Err(NoMemory);
+            };
+            joined(subject, names, load, first, b.get())
         }
     }
-}
-
-/// The values of two expressions, one after another.
-#[cycle(expressions)]
-fn two_values(
-    subject: &Subject,
-    names: &NameWeights,
-    load: &mut Load,
-    a: &Expr,
-    b: &Expr,
-) -> Result<(u32, u32), NoMemory>
-    ensures load { OnOk result (load.new ≡ (two (sight_of subject.now) (held names.now) a.now b.now load.old).load) }
-    ensures value { IfOk result (λ x. x ≡ (two (sight_of subject.now) (held names.now) a.now b.now load.old).value) }
-{
-    let Ok(first) = value(subject, names, load, a) else {
-        return Err(NoMemory);
-    };
-    let Ok(second) = value(subject, names, load, b) else {
-        return Err(NoMemory);
-    };
-    Ok((first, second))
 }
 
 /// The value of an expression.

@@ -115,7 +115,7 @@ pub(crate) fn intrinsic_weight(load: &mut Load, function: Function, weights: &[u
 }
 
 /// The subscripts that have a dimension are tested.
-pub(crate) fn test_subscripts(load: &mut Load, subscripts: &[u32], dims: usize)
+pub fn test_subscripts(load: &mut Load, subscripts: &[u32], dims: usize)
     ensures { load.new ≡ with_tests load.old (take dims subscripts.now) }
 {
     let count = subscripts.len().min(dims);

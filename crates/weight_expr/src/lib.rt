@@ -6,4 +6,5 @@ mod functions;
 mod operations;
 
 pub use expressions::{operands, value, values};
+pub use functions::test_subscripts;
 pub use operations::{constant, read};

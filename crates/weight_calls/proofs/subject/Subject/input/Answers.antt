@@ -1,0 +1,17 @@
+use Rattle.std.proofs.Common.{◌≡◌, List, Some, None, length, slice_get, sym, ap, subst}
+use Rattle.formula.specs.Pool.{AllBelow}
+use Rattle.formula.specs.declared.node.TermId.{TermId}
+use Rattle.fort_notes.specs.Assertions.{Notes}
+use Rattle.weight_calls.proofs.NoteTerms.{input_below, notes_none}
+use Rattle.weight_calls.proofs.subject.Subject.input.Goals as goal
+
+pub returns-in-Some-clause-below : goal.returns-in-Some-clause-below
+returns-in-Some-clause-below c =
+    let there : slice_get c.args.self.now.scene.now.notes.now c.args.number ≡ Some c.in-Some.spec.now = cc in
+    let T : List TermId → Type 0 = AllBelow (length c.args.self.now.pool.now) in
+    subst T (sym c.as_slice.ensures) (input_below (length c.args.self.now.pool.now) c.args.self.now.scene.now.notes.now c.args.number c.in-Some.spec.now c.args.self.now.notes_in there)
+
+pub returns-in-None-clause-terms : goal.returns-in-None-clause-terms
+returns-in-None-clause-terms c =
+    let none : slice_get c.args.self.now.scene.now.notes.now c.args.number ≡ None = cc in
+    sym (ap (λ (n : Notes). n.input) (notes_none c.args.self.now.pool.now c.args.self.now.scene.now.notes.now c.args.number none))
