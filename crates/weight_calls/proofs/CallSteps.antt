@@ -1,5 +1,5 @@
 -- A call, step by step.
-use Rattle.std.proofs.Common.{◌≡◌, ℕ, List, map, length, refl, sym, ap, ◌∙◌}
+use Rattle.std.proofs.Common.{◌≡◌, ℕ, List, map, length, ◌∙◌}
 use Rattle.std.specs.Prelude.{sum}
 use Rattle.formula.specs.Pool.{tree_of}
 use Rattle.formula.specs.declared.node.Node.{Node}

@@ -1,12 +1,12 @@
 -- What the names of a called unit weigh.
-use Rattle.std.proofs.Common.{◌≡◌, ℕ, zero, suc, ◌+◌, ◌<◌, ◌≤◌, ◌⊎◌, inl, inr, ◌||◌, Bool, true, false, cond, List, [], ◌∷◌, ◌++◌, map, length, take, drop, min, get_or, Option, Some, None, refl, sym, ap, ◌∙◌, arith}
+use Rattle.std.proofs.Common.{◌≡◌, ℕ, zero, suc, ◌<◌, ◌≤◌, ◌⊎◌, inl, inr, ◌||◌, Bool, true, false, cond, List, [], ◌∷◌, ◌++◌, map, length, take, drop, min, get_or, Option, Some, refl, sym, ap, ◌∙◌, arith}
 use Rattle.std.specs.Prelude.{nat_le}
 use Rattle.std.proofs.lemmas.Bool.Decides.{nat_tests}
 use Rattle.fort_model.specs.WalkCalls as model
 use Rattle.weight_calls.specs.Operands.{operand_of}
 use Rattle.weight_calls.specs.declared.operands.Operand.{Operand}
 use Rattle.formula.specs.Atoms.{same_bytes, is_among}
-use Rattle.fort_syntax.specs.Names.{data_name, data_name_in, has_common, has_role, is_in_common}
+use Rattle.fort_syntax.specs.Names.{data_name_in, has_common, has_role, is_in_common}
 use Rattle.fort_syntax.specs.declared.name.Name.{Name}
 use Rattle.fort_syntax.specs.declared.unit.DataName.{DataName}
 use Rattle.fort_syntax.specs.declared.unit.Unit.{Unit as Routine}

@@ -1,5 +1,5 @@
 -- The names that a call smashes, whatever its operands stand for.
-use Rattle.std.proofs.Common.{◌≡◌, ℕ, Bool, cond, List, [], ◌∷◌, ◌++◌, map, Option, Some, None, refl, sym, ap, ◌∙◌}
+use Rattle.std.proofs.Common.{◌≡◌, ℕ, Bool, cond, List, [], ◌∷◌, ◌++◌, map, Option, refl, sym, ap, ◌∙◌}
 use Rattle.formula.specs.Tree.{Tree, truth}
 use Rattle.std.specs.Prelude.{false}
 use Rattle.fort_syntax.specs.declared.name.Name.{Name}

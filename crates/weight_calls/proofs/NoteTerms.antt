@@ -1,9 +1,9 @@
 -- The notes of a unit by its number.
-use Rattle.std.proofs.Common.{◌≡◌, ◌<◌, ℕ, zero, suc, Bool, true, false, cond, List, [], ◌∷◌, map, length, Option, Some, None, slice_get, refl, sym, ap, ◌∙◌, arith}
+use Rattle.std.proofs.Common.{◌≡◌, ◌<◌, ℕ, zero, suc, Bool, true, false, cond, List, [], ◌∷◌, map, Some, None, slice_get, refl, sym, ap, ◌∙◌, arith}
 use Rattle.std.specs.List.{All}
-use Rattle.formula.specs.Pool.{AllBelow, tree_of}
+use Rattle.formula.specs.Pool.{AllBelow}
 use Rattle.formula.specs.declared.node.Node.{Node}
-use Rattle.fort_notes.specs.Assertions.{Notes, notes_tree}
+use Rattle.fort_notes.specs.Assertions.{notes_tree}
 use Rattle.fort_notes.specs.declared.notes.UnitSpec.{UnitSpec}
 use Rattle.fort_model.specs.Program.{notes_in}
 use Rattle.fort_notes.specs.declared.notes.AssertSpec.{AssertSpec}

@@ -19,7 +19,7 @@ use call_sites::Book;
 use edge_io::{List, NoMemory};
 use fort_syntax::Name;
 use name_tables::NameSet;
-use weight_caps::{Load, plus};
+use weight_caps::{CAP, Load};
 use weight_terms::{NameWeights, Told, sum_terms, test_terms};
 
 /// A called unit, with its number and its tables.
@@ -33,11 +33,11 @@ struct Callee<'a> {
 fn count_of(names: &[Name]) -> u32
     ensures { result ≡ capped (length names.now) }
 {
-    let mut count: u32 = 0;
-    for _name in names {
-        count = plus(count, 1);
+    let count = names.len();
+    if count < CAP as usize {
+        return count as u32;
     }
-    count
+    CAP
 }
 
 /// The names that a call smashes, where the called unit smashes some names.

@@ -6,15 +6,23 @@ ghost use Rattle.weight_calls.specs.Programs.{seen_program};
 
 use crate::subject::Subject;
 use formula::TermId;
+use fort_notes::UnitSpec;
 use name_tables::NameSet;
 
 impl<'a> Subject<'a> {
+    /// The notes of a unit of the program, where there is such a unit.
+    fn spec(&self, number: usize) -> Option<&'a UnitSpec>
+        ensures { option_copied result ≡ slice_get self.now.scene.now.notes.now number }
+    {
+        self.scene.notes.get(number)
+    }
+
     /// The terms of INPUT of a unit of the program.
     pub fn input(&self, number: usize) -> &'a [TermId]
         ensures terms { map (tree_of self.now.pool.now) result.now ≡ (notes_of (seen_program self.now.pool.now self.now.scene.now) number).input }
         ensures below { AllBelow (length self.now.pool.now) result.now }
     {
-        match self.scene.notes.get(number) {
+        match self.spec(number) {
             Some(spec) => spec.input.as_slice(),
             None => &[],
         }
@@ -25,7 +33,7 @@ impl<'a> Subject<'a> {
         ensures terms { map (tree_of self.now.pool.now) result.now ≡ (notes_of (seen_program self.now.pool.now self.now.scene.now) number).output }
         ensures below { AllBelow (length self.now.pool.now) result.now }
     {
-        match self.scene.notes.get(number) {
+        match self.spec(number) {
             Some(spec) => spec.output.as_slice(),
             None => &[],
         }

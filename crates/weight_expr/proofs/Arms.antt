@@ -1,5 +1,5 @@
 -- What a name before a bracket comes to.
-use Rattle.std.proofs.Common.{◌≡◌, ℕ, List, [], ◌∷◌, length, take, refl, sym, ap, ◌∙◌}
+use Rattle.std.proofs.Common.{◌≡◌, ℕ, List, take, ap, ◌∙◌}
 use Rattle.fort_syntax.specs.Names as names
 use Rattle.fort_syntax.specs.declared.name.Name.{Name}
 use Rattle.fort_model.specs.Seen.{Named}
@@ -7,7 +7,6 @@ use Rattle.fort_model.specs.WalkCalls.{Sight, Operand, Part, Computed}
 use Rattle.weight_caps.specs.Loads.{with_tests}
 use Rattle.weight_caps.specs.declared.loads.Load.{Load}
 use Rattle.weight_expr.specs.Applied.{is_applied, meaning}
-use Rattle.weight_expr.specs.declared.functions.Bracketed.{Bracketed}
 use Rattle.weight_expr.specs.declared.functions.Bracketed.TheVariants as code
 use Rattle.weight_expr.specs.declared.functions.Function.{Function}
 use Rattle.weight_tallies.specs.Tallied as t

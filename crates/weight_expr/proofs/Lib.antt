@@ -1,2 +1,3 @@
 mod Arms
-mod Views
+mod Powers
+pub mod Views

@@ -3,7 +3,7 @@ use Rattle.std.specs.Prelude.{ℕ, List, [], ◌∷◌}
 use Rattle.fort_syntax.specs.declared.expr.Expr.{Expr}
 use Rattle.fort_model.specs.Seen.{Named}
 use Rattle.fort_model.specs.WalkCalls.{Sight, Operand}
-use Rattle.weight_tallies.specs.Tallied.{Tally, ◌>>=◌, ◌>>◌, tallied}
+use Rattle.weight_tallies.specs.Tallied.{Tally, ◌>>=◌, tallied}
 use Rattle.weight_tallies.specs.Tallies.{operand, value}
 
 abbrev pub values_listed : Sight ℕ → Named ℕ → List Expr → Tally (List ℕ)

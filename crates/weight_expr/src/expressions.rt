@@ -34,28 +34,19 @@ fn applied_weight(
                 return Err(NoMemory);
             };
             test_subscripts(load, subscripts.as_slice(), dims);
-            Ok(Operand::Part(next(plus(
-                names.of(name),
-                sum_of(subscripts.as_slice()),
-            ))))
+            Ok(Operand::Part(next(plus(names.of(name), sum_of(subscripts.as_slice())))))
         }
         Bracketed::BuiltIn(function) => {
             let Ok(weights) = values(subject, names, load, args) else {
                 return Err(NoMemory);
             };
-            Ok(Operand::Computed(intrinsic_weight(
-                load,
-                function,
-                weights.as_slice(),
-            )))
+            Ok(Operand::Computed(intrinsic_weight(load, function, weights.as_slice())))
         }
         Bracketed::Reference => {
             let Ok(actuals) = operands(subject, names, load, args) else {
                 return Err(NoMemory);
             };
-            let number = subject
-                .numbers
-                .function(subject.scene.books.units, name);
+            let number = subject.numbers.function(subject.scene.books.units, name);
             let Ok(()) = refer(subject, number, names, actuals.as_slice(), load) else {
                 return Err(NoMemory);
             };
@@ -173,12 +164,7 @@ fn operated(
     let Ok(weight) = value(subject, names, load, e) else {
         return Err(NoMemory);
     };
-    Ok(Operand::Computed(operate(
-        load,
-        before.operator,
-        before.first,
-        weight,
-    )))
+    Ok(Operand::Computed(operate(load, before.operator, before.first, weight)))
 }
 
 /// An expression as an operand, which is not read where it is a bare name or an element.

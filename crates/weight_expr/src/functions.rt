@@ -7,11 +7,10 @@ ghost use Rattle.weight_caps.specs.declared.loads.Load.{Load};
 ghost use Rattle.weight_expr.specs.Applied.{is_applied, meaning};
 ghost use Rattle.weight_tallies.specs.Tallies as tally;
 
+use crate::operations::{next, pair, read};
 use call_sites::Book;
 use fort_syntax::Name;
 use weight_caps::{Load, sum_of};
-
-use crate::operations::{next, pair, read};
 
 /// An intrinsic function: IABS, MOD, MAX0 or MIN0.
 #[derive(Clone, Copy, Debug)]

@@ -1,6 +1,6 @@
 -- What statements come to, one by one.
-use Rattle.std.specs.Prelude.{ℕ, cond, ◌==◌, List, [], ◌∷◌, Option}
-use Rattle.fort_syntax.specs.Names.{subroutine}
+use Rattle.std.specs.Prelude.{ℕ, cond, ◌==◌, List, [], ◌∷◌, length, take, Option}
+use Rattle.fort_syntax.specs.Names.{dims_of, subroutine}
 use Rattle.fort_syntax.specs.declared.expr.Expr.{Expr}
 use Rattle.fort_syntax.specs.declared.name.Name.{Name}
 use Rattle.fort_syntax.specs.declared.stmt.Param.{Param}
@@ -8,8 +8,9 @@ use Rattle.fort_syntax.specs.declared.stmt.Stmt.{Stmt}
 use Rattle.fort_model.specs.Flow.{target}
 use Rattle.fort_model.specs.Seen.{Named}
 use Rattle.fort_model.specs.WalkCalls.{Sight}
-use Rattle.weight_expr.specs.Listed.{operands_listed}
-use Rattle.weight_tallies.specs.Tallied.{Tally, ◌>>=◌, ◌>>◌, tallied}
+use Rattle.fort_model.specs.WalkStmt.{with_name}
+use Rattle.weight_expr.specs.Listed.{operands_listed, values_listed}
+use Rattle.weight_tallies.specs.Tallied.{Tally, ◌>>=◌, ◌>>◌, tallied, all_tested, next, both, all}
 use Rattle.weight_tallies.specs.Tallies.{assign, begin, behind, called, judged, parameter, performed, read, selected, selector, step_weight, value}
 
 module _ (w : Sight ℕ) (pc : ℕ) (now : Named ℕ) where
@@ -43,3 +44,10 @@ module _ (w : Sight ℕ) (pc : ℕ) (now : Named ℕ) where
     xs ← operands_listed w now args
     after ← called w (subroutine w.program.units f) now xs
     behind w pc after cs
+
+-- an element is assigned to
+abbrev pub element_part : Sight ℕ → Named ℕ → Name → List Expr → ℕ → Tally (Named ℕ)
+element_part w now a args n = do
+  is ← values_listed w now args
+  all_tested (take (length (dims_of w.unit a)) is)
+  tallied (with_name now a (next (both (both (now a) (all is)) n)))

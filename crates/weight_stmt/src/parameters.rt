@@ -1,5 +1,5 @@
 // Parameters of DOs.
-ghost use Rattle.std.specs.Prelude.{◌≡◌, ℕ, slice_get};
+ghost use Rattle.std.specs.Prelude.{◌≡◌, ℕ, option_copied, slice_get};
 ghost use Rattle.loop_tables.specs.Loops.{with_line};
 ghost use Rattle.weight_calls.specs.Subjects.{sight_of};
 ghost use Rattle.weight_terms.specs.Held.{held};
@@ -7,7 +7,7 @@ ghost use Rattle.weight_tallies.specs.Tallied as tallied;
 ghost use Rattle.weight_tallies.specs.Tallies as tally;
 ghost use Rattle.weight_stmt.specs.Turns.{Loops, loop_of, loop_tested, with_found};
 
-use fort_syntax::{Dialect, Name, Param, Stmt, Unit};
+use fort_syntax::{Dialect, Line, Name, Param, Stmt, Unit};
 use weight_calls::Subject;
 use weight_caps::{Load, plus};
 use weight_expr::{constant, read};
@@ -67,11 +67,18 @@ pub(crate) struct Found {
     pub(crate) step: Option<Param>,
 }
 
+/// The statement at a point, where there is one.
+fn line_at(unit: &Unit, at: usize) -> Option<&Line>
+    ensures { option_copied result ≡ slice_get unit.now.lines at }
+{
+    unit.lines.as_slice().get(at)
+}
+
 /// The DO at a point, where one stands there.
 pub(crate) fn loop_at(unit: &Unit, at: usize) -> Option<Found>
     ensures { (ds : Loops) → with_line at (slice_get unit.now.lines at) ds ≡ with_found at result ds }
 {
-    let Some(line) = unit.lines.as_slice().get(at) else {
+    let Some(line) = line_at(unit, at) else {
         return None;
     };
     match &line.stmt {

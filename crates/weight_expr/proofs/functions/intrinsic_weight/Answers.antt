@@ -1,6 +1,5 @@
 use Rattle.std.specs.Prelude.{ℕ}
 use Rattle.std.proofs.Common.{sym, ap, ◌∙◌}
-use Rattle.fort_syntax.specs.Names as text
 use Rattle.weight_expr.specs.Applied.{meaning}
 use Rattle.weight_tallies.specs.Tallied.{Tallied}
 use Rattle.weight_tallies.specs.Tallies as tally
