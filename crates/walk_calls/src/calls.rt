@@ -1,0 +1,47 @@
+// Calls (a stub).
+ghost use Rattle.std.specs.Prelude.{length, IfOk, OnOk};
+ghost use Rattle.formula.specs.Pool.{IsIn, tree_of};
+ghost use Rattle.fort_model.specs.Seen.{see, ◌>>=◌};
+ghost use Rattle.fort_model.specs.WalkCalls as calls;
+ghost use Rattle.walk_operands.specs.Operands.{AreOperandsIn, operand_trees};
+ghost use Rattle.walk_setting.specs.Settings.{DoesIn, PerformsIn};
+ghost use Rattle.walk_state.specs.Moments.{Follows, IsWalk, moment};
+
+use edge_io::NoMemory;
+use formula::TermId;
+use walk_operands::Operand;
+use walk_setting::Setting;
+use walk_state::Walk;
+
+/// A reference to a FUNCTION.
+pub fn refer(
+    walk: &mut Walk,
+    setting: &Setting,
+    card: u32,
+    callee: Option<usize>,
+    actuals: &[Operand],
+) -> Result<TermId, NoMemory>
+    requires well { IsWalk walk.old }
+    requires actuals { AreOperandsIn (length walk.old.pool) actuals.now }
+    ensures on { Follows walk.old walk.new }
+    ensures is_in { IfOk result (λ id. IsIn walk.new.pool id) }
+    ensures did { IfOk result (λ id. DoesIn walk.old.pool setting.now (moment walk.old) (λ w. calls.call w card callee (moment walk.old).now (operand_trees walk.old.pool actuals.now) >>= λ c. see (c.1)) (moment walk.new) (tree_of walk.new.pool id)) }
+{
+    Err(NoMemory)
+}
+
+/// A CALL.
+pub fn call(
+    walk: &mut Walk,
+    setting: &Setting,
+    card: u32,
+    callee: Option<usize>,
+    actuals: &[Operand],
+) -> Result<(), NoMemory>
+    requires well { IsWalk walk.old }
+    requires actuals { AreOperandsIn (length walk.old.pool) actuals.now }
+    ensures on { Follows walk.old walk.new }
+    ensures did { OnOk result (PerformsIn walk.old.pool setting.now (moment walk.old) (λ w. calls.call w card callee (moment walk.old).now (operand_trees walk.old.pool actuals.now) >>= λ c. see (c.0)) (moment walk.new)) }
+{
+    Err(NoMemory)
+}

@@ -1,0 +1,6 @@
+//! Calls along a path.
+#![tactic(auto)]
+
+mod calls;
+
+pub use calls::{call, refer};
