@@ -1,18 +1,19 @@
 // Expressions, whose operands are evaluated from the left, and before their operators.
 ghost use Rattle.std.specs.Prelude.{length, map, IfOk};
 ghost use Rattle.formula.specs.Pool.{AllBelow, IsIn, tree_of};
+ghost use Rattle.fort_model.specs.Program.{Program};
 ghost use Rattle.fort_model.specs.Seen.{see, ◌>>=◌};
 ghost use Rattle.fort_model.specs.WalkCalls as calls;
 ghost use Rattle.fort_model.specs.WalkExpr as steps;
 ghost use Rattle.fort_syntax.specs.Names as names;
 ghost use Rattle.fort_syntax.specs.TreePatterns.{row_of};
+ghost use Rattle.path_scene.specs.Scenes.{IsReady};
 ghost use Rattle.walk_intrinsics.specs.Functions.{meaning};
 ghost use Rattle.walk_operands.specs.Operands.{AreOperandsIn, IsOperandIn, operand_tree, operand_trees};
 ghost use Rattle.walk_operators.specs.Operators.{element_of, of_one, of_two};
 ghost use Rattle.walk_setting.specs.Settings.{DoesIn};
 ghost use Rattle.walk_state.specs.Moments.{Follows, IsWalk, moment};
 
-use crate::card::Card;
 use edge_io::NoMemory;
 use formula::TermId;
 use fort_syntax::{Expr, Name};
@@ -23,13 +24,15 @@ use walk_operators::{
     Binary, Test, Unary, binary_value, constant_of, element_at, name_of, read_operand, truth_of,
     unary_value,
 };
+use walk_setting::Card;
 use walk_state::Walk;
 
 /// The operand that an expression is: what a bare name or an element stands for, which is not read
 /// yet, or what is computed.
 #[cycle(evaluate)]
 pub fn operand(walk: &mut Walk, card: &Card, e: &Expr) -> Result<Operand, NoMemory>
-    requires { IsWalk walk.old }
+    requires well { IsWalk walk.old }
+    requires ready { (p : Program) × IsReady walk.old.pool card.now.setting.now.scene.now p }
     ensures on { Follows walk.old walk.new }
     ensures is_in { IfOk result (λ x. IsOperandIn (length walk.new.pool) x) }
     ensures did { IfOk result (λ x. DoesIn walk.old.pool card.now.setting.now (moment walk.old) (λ w. steps.operand w card.now.number (moment walk.old).now e.now) (moment walk.new) (operand_tree walk.new.pool x)) }
@@ -60,7 +63,8 @@ pub fn operand(walk: &mut Walk, card: &Card, e: &Expr) -> Result<Operand, NoMemo
 /// The value of an expression, which is read where it is a name or an element.
 #[cycle(evaluate)]
 pub fn value(walk: &mut Walk, card: &Card, e: &Expr) -> Result<TermId, NoMemory>
-    requires { IsWalk walk.old }
+    requires well { IsWalk walk.old }
+    requires ready { (p : Program) × IsReady walk.old.pool card.now.setting.now.scene.now p }
     ensures on { Follows walk.old walk.new }
     ensures is_in { IfOk result (λ id. IsIn walk.new.pool id) }
     ensures did { IfOk result (λ id. DoesIn walk.old.pool card.now.setting.now (moment walk.old) (λ w. steps.value w card.now.number (moment walk.old).now e.now) (moment walk.new) (tree_of walk.new.pool id)) }
@@ -73,7 +77,8 @@ pub fn value(walk: &mut Walk, card: &Card, e: &Expr) -> Result<TermId, NoMemory>
 // An operator of one value.
 #[cycle(evaluate)]
 fn single(walk: &mut Walk, card: &Card, op: Unary, a: &Expr) -> Result<Operand, NoMemory>
-    requires { IsWalk walk.old }
+    requires well { IsWalk walk.old }
+    requires ready { (p : Program) × IsReady walk.old.pool card.now.setting.now.scene.now p }
     ensures on { Follows walk.old walk.new }
     ensures is_in { IfOk result (λ x. IsOperandIn (length walk.new.pool) x) }
     ensures did { IfOk result (λ x. DoesIn walk.old.pool card.now.setting.now (moment walk.old) (λ w. steps.value w card.now.number (moment walk.old).now a.now >>= of_one w card.now.number op) (moment walk.new) (operand_tree walk.new.pool x)) }
@@ -92,7 +97,8 @@ fn double(
     a: &Expr,
     b: &Expr,
 ) -> Result<Operand, NoMemory>
-    requires { IsWalk walk.old }
+    requires well { IsWalk walk.old }
+    requires ready { (p : Program) × IsReady walk.old.pool card.now.setting.now.scene.now p }
     ensures on { Follows walk.old walk.new }
     ensures is_in { IfOk result (λ x. IsOperandIn (length walk.new.pool) x) }
     ensures did { IfOk result (λ x. DoesIn walk.old.pool card.now.setting.now (moment walk.old) (λ w. steps.value w card.now.number (moment walk.old).now a.now >>= λ v. steps.value w card.now.number (moment walk.old).now b.now >>= of_two w card.now.number op v) (moment walk.new) (operand_tree walk.new.pool x)) }
@@ -106,7 +112,8 @@ fn double(
 /// The values of expressions in order.
 #[cycle(evaluate)]
 pub fn values(walk: &mut Walk, card: &Card, args: &[Expr]) -> Result<Vec<TermId>, NoMemory>
-    requires { IsWalk walk.old }
+    requires well { IsWalk walk.old }
+    requires ready { (p : Program) × IsReady walk.old.pool card.now.setting.now.scene.now p }
     ensures on { Follows walk.old walk.new }
     ensures is_in { IfOk result (λ ids. AllBelow (length walk.new.pool) ids.items) }
     ensures did { IfOk result (λ ids. DoesIn walk.old.pool card.now.setting.now (moment walk.old) (λ w. steps.values w card.now.number (moment walk.old).now (row_of args.now)) (moment walk.new) (map (tree_of walk.new.pool) ids.items)) }
@@ -124,7 +131,8 @@ pub fn values(walk: &mut Walk, card: &Card, args: &[Expr]) -> Result<Vec<TermId>
 /// Expressions in order, which are only taken as operands.
 #[cycle(evaluate)]
 pub fn operands(walk: &mut Walk, card: &Card, args: &[Expr]) -> Result<Vec<Operand>, NoMemory>
-    requires { IsWalk walk.old }
+    requires well { IsWalk walk.old }
+    requires ready { (p : Program) × IsReady walk.old.pool card.now.setting.now.scene.now p }
     ensures on { Follows walk.old walk.new }
     ensures is_in { IfOk result (λ xs. AreOperandsIn (length walk.new.pool) xs.items) }
     ensures did { IfOk result (λ xs. DoesIn walk.old.pool card.now.setting.now (moment walk.old) (λ w. steps.operands w card.now.number (moment walk.old).now (row_of args.now)) (moment walk.new) (operand_trees walk.new.pool xs.items)) }
@@ -142,7 +150,8 @@ pub fn operands(walk: &mut Walk, card: &Card, args: &[Expr]) -> Result<Vec<Opera
 // An element of an array.
 #[cycle(evaluate)]
 fn element(walk: &mut Walk, card: &Card, a: &Name, args: &[Expr]) -> Result<Operand, NoMemory>
-    requires { IsWalk walk.old }
+    requires well { IsWalk walk.old }
+    requires ready { (p : Program) × IsReady walk.old.pool card.now.setting.now.scene.now p }
     ensures on { Follows walk.old walk.new }
     ensures is_in { IfOk result (λ x. IsOperandIn (length walk.new.pool) x) }
     ensures did { IfOk result (λ x. DoesIn walk.old.pool card.now.setting.now (moment walk.old) (λ w. steps.values w card.now.number (moment walk.old).now (row_of args.now) >>= element_of w card.now.number (moment walk.old).now a.now (names.dims_of w.unit a.now)) (moment walk.new) (operand_tree walk.new.pool x)) }
@@ -160,7 +169,8 @@ fn built_in(
     function: Function,
     args: &[Expr],
 ) -> Result<Operand, NoMemory>
-    requires { IsWalk walk.old }
+    requires well { IsWalk walk.old }
+    requires ready { (p : Program) × IsReady walk.old.pool card.now.setting.now.scene.now p }
     ensures on { Follows walk.old walk.new }
     ensures is_in { IfOk result (λ x. IsOperandIn (length walk.new.pool) x) }
     ensures did { IfOk result (λ x. DoesIn walk.old.pool card.now.setting.now (moment walk.old) (λ w. steps.values w card.now.number (moment walk.old).now (row_of args.now) >>= λ vs. steps.computed w (steps.intrinsic_value w card.now.number (meaning function) vs)) (moment walk.new) (operand_tree walk.new.pool x)) }
@@ -173,7 +183,8 @@ fn built_in(
 // A reference to a FUNCTION.
 #[cycle(evaluate)]
 fn reference(walk: &mut Walk, card: &Card, a: &Name, args: &[Expr]) -> Result<Operand, NoMemory>
-    requires { IsWalk walk.old }
+    requires well { IsWalk walk.old }
+    requires ready { (p : Program) × IsReady walk.old.pool card.now.setting.now.scene.now p }
     ensures on { Follows walk.old walk.new }
     ensures is_in { IfOk result (λ x. IsOperandIn (length walk.new.pool) x) }
     ensures did { IfOk result (λ x. DoesIn walk.old.pool card.now.setting.now (moment walk.old) (λ w. steps.operands w card.now.number (moment walk.old).now (row_of args.now) >>= λ xs. calls.call w card.now.number (names.function w.program.units a.now) (moment walk.old).now xs >>= λ c. see (calls.Computed (c.1))) (moment walk.new) (operand_tree walk.new.pool x)) }
@@ -187,7 +198,8 @@ fn reference(walk: &mut Walk, card: &Card, a: &Name, args: &[Expr]) -> Result<Op
 // A name with expressions in brackets behind it.
 #[cycle(evaluate)]
 fn applied(walk: &mut Walk, card: &Card, a: &Name, args: &[Expr]) -> Result<Operand, NoMemory>
-    requires { IsWalk walk.old }
+    requires well { IsWalk walk.old }
+    requires ready { (p : Program) × IsReady walk.old.pool card.now.setting.now.scene.now p }
     ensures on { Follows walk.old walk.new }
     ensures is_in { IfOk result (λ x. IsOperandIn (length walk.new.pool) x) }
     ensures did { IfOk result (λ x. DoesIn walk.old.pool card.now.setting.now (moment walk.old) (λ w. steps.apply w card.now.number (moment walk.old).now a.now (names.applied w.unit a.now) (steps.values w card.now.number (moment walk.old).now (row_of args.now)) (steps.operands w card.now.number (moment walk.old).now (row_of args.now))) (moment walk.new) (operand_tree walk.new.pool x)) }

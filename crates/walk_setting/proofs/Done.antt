@@ -1,10 +1,12 @@
 -- One part of a walk behind another, in a program that is told by where the walk is.
-use Rattle.std.proofs.Common.{◌≡◌, List, [], ◌∷◌, ◌++◌, refl, sym, ap, ◌∙◌, append_assoc}
+use Rattle.std.proofs.Common.{◌≡◌, List, [], ◌∷◌, ◌++◌, refl, sym, ap, ◌∙◌, subst, append_assoc}
 use Rattle.formula.specs.declared.node.Node.{Node}
 use Rattle.formula.specs.Pool.{Grows}
 use Rattle.formula.specs.Tree.{Tree}
-use Rattle.fort_model.specs.Seen.{Named, See, ◌>>=◌, see}
+use Rattle.fort_model.specs.Program.{Program}
+use Rattle.fort_model.specs.Seen.{Named, See, ◌>>=◌, ◌>>◌, see}
 use Rattle.fort_model.specs.WalkCalls.{Sight}
+use Rattle.path_scene.specs.Scenes.{IsReady}
 use Rattle.walk_state.specs.declared.walk.Walk.{Walk}
 use Rattle.walk_state.specs.Moments.{Did, Moment, moment, with_names}
 use Rattle.walk_state.proofs.Parts.{did_then_by}
@@ -59,6 +61,11 @@ performed_set m0 m1 now set = set ∙ (λ i. record { now = now; past = m0.past;
 performed_not : (m0 m1 : Moment) → m1 ≡ m0 → m1 ≡ performed_at m0 (see m0.now)
 performed_not m0 m1 same = same ∙ (λ i. record { now = m0.now; past = m0.past; events = append_nothing m0.events i; answers = m0.answers })
 
+performed_past : {A : Type 0} (m0 m1 : Moment) (part : See Tree A) (a : A) → Did m0 part m1 a → m1 ≡ performed_at m0 (part >> see m0.now)
+performed_past m0 m1 part a d =
+    let seen = part m0.answers in
+    d.is ∙ (λ i. record { now = m0.now; past = m0.past; events = m0.events ++ append_nothing seen.events i; answers = seen.rest })
+
 -- a part that answers what names stand for, behind another part
 pub performs_then : {A : Type 0} (s : Setting) (w0 w1 w2 : Walk) (part : Sight Tree → See Tree A) (next : Sight Tree → Named Tree → A → See Tree (Named Tree)) (a : A) → Grows w0.pool w1.pool
     → DoesIn w0.pool s (moment w0) part (moment w1) a → PerformsIn w1.pool s (moment w1) (λ w. next w (moment w1).now a) (moment w2)
@@ -82,3 +89,26 @@ performs_not pool s m0 m1 same = λ p r. performed_not m0 m1 same
 -- a name is set
 pub performs_set : (pool : List Node) (s : Setting) (m0 m1 : Moment) (now : Named Tree) → m1 ≡ with_names m0 now → PerformsIn pool s m0 (λ w. see now) m1
 performs_set pool s m0 m1 now set = λ p r. performed_set m0 m1 now set
+
+-- ---- parts that do the same
+
+-- parts one behind another may be taken together in either way
+pub bind_assoc : {A B C : Type 0} (p : See Tree A) (f : A → See Tree B) (g : B → See Tree C) → ((p >>= f) >>= g) ≡ (p >>= λ a. f a >>= g)
+bind_assoc p f g =
+    λ i answers.
+    let s = p answers in
+    let t = f s.value s.rest in
+    let r = g t.value t.rest in
+    record { value = r.value; events = append_assoc s.events t.events r.events i; rest = r.rest }
+
+pub does_as : {A : Type 0} (pool : List Node) (s : Setting) (m0 m1 : Moment) (part other : Sight Tree → See Tree A) (a : A) → ((p : Program) → IsReady pool s.scene.now p → part (seen_from s p) ≡ other (seen_from s p))
+    → DoesIn pool s m0 part m1 a → DoesIn pool s m0 other m1 a
+does_as pool s m0 m1 part other a same d = λ p r. subst (λ (x : See Tree _). Did m0 x m1 a) (same p r) (d p r)
+
+pub performs_as : (pool : List Node) (s : Setting) (m0 m1 : Moment) (part other : Sight Tree → See Tree (Named Tree)) → ((p : Program) → IsReady pool s.scene.now p → part (seen_from s p) ≡ other (seen_from s p))
+    → PerformsIn pool s m0 part m1 → PerformsIn pool s m0 other m1
+performs_as pool s m0 m1 part other same d = λ p r. d p r ∙ ap (performed_at m0) (same p r)
+
+-- a part that leaves all names as they are
+pub performs_past : {A : Type 0} (pool : List Node) (s : Setting) (m0 m1 : Moment) (part : Sight Tree → See Tree A) (a : A) → DoesIn pool s m0 part m1 a → PerformsIn pool s m0 (λ w. part w >> see m0.now) m1
+performs_past pool s m0 m1 part a d = λ p r. performed_past m0 m1 (part (seen_from s p)) a (d p r)

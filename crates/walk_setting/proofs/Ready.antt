@@ -67,3 +67,7 @@ module _ (old new : List Node) (g : Grows old new) where
     smashing = h.smashing;
     ranges = h.ranges;
   }
+
+-- a scene is that of some program for which it is ready
+pub ready_on : (old new : List Node) (scene : Scene) → Grows old new → ((p : Program) × IsReady old scene p) → (p : Program) × IsReady new scene p
+ready_on old new scene g r = (r.0, ready_stays old new g scene r.0 r.1)

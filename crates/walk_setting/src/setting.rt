@@ -10,6 +10,7 @@ use unit_tables::UnitNumbers;
 
 /// A program as its walks see it, the numbers of its units by name, and a unit of it, told by its
 /// number, from 0, with tables of its names.
+#[derive(Drop)]
 pub struct Setting<'a> {
     pub scene: &'a Scene<'a>,
     pub numbers: &'a UnitNumbers,
