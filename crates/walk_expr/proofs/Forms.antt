@@ -1,7 +1,8 @@
 -- What each form of expression comes to.
-use Rattle.std.proofs.Common.{◌≡◌, ℕ, List, ◌∷◌, refl, ap, ◌∙◌}
+use Rattle.std.proofs.Common.{◌≡◌, ℕ, suc, true, false, List, [], ◌∷◌, length, Option, Some, None, refl, sym, ap, ◌∙◌, arith, true≢false}
+use Rattle.std.specs.Prelude.{◌==◌}
 use Rattle.formula.specs.Tree.{Tree}
-use Rattle.fort_syntax.specs.Names.{applied}
+use Rattle.fort_syntax.specs.Names.{BuiltIn, Element, Intrinsic, Reference, applied, applied_by}
 use Rattle.fort_syntax.specs.TreePatterns.{row_of}
 use Rattle.fort_syntax.specs.declared.dialect.BinOp.{BinOp}
 use Rattle.fort_syntax.specs.declared.dialect.RelOp.{RelOp}
@@ -9,6 +10,7 @@ use Rattle.fort_syntax.specs.declared.expr.Expr.{Expr, Row_of-Expr, end_of-Expr,
 use Rattle.fort_syntax.specs.declared.expr.Expr.TheBlock.{hidden-the_row-Expr-0}
 use Rattle.fort_syntax.specs.declared.expr.Expr.TheViews as view
 use Rattle.fort_syntax.specs.declared.name.Name.{Name}
+use Rattle.fort_syntax.specs.declared.stmt.Dim.{Dim}
 use Rattle.fort_model.specs.Seen.{Named, ◌>>=◌, see}
 use Rattle.fort_model.specs.WalkCalls.{Sight}
 use Rattle.fort_model.specs.WalkExpr as steps
@@ -78,3 +80,20 @@ operands_behind w card now args =
 pub of_apply : (w : Sight Tree) (card : ℕ) (now : Named Tree) (a : Name) (args : List Expr)
     → steps.operand w card now (view.Apply a args) ≡ steps.apply w card now a (applied w.unit a) (steps.values w card now (row_of args)) (steps.operands w card now (row_of args))
 of_apply w card now a args = λ i. steps.apply w card now a (applied w.unit a) (values_behind w card now args i) (operands_behind w card now args i)
+
+-- ---- what a name before a bracket is
+
+not_empty : (n : ℕ) → (suc n == 0) ≡ false
+not_empty n = grind arith
+
+pub is_element : (ds : List Dim) (i : Option Intrinsic) → (length ds == 0) ≡ false → applied_by ds i ≡ Element ds
+is_element [] i h = absurd (true≢false h)
+is_element (d ∷ ds) i h = refl
+
+pub is_built_in : (ds : List Dim) (i : Option Intrinsic) (f : Intrinsic) → (length ds == 0) ≡ true → i ≡ Some f → applied_by ds i ≡ BuiltIn f
+is_built_in [] i f h e = ap (applied_by []) e
+is_built_in (d ∷ ds) i f h e = absurd (true≢false (sym h ∙ not_empty (length ds)))
+
+pub is_reference : (ds : List Dim) (i : Option Intrinsic) → (length ds == 0) ≡ true → i ≡ None → applied_by ds i ≡ Reference
+is_reference [] i h e = ap (applied_by []) e
+is_reference (d ∷ ds) i h e = absurd (true≢false (sym h ∙ not_empty (length ds)))

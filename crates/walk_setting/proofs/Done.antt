@@ -82,6 +82,12 @@ performs_on s w0 w1 w2 part next g first second =
     λ p r.
     performed_on (moment w0) (moment w1) (moment w2) (part (seen_from s p)) (next (seen_from s p)) (first p r) (second p (ready_stays w0.pool w1.pool g s.scene.now p r))
 
+-- the same, where the walk went on behind them
+pub performs_on_to : (s : Setting) (w0 w1 : Walk) (m : Moment) (part : Sight Tree → See Tree (Named Tree)) (next : Sight Tree → Named Tree → See Tree (Named Tree)) → Grows w0.pool w1.pool
+    → PerformsIn w0.pool s (moment w0) part (moment w1) → PerformsIn w1.pool s (moment w1) (λ w. next w (moment w1).now) m → PerformsIn w0.pool s (moment w0) (λ w. part w >>= next w) m
+performs_on_to s w0 w1 m part next g first second =
+    λ p r. performed_on (moment w0) (moment w1) m (part (seen_from s p)) (next (seen_from s p)) (first p r) (second p (ready_stays w0.pool w1.pool g s.scene.now p r))
+
 -- nothing is done
 pub performs_not : (pool : List Node) (s : Setting) (m0 m1 : Moment) → m1 ≡ m0 → PerformsIn pool s m0 (λ w. see m0.now) m1
 performs_not pool s m0 m1 same = λ p r. performed_not m0 m1 same
