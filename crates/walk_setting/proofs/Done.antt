@@ -13,7 +13,7 @@ use Rattle.walk_state.proofs.Parts.{did_then_by}
 use Rattle.walk_values.specs.Parts.{Does, DoesWithin}
 use Rattle.walk_setting.specs.declared.setting.Setting.{Setting}
 use Rattle.walk_setting.specs.Settings.{DoesIn, PerformsIn, performed_at, seen_from}
-use Rattle.walk_setting.proofs.Ready.{ready_stays}
+use Rattle.path_scene.proofs.Staying.{ready_stays}
 
 -- what is done in every program is done in that of a setting
 pub does_here : {A : Type 0} (pool : List Node) (s : Setting) (m0 m1 : Moment) (part : Sight Tree → See Tree A) (a : A) → Does m0 part m1 a → DoesIn pool s m0 part m1 a

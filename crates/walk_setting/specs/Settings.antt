@@ -1,8 +1,6 @@
 -- What parts of a walk do in a program that is told by where the walk is.
 use Rattle.std.specs.Prelude.{◌≡◌, List, ◌++◌}
-use Rattle.call_sites.specs.declared.book.Book.{Book}
 use Rattle.formula.specs.declared.node.Node.{Node}
-use Rattle.formula.specs.Pool.{Grows}
 use Rattle.formula.specs.Tree.{Tree}
 use Rattle.fort_model.specs.Conditions.{sight}
 use Rattle.fort_model.specs.Program.{Program}

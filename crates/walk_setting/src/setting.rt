@@ -1,6 +1,9 @@
 // Where a walk is.
-ghost use Rattle.std.specs.Prelude.{◌≡◌, ◌<◌, Some, length, slice_get, IfSome};
+ghost use Rattle.std.specs.Prelude.{◌≡◌, ◌<◌, ◌∷◌, Some, drop, length, slice_get, suc, IfSome};
 ghost use Rattle.fort_syntax.specs.Names.{function, subroutine};
+ghost use Rattle.std.specs.Coded.{codes};
+ghost use Rattle.fort_syntax.specs.contracts.expr.Expr as expr;
+ghost use Rattle.fort_syntax.specs.contracts.stmt.Stmt as stmt;
 ghost use Rattle.unit_tables.specs.UnitTables.{AreUnitNumbers};
 
 use call_sites::Book;
@@ -17,7 +20,7 @@ pub struct Setting<'a> {
     pub book: &'a Book<'a>,
     pub number: usize,
     ghost numbers_are: { AreUnitNumbers scene.now.books.now.units.now numbers.now },
-    ghost unit_is: { slice_get scene.now.books.now.units.now number ≡ Some book.now.unit.now },
+    ghost unit_is: { drop number scene.now.books.now.units.now ≡ book.now.unit.now ∷ drop (suc number) scene.now.books.now.units.now } by { Prim.hlevel (codes, expr.the_row.coded, stmt.the_row.coded) },
 }
 
 impl<'a> Setting<'a> {
@@ -26,6 +29,7 @@ impl<'a> Setting<'a> {
         requires within { number < length scene.now.books.now.units.now }
         requires numbers { AreUnitNumbers scene.now.books.now.units.now numbers.now }
         ensures scene { result.scene.now ≡ scene.now }
+        ensures unit { slice_get scene.now.books.now.units.now number ≡ Some result.book.now.unit.now }
         ensures number { result.number ≡ number }
     {
         Setting {
