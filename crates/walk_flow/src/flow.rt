@@ -3,7 +3,7 @@ ghost use Rattle.std.specs.Prelude.{◌≡◌, ◌<◌, Some, length, slice_get,
 ghost use Rattle.fort_notes.specs.Assertions.{Notes};
 ghost use Rattle.fort_syntax.specs.declared.unit.Line.{Line};
 ghost use Rattle.fort_model.specs.Flow as flow;
-ghost use Rattle.fort_model.specs.Graphs.{AreTargetsOf, IsGraphOf, IsTargetOf};
+ghost use Rattle.fort_model.specs.Graphs.{IsGraphOf, IsTargetOf};
 ghost use Rattle.fort_model.specs.Perform.{card_in};
 ghost use Rattle.unit_tables.specs.Tables.{ArePointsOf};
 
@@ -20,7 +20,6 @@ pub struct UnitFlow<'a> {
     pub setting: &'a Setting<'a>,
     pub graph: &'a Graph,
     labels: LabelPoints,
-    ghost targets_are: { AreTargetsOf setting.now.scene.now.dialect setting.now.book.now.unit.now graph.now.forks 0 setting.now.book.now.unit.now.lines graph.now.starts },
     ghost labels_are: { ArePointsOf setting.now.book.now.unit.now.lines labels },
 }
 
@@ -33,7 +32,6 @@ impl<'a> UnitFlow<'a> {
         setting: &'a Setting<'a>,
         graph: &'a Graph,
     ) -> Result<UnitFlow<'a>, NoMemory>
-        requires { (notes : Notes) × IsGraphOf setting.now.scene.now.dialect setting.now.book.now.unit.now notes graph.now }
         ensures setting { IfOk result (λ f. f.setting.now ≡ setting.now) }
         ensures graph { IfOk result (λ f. f.graph.now ≡ graph.now) }
     {
@@ -57,10 +55,14 @@ impl<'a> UnitFlow<'a> {
 
     /// Where the statement at a point leads.
     pub fn start(&self, point: usize) -> Target
-        requires { point < length self.now.setting.now.book.now.unit.now.lines }
+        requires within { point < length self.now.setting.now.book.now.unit.now.lines }
+        requires graph { (notes : Notes) × IsGraphOf self.now.setting.now.scene.now.dialect self.now.setting.now.book.now.unit.now notes self.now.graph.now }
         ensures { (line : Line) → slice_get self.now.setting.now.book.now.unit.now.lines point ≡ Some line → IsTargetOf self.now.setting.now.scene.now.dialect self.now.setting.now.book.now.unit.now self.now.graph.now.forks point line.stmt result }
     {
-        self.graph.starts.as_slice()[point]
+        match self.graph.starts.as_slice().get(point) {
+            Some(target) => *target,
+            None => Target::Point(0),
+        }
     }
 
     /// The card of the first statement with a label; 0 where there is none.

@@ -3,7 +3,8 @@ ghost use Rattle.std.specs.Prelude.{◌≡◌, ◌<◌, Some, length, slice_get,
 ghost use Rattle.fort_syntax.specs.Names as names;
 ghost use Rattle.fort_syntax.specs.TreePatterns.{row_of};
 ghost use Rattle.fort_syntax.specs.declared.unit.Line.{Line};
-ghost use Rattle.fort_model.specs.Graphs.{IsBehind, IsTargetOf};
+ghost use Rattle.fort_notes.specs.Assertions.{Notes};
+ghost use Rattle.fort_model.specs.Graphs.{IsBehind, IsGraphOf, IsTargetOf};
 ghost use Rattle.fort_model.specs.Program.{Program};
 ghost use Rattle.fort_model.specs.Seen.{see, ◌>>=◌, ◌>>◌};
 ghost use Rattle.fort_model.specs.Senses.{negated};
@@ -182,6 +183,7 @@ pub fn performed(
     requires well { IsWalk walk.old }
     requires ready { (p : Program) × IsReady walk.old.pool flow.now.setting.now.scene.now p }
     requires within { point < length flow.now.setting.now.book.now.unit.now.lines }
+    requires graph { (notes : Notes) × IsGraphOf flow.now.setting.now.scene.now.dialect flow.now.setting.now.book.now.unit.now notes flow.now.graph.now }
     ensures on { Follows walk.old walk.new }
     ensures did { OnOk result ((line : Line) → slice_get flow.now.setting.now.book.now.unit.now.lines point ≡ Some line → PerformsIn walk.old.pool flow.now.setting.now (moment walk.old) (λ w. forms.performed w line.card point (moment walk.old).now line.stmt choices.now) (moment walk.new)) }
 {
