@@ -1,5 +1,5 @@
 // The flow of a unit.
-ghost use Rattle.std.specs.Prelude.{◌≡◌, ◌<◌, Some, length, slice_get, IfOk};
+ghost use Rattle.std.specs.Prelude.{◌≡◌, ◌<◌, Some, length, option_copied, slice_get, IfOk};
 ghost use Rattle.fort_notes.specs.Assertions.{Notes};
 ghost use Rattle.fort_syntax.specs.declared.unit.Line.{Line};
 ghost use Rattle.fort_model.specs.Flow as flow;
@@ -8,7 +8,7 @@ ghost use Rattle.fort_model.specs.Perform.{card_in};
 ghost use Rattle.unit_tables.specs.Tables.{ArePointsOf};
 
 use edge_io::{Keys, NoMemory};
-use fort_model::{Graph, Target};
+use fort_model::{Fork, Graph, Target};
 use fort_syntax::Line;
 use std::alloc::Global;
 use unit_tables::LabelPoints;
@@ -21,6 +21,23 @@ pub struct UnitFlow<'a> {
     pub graph: &'a Graph,
     labels: LabelPoints,
     ghost labels_are: { ArePointsOf setting.now.book.now.unit.now.lines labels },
+}
+
+/// The target of a number among some, from 0.
+pub(crate) fn target_at(targets: &[Target], number: usize) -> Option<Target>
+    ensures { result ≡ slice_get targets.now number }
+{
+    match targets.get(number) {
+        Some(target) => Some(*target),
+        None => None,
+    }
+}
+
+/// The fork of a number in a graph.
+pub(crate) fn fork_at<'g>(graph: &'g Graph, number: u32) -> Option<&'g Fork>
+    ensures { option_copied result ≡ slice_get graph.now.forks number }
+{
+    graph.forks.as_slice().get(number as usize)
 }
 
 impl<'a> UnitFlow<'a> {
@@ -59,8 +76,8 @@ impl<'a> UnitFlow<'a> {
         requires graph { (notes : Notes) × IsGraphOf self.now.setting.now.scene.now.dialect self.now.setting.now.book.now.unit.now notes self.now.graph.now }
         ensures { (line : Line) → slice_get self.now.setting.now.book.now.unit.now.lines point ≡ Some line → IsTargetOf self.now.setting.now.scene.now.dialect self.now.setting.now.book.now.unit.now self.now.graph.now.forks point line.stmt result }
     {
-        match self.graph.starts.as_slice().get(point) {
-            Some(target) => *target,
+        match target_at(self.graph.starts.as_slice(), point) {
+            Some(target) => target,
             None => Target::Point(0),
         }
     }

@@ -4,7 +4,7 @@ ghost use Rattle.fort_model.specs.Flow.{Loop};
 ghost use Rattle.fort_model.specs.Graphs.{AreTests};
 ghost use Rattle.walk_flow.specs.Loops.{AreLoopsOf, IsLoopOf, IsNextTest, test_of};
 
-use crate::flow::UnitFlow;
+use crate::flow::{UnitFlow, fork_at, target_at};
 use fort_model::Target;
 use fort_syntax::{Name, Param, Stmt, Unit};
 
@@ -47,7 +47,7 @@ pub fn next_test(flow: &UnitFlow, target: Target) -> Option<NextTest>
     let Target::Fork(number) = target else {
         return None;
     };
-    let Some(fork) = flow.graph.forks.as_slice().get(number as usize) else {
+    let Some(fork) = fork_at(flow.graph, number) else {
         return None;
     };
     let Some(at) = fork.tested else {
@@ -56,8 +56,8 @@ pub fn next_test(flow: &UnitFlow, target: Target) -> Option<NextTest>
     let Some(test) = test_at(flow.setting.book.unit, at) else {
         return None;
     };
-    match fork.targets.as_slice().get(1) {
-        Some(next) => Some(NextTest { test, next: *next }),
+    match target_at(fork.targets.as_slice(), 1) {
+        Some(next) => Some(NextTest { test, next }),
         None => None,
     }
 }

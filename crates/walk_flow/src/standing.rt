@@ -3,7 +3,7 @@ ghost use Rattle.std.specs.Prelude.{◌≡◌, ℕ, List, Option, slice_get};
 ghost use Rattle.fort_model.specs.Graphs.{IsForkTo};
 ghost use Rattle.fort_model.specs.declared.graph.Target.{Target as Goal};
 
-use crate::flow::UnitFlow;
+use crate::flow::{UnitFlow, fork_at, target_at};
 use fort_model::Target;
 use walk_setting::Card;
 
@@ -51,12 +51,9 @@ impl<'a> Standing<'a> {
         let Target::Fork(number) = self.target else {
             return None;
         };
-        let Some(fork) = self.flow.graph.forks.as_slice().get(number as usize) else {
+        let Some(fork) = fork_at(self.flow.graph, number) else {
             return None;
         };
-        match fork.targets.as_slice().get(choice) {
-            Some(target) => Some(*target),
-            None => None,
-        }
+        target_at(fork.targets.as_slice(), choice)
     }
 }
