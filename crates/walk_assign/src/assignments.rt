@@ -1,15 +1,10 @@
 // The left sides of assignments.
 ghost use Rattle.std.specs.Prelude.{length, map, OnOk};
 ghost use Rattle.formula.specs.Pool.{AllBelow, IsIn, tree_of};
-ghost use Rattle.formula.specs.declared.function.BuiltIn.TheVariants.{Put};
 ghost use Rattle.fort_model.specs.Program.{Program};
-ghost use Rattle.fort_model.specs.Seen.{see, ◌>>=◌};
-ghost use Rattle.fort_model.specs.Senses.{make3};
-ghost use Rattle.fort_model.specs.WalkExpr as steps;
 ghost use Rattle.fort_model.specs.WalkStmt as forms;
-ghost use Rattle.fort_syntax.specs.Names as names;
-ghost use Rattle.fort_syntax.specs.TreePatterns.{row_of};
 ghost use Rattle.path_scene.specs.Scenes.{IsReady};
+ghost use Rattle.walk_assign.specs.Parts.{element_assigned, stored};
 ghost use Rattle.walk_setting.specs.Settings.{PerformsIn};
 ghost use Rattle.walk_state.specs.Moments.{Follows, IsWalk, moment};
 
@@ -34,7 +29,7 @@ fn store(
     requires subscripts { AllBelow (length walk.old.pool) subscripts.now }
     requires value { IsIn walk.old.pool value }
     ensures on { Follows walk.old walk.new }
-    ensures did { OnOk result (PerformsIn walk.old.pool card.now.setting.now (moment walk.old) (λ w. steps.place_checked w card.now.number (moment walk.old).now (names.dims_of w.unit array.now) (map (tree_of walk.old.pool) subscripts.now) >>= λ p. see (forms.with_name (moment walk.old).now array.now (make3 w.sense Put ((moment walk.old).now array.now) p (tree_of walk.old.pool value)))) (moment walk.new)) }
+    ensures did { OnOk result (PerformsIn walk.old.pool card.now.setting.now (moment walk.old) (λ w. stored w card.now.number (moment walk.old).now array.now (map (tree_of walk.old.pool) subscripts.now) (tree_of walk.old.pool value)) (moment walk.new)) }
 {
     let dims = card.setting.book.dims(array);
     let place = place_checked(walk, card.number, dims, subscripts)?;
@@ -57,7 +52,7 @@ fn assign_element(
     requires ready { (p : Program) × IsReady walk.old.pool card.now.setting.now.scene.now p }
     requires value { IsIn walk.old.pool value }
     ensures on { Follows walk.old walk.new }
-    ensures did { OnOk result (PerformsIn walk.old.pool card.now.setting.now (moment walk.old) (λ w. steps.values w card.now.number (moment walk.old).now (row_of args.now) >>= λ is. steps.place_checked w card.now.number (moment walk.old).now (names.dims_of w.unit array.now) is >>= λ p. see (forms.with_name (moment walk.old).now array.now (make3 w.sense Put ((moment walk.old).now array.now) p (tree_of walk.old.pool value)))) (moment walk.new)) }
+    ensures did { OnOk result (PerformsIn walk.old.pool card.now.setting.now (moment walk.old) (λ w. element_assigned w card.now.number (moment walk.old).now array.now args.now (tree_of walk.old.pool value)) (moment walk.new)) }
 {
     let subscripts = values(walk, card, args)?;
     store(walk, card, array, subscripts.as_slice(), value)

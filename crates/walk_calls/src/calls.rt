@@ -2,14 +2,13 @@
 ghost use Rattle.std.specs.Prelude.{◌≡◌, length, IfOk};
 ghost use Rattle.formula.specs.Pool.{IsIn, tree_of};
 ghost use Rattle.fort_model.specs.Program.{Program};
-ghost use Rattle.fort_model.specs.Seen.{see, ◌>>=◌};
 ghost use Rattle.fort_model.specs.WalkCalls as calls;
 ghost use Rattle.fort_syntax.specs.Names.{function};
 ghost use Rattle.fort_syntax.specs.declared.name.Name.{Name as Text};
 ghost use Rattle.path_scene.specs.Scenes.{IsReady};
 ghost use Rattle.walk_operands.specs.Operands.{AreOperandsIn, operand_trees};
 ghost use Rattle.walk_setting.specs.Settings.{DoesIn};
-ghost use Rattle.walk_calls.specs.Calls.{CallsIn};
+ghost use Rattle.walk_calls.specs.Calls.{CallsIn, value_of_call};
 ghost use Rattle.walk_state.specs.Moments.{Follows, IsWalk, moment};
 
 use edge_io::NoMemory;
@@ -32,7 +31,7 @@ pub fn refer(
     requires function { (f : Text) × (callee ≡ function setting.now.scene.now.books.now.units.now f) }
     ensures on { Follows walk.old walk.new }
     ensures is_in { IfOk result (λ id. IsIn walk.new.pool id) }
-    ensures did { IfOk result (λ id. DoesIn walk.old.pool setting.now (moment walk.old) (λ w. calls.call w card callee (moment walk.old).now (operand_trees walk.old.pool actuals.now) >>= λ c. see (c.1)) (moment walk.new) (tree_of walk.new.pool id)) }
+    ensures did { IfOk result (λ id. DoesIn walk.old.pool setting.now (moment walk.old) (λ w. value_of_call w card callee (moment walk.old).now (operand_trees walk.old.pool actuals.now)) (moment walk.new) (tree_of walk.new.pool id)) }
 {
     Err(NoMemory)
 }

@@ -2,15 +2,12 @@
 ghost use Rattle.std.specs.Prelude.{length, map, IfOk};
 ghost use Rattle.formula.specs.Pool.{AllBelow, IsIn, tree_of};
 ghost use Rattle.fort_model.specs.Program.{Program};
-ghost use Rattle.fort_model.specs.Seen.{see, ◌>>=◌};
-ghost use Rattle.fort_model.specs.WalkCalls as calls;
 ghost use Rattle.fort_model.specs.WalkExpr as steps;
-ghost use Rattle.fort_syntax.specs.Names as names;
 ghost use Rattle.fort_syntax.specs.TreePatterns.{row_of};
 ghost use Rattle.path_scene.specs.Scenes.{IsReady};
 ghost use Rattle.walk_intrinsics.specs.Functions.{meaning};
 ghost use Rattle.walk_operands.specs.Operands.{AreOperandsIn, IsOperandIn, operand_tree, operand_trees};
-ghost use Rattle.walk_operators.specs.Operators.{element_of, of_one, of_two};
+ghost use Rattle.walk_expr.specs.Parts as parts;
 ghost use Rattle.walk_setting.specs.Settings.{DoesIn};
 ghost use Rattle.walk_state.specs.Moments.{Follows, IsWalk, moment};
 
@@ -81,7 +78,7 @@ fn single(walk: &mut Walk, card: &Card, op: Unary, a: &Expr) -> Result<Operand, 
     requires ready { (p : Program) × IsReady walk.old.pool card.now.setting.now.scene.now p }
     ensures on { Follows walk.old walk.new }
     ensures is_in { IfOk result (λ x. IsOperandIn (length walk.new.pool) x) }
-    ensures did { IfOk result (λ x. DoesIn walk.old.pool card.now.setting.now (moment walk.old) (λ w. steps.value w card.now.number (moment walk.old).now a.now >>= of_one w card.now.number op) (moment walk.new) (operand_tree walk.new.pool x)) }
+    ensures did { IfOk result (λ x. DoesIn walk.old.pool card.now.setting.now (moment walk.old) (λ w. parts.of_single w card.now.number (moment walk.old).now op a.now) (moment walk.new) (operand_tree walk.new.pool x)) }
 {
     let first = value(walk, card, a)?;
     let id = unary_value(walk, card.number, op, first)?;
@@ -101,7 +98,7 @@ fn double(
     requires ready { (p : Program) × IsReady walk.old.pool card.now.setting.now.scene.now p }
     ensures on { Follows walk.old walk.new }
     ensures is_in { IfOk result (λ x. IsOperandIn (length walk.new.pool) x) }
-    ensures did { IfOk result (λ x. DoesIn walk.old.pool card.now.setting.now (moment walk.old) (λ w. steps.value w card.now.number (moment walk.old).now a.now >>= λ v. steps.value w card.now.number (moment walk.old).now b.now >>= of_two w card.now.number op v) (moment walk.new) (operand_tree walk.new.pool x)) }
+    ensures did { IfOk result (λ x. DoesIn walk.old.pool card.now.setting.now (moment walk.old) (λ w. parts.of_double w card.now.number (moment walk.old).now op a.now b.now) (moment walk.new) (operand_tree walk.new.pool x)) }
 {
     let first = value(walk, card, a)?;
     let second = value(walk, card, b)?;
@@ -154,11 +151,12 @@ fn element(walk: &mut Walk, card: &Card, a: &Name, args: &[Expr]) -> Result<Oper
     requires ready { (p : Program) × IsReady walk.old.pool card.now.setting.now.scene.now p }
     ensures on { Follows walk.old walk.new }
     ensures is_in { IfOk result (λ x. IsOperandIn (length walk.new.pool) x) }
-    ensures did { IfOk result (λ x. DoesIn walk.old.pool card.now.setting.now (moment walk.old) (λ w. steps.values w card.now.number (moment walk.old).now (row_of args.now) >>= element_of w card.now.number (moment walk.old).now a.now (names.dims_of w.unit a.now)) (moment walk.new) (operand_tree walk.new.pool x)) }
+    ensures did { IfOk result (λ x. DoesIn walk.old.pool card.now.setting.now (moment walk.old) (λ w. parts.of_element w card.now.number (moment walk.old).now a.now args.now) (moment walk.new) (operand_tree walk.new.pool x)) }
 {
     let subscripts = values(walk, card, args)?;
     let dims = card.setting.book.dims(a);
-    element_at(walk, card.number, a, dims, subscripts.as_slice())
+    let part = element_at(walk, card.number, a, dims, subscripts.as_slice())?;
+    Ok(part)
 }
 
 // An intrinsic function.
@@ -173,7 +171,7 @@ fn built_in(
     requires ready { (p : Program) × IsReady walk.old.pool card.now.setting.now.scene.now p }
     ensures on { Follows walk.old walk.new }
     ensures is_in { IfOk result (λ x. IsOperandIn (length walk.new.pool) x) }
-    ensures did { IfOk result (λ x. DoesIn walk.old.pool card.now.setting.now (moment walk.old) (λ w. steps.values w card.now.number (moment walk.old).now (row_of args.now) >>= λ vs. steps.computed w (steps.intrinsic_value w card.now.number (meaning function) vs)) (moment walk.new) (operand_tree walk.new.pool x)) }
+    ensures did { IfOk result (λ x. DoesIn walk.old.pool card.now.setting.now (moment walk.old) (λ w. parts.of_built_in w card.now.number (moment walk.old).now (meaning function) args.now) (moment walk.new) (operand_tree walk.new.pool x)) }
 {
     let given = values(walk, card, args)?;
     let id = intrinsic_value(walk, card.number, function, given.as_slice())?;
@@ -187,7 +185,7 @@ fn reference(walk: &mut Walk, card: &Card, a: &Name, args: &[Expr]) -> Result<Op
     requires ready { (p : Program) × IsReady walk.old.pool card.now.setting.now.scene.now p }
     ensures on { Follows walk.old walk.new }
     ensures is_in { IfOk result (λ x. IsOperandIn (length walk.new.pool) x) }
-    ensures did { IfOk result (λ x. DoesIn walk.old.pool card.now.setting.now (moment walk.old) (λ w. steps.operands w card.now.number (moment walk.old).now (row_of args.now) >>= λ xs. calls.call w card.now.number (names.function w.program.units a.now) (moment walk.old).now xs >>= λ c. see (calls.Computed (c.1))) (moment walk.new) (operand_tree walk.new.pool x)) }
+    ensures did { IfOk result (λ x. DoesIn walk.old.pool card.now.setting.now (moment walk.old) (λ w. parts.of_reference w card.now.number (moment walk.old).now a.now args.now) (moment walk.new) (operand_tree walk.new.pool x)) }
 {
     let actuals = operands(walk, card, args)?;
     let callee = card.setting.function(a);
@@ -202,7 +200,7 @@ fn applied(walk: &mut Walk, card: &Card, a: &Name, args: &[Expr]) -> Result<Oper
     requires ready { (p : Program) × IsReady walk.old.pool card.now.setting.now.scene.now p }
     ensures on { Follows walk.old walk.new }
     ensures is_in { IfOk result (λ x. IsOperandIn (length walk.new.pool) x) }
-    ensures did { IfOk result (λ x. DoesIn walk.old.pool card.now.setting.now (moment walk.old) (λ w. steps.apply w card.now.number (moment walk.old).now a.now (names.applied w.unit a.now) (steps.values w card.now.number (moment walk.old).now (row_of args.now)) (steps.operands w card.now.number (moment walk.old).now (row_of args.now))) (moment walk.new) (operand_tree walk.new.pool x)) }
+    ensures did { IfOk result (λ x. DoesIn walk.old.pool card.now.setting.now (moment walk.old) (λ w. parts.of_applied w card.now.number (moment walk.old).now a.now args.now) (moment walk.new) (operand_tree walk.new.pool x)) }
 {
     if !card.setting.book.dims(a).is_empty() {
         return element(walk, card, a, args);

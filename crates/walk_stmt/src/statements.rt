@@ -1,18 +1,13 @@
 // Statements, under the choices of a path.
 ghost use Rattle.std.specs.Prelude.{◌≡◌, ◌<◌, Some, length, slice_get, OnOk};
-ghost use Rattle.fort_syntax.specs.Names as names;
-ghost use Rattle.fort_syntax.specs.TreePatterns.{row_of};
 ghost use Rattle.fort_syntax.specs.declared.unit.Line.{Line};
 ghost use Rattle.fort_notes.specs.Assertions.{Notes};
 ghost use Rattle.fort_model.specs.Graphs.{IsBehind, IsGraphOf, IsTargetOf};
 ghost use Rattle.fort_model.specs.Program.{Program};
-ghost use Rattle.fort_model.specs.Seen.{see, ◌>>=◌, ◌>>◌};
-ghost use Rattle.fort_model.specs.Senses.{negated};
-ghost use Rattle.fort_model.specs.WalkCalls as calls;
-ghost use Rattle.fort_model.specs.WalkExpr as steps;
 ghost use Rattle.fort_model.specs.WalkStmt as forms;
 ghost use Rattle.fort_syntax.specs.declared.stmt.Stmt.TheViews as stmt;
 ghost use Rattle.path_scene.specs.Scenes.{IsReady};
+ghost use Rattle.walk_stmt.specs.Parts as parts;
 ghost use Rattle.walk_setting.specs.Settings.{PerformsIn};
 ghost use Rattle.walk_state.specs.Moments.{Follows, IsWalk, moment};
 
@@ -40,7 +35,7 @@ fn perform_assignment(
     requires ready { (p : Program) × IsReady walk.old.pool at.now.flow.now.setting.now.scene.now p }
     requires target { IsBehind at.now.flow.now.setting.now.book.now.unit.now at.now.flow.now.graph.now.forks at.now.point at.now.target }
     ensures on { Follows walk.old walk.new }
-    ensures did { OnOk result (PerformsIn walk.old.pool at.now.flow.now.setting.now (moment walk.old) (λ w. steps.value w at.now.card (moment walk.old).now right.now >>= λ v. forms.assign w at.now.card (moment walk.old).now left.now v >>= λ after. forms.behind w at.now.card at.now.point after choices.now) (moment walk.new)) }
+    ensures did { OnOk result (PerformsIn walk.old.pool at.now.flow.now.setting.now (moment walk.old) (λ w. parts.of_assignment w at.now.card at.now.point (moment walk.old).now left.now right.now choices.now) (moment walk.new)) }
 {
     let term = value(walk, &at.at_card(), right)?;
     assign(walk, &at.at_card(), left, term)?;
@@ -59,7 +54,7 @@ fn perform_call(
     requires ready { (p : Program) × IsReady walk.old.pool at.now.flow.now.setting.now.scene.now p }
     requires target { IsBehind at.now.flow.now.setting.now.book.now.unit.now at.now.flow.now.graph.now.forks at.now.point at.now.target }
     ensures on { Follows walk.old walk.new }
-    ensures did { OnOk result (PerformsIn walk.old.pool at.now.flow.now.setting.now (moment walk.old) (λ w. steps.operands w at.now.card (moment walk.old).now (row_of args.now) >>= λ xs. calls.call w at.now.card (names.subroutine w.program.units called.now) (moment walk.old).now xs >>= λ after. forms.behind w at.now.card at.now.point (after.0) choices.now) (moment walk.new)) }
+    ensures did { OnOk result (PerformsIn walk.old.pool at.now.flow.now.setting.now (moment walk.old) (λ w. parts.of_call w at.now.card at.now.point (moment walk.old).now called.now args.now choices.now) (moment walk.new)) }
 {
     let actuals = operands(walk, &at.at_card(), args)?;
     let callee = at.flow.setting.subroutine(called);
@@ -77,7 +72,7 @@ fn perform_call(
 fn perform_return(walk: &mut Walk, at: &Standing) -> Result<(), NoMemory>
     requires { IsWalk walk.old }
     ensures on { Follows walk.old walk.new }
-    ensures did { OnOk result (PerformsIn walk.old.pool at.now.flow.now.setting.now (moment walk.old) (λ w. forms.result w at.now.card (moment walk.old).now (names.is_function w.unit) >> see (moment walk.old).now) (moment walk.new)) }
+    ensures did { OnOk result (PerformsIn walk.old.pool at.now.flow.now.setting.now (moment walk.old) (λ w. parts.of_return w at.now.card at.now.point (moment walk.old).now) (moment walk.new)) }
 {
     let unit = at.flow.setting.book.unit;
     if unit.sort.is_none() {
@@ -97,7 +92,7 @@ fn pass_carried(
     requires ready { (p : Program) × IsReady walk.old.pool at.now.flow.now.setting.now.scene.now p }
     requires target { IsBehind at.now.flow.now.setting.now.book.now.unit.now at.now.flow.now.graph.now.forks at.now.point at.now.target }
     ensures on { Follows walk.old walk.new }
-    ensures did { OnOk result (PerformsIn walk.old.pool at.now.flow.now.setting.now (moment walk.old) (λ w. (steps.value w at.now.card (moment walk.old).now e.now >>= λ v. forms.taken w (negated w.sense v)) >> forms.behind w at.now.card at.now.point (moment walk.old).now choices.now) (moment walk.new)) }
+    ensures did { OnOk result (PerformsIn walk.old.pool at.now.flow.now.setting.now (moment walk.old) (λ w. parts.of_passed w at.now.card at.now.point (moment walk.old).now e.now choices.now) (moment walk.new)) }
 {
     is_false(walk, &at.at_card(), e)?;
     behind(walk, at, choices)

@@ -25,9 +25,9 @@ pub fn tests_from(walk: &mut Walk, at: &Standing, choices: &[usize]) -> Result<(
             return Ok(());
         };
         if *choice == 1 {
-            return go_round(walk, &at.at_card(), found.test);
+            return go_round(walk, &at.at_card(), &found.test);
         }
-        leave(walk, &at.at_card(), found.test)?;
+        leave(walk, &at.at_card(), &found.test)?;
         target = found.next;
     }
     Ok(())
