@@ -81,7 +81,7 @@ same_some a b e = cc
 drop_none : (cs : List ℕ) → drop 0 cs ≡ cs
 drop_none cs = grind (arith, common_steps)
 
-drop_more : (cs : List ℕ) (k c : ℕ) → k < length cs → c ≡ get_or cs k c → drop k cs ≡ c ∷ drop (suc k) cs
+drop_more : (cs : List ℕ) (k c : ℕ) → k < length cs → c ≡ get_or cs k 0 → drop k cs ≡ c ∷ drop (suc k) cs
 drop_more [] k c lt is = absurd (omega arith)
 drop_more (x ∷ cs) zero c lt is = ap (λ (y : ℕ). y ∷ cs) (sym is)
 drop_more (x ∷ cs) (suc k) c lt is = drop_more cs k c (omega arith) is
@@ -147,7 +147,7 @@ module _ (s : Setting) (forks : List Fork) (card : ℕ) (cs : List ℕ) (w0 : Wa
           }
 
       -- the test of the first, and of the others behind it
-      here : (v : Sight Tree) (now : Named Tree) (q : ℕ) (rest : List Loop) (x : IsNext q rest) → k < length cs → c ≡ get_or cs k c
+      here : (v : Sight Tree) (now : Named Tree) (q : ℕ) (rest : List Loop) (x : IsNext q rest) → k < length cs → c ≡ get_or cs k 0
           → forms.tests v card now rest (drop k cs) ≡ cond (c == 1) (goes_round v card now found.test) (is_left v card now found.test >>= λ after. forms.tests v card after x.others (drop (suc k) cs))
       here v now q rest x lt is =
           (λ i. forms.tests v card now (x.is i) (drop_more cs k c lt is i))
@@ -157,7 +157,7 @@ module _ (s : Setting) (forks : List Fork) (card : ℕ) (cs : List ℕ) (w0 : Wa
       -- a DO goes round again
       pub round_again : (w1 : Walk) → AreLeft s forks card cs w0 t0 w t k
           → ((q : ℕ) (ds : List Loop) → AreTests forks q ds t → AreLoopsOf s.book.now.unit.now ds → IsNextTest s.book.now.unit.now forks q ds (Some found))
-          → k < length cs → c ≡ get_or cs k c → (c == 1) ≡ true → PerformsIn w.pool s (moment w) (λ v. goes_round v card (moment w).now found.test) (moment w1)
+          → k < length cs → c ≡ get_or cs k 0 → (c == 1) ≡ true → PerformsIn w.pool s (moment w) (λ v. goes_round v card (moment w).now found.test) (moment w1)
           → (q : ℕ) (ds : List Loop) → AreTests forks q ds t0 → AreLoopsOf s.book.now.unit.now ds → PerformsIn w0.pool s (moment w0) (λ v. forms.tests v card (moment w0).now ds cs) (moment w1)
       round_again w1 h next lt is one did q ds tests stand =
           let x = h q ds tests stand in
@@ -169,7 +169,7 @@ module _ (s : Setting) (forks : List Fork) (card : ℕ) (cs : List ℕ) (w0 : Wa
       -- a DO is left
       pub left_behind : (w1 : Walk) (n : ℕ) → AreLeft s forks card cs w0 t0 w t k
           → ((q : ℕ) (ds : List Loop) → AreTests forks q ds t → AreLoopsOf s.book.now.unit.now ds → IsNextTest s.book.now.unit.now forks q ds (Some found))
-          → k < length cs → c ≡ get_or cs k c → (c == 1) ≡ false → Grows w.pool w1.pool → PerformsIn w.pool s (moment w) (λ v. is_left v card (moment w).now found.test) (moment w1) → n ≡ suc k
+          → k < length cs → c ≡ get_or cs k 0 → (c == 1) ≡ false → Grows w.pool w1.pool → PerformsIn w.pool s (moment w) (λ v. is_left v card (moment w).now found.test) (moment w1) → n ≡ suc k
           → AreLeft s forks card cs w0 t0 w1 found.next n
       left_behind w1 n h next lt is other g did count q ds tests stand =
           let x = h q ds tests stand in
@@ -185,3 +185,25 @@ module _ (s : Setting) (forks : List Fork) (card : ℕ) (cs : List ℕ) (w0 : Wa
                 ∙ ap (λ (b : Bool). cond b (goes_round (seen_from s p) card (moment w).now found.test) (is_left (seen_from s p) card (moment w).now found.test >>= λ after. forms.tests (seen_from s p) card after y.others (drop (suc k) cs))) other))
                 (performs_on_to s w w1 m (λ v. is_left v card (moment w).now found.test) (λ v after. forms.tests v card after y.others (drop (suc k) cs)) g did left));
           }
+
+-- ---- what is done at the card of a statement
+
+pub at_card_round : (w w1 : Walk) (told s : Setting) (number card : ℕ) (d : DoTest) → told ≡ s → number ≡ card → PerformsIn w.pool told (moment w) (λ v. goes_round v number (moment w).now d) (moment w1)
+    → PerformsIn w.pool s (moment w) (λ v. goes_round v card (moment w).now d) (moment w1)
+at_card_round w w1 told s number card d same is h =
+    subst (λ (k : ℕ). PerformsIn w.pool s (moment w) (λ v. goes_round v k (moment w).now d) (moment w1)) is
+    (subst (λ (x : Setting). PerformsIn w.pool x (moment w) (λ v. goes_round v number (moment w).now d) (moment w1)) same h)
+
+pub at_card_left : (w w1 : Walk) (told s : Setting) (number card : ℕ) (d : DoTest) → told ≡ s → number ≡ card → PerformsIn w.pool told (moment w) (λ v. is_left v number (moment w).now d) (moment w1)
+    → PerformsIn w.pool s (moment w) (λ v. is_left v card (moment w).now d) (moment w1)
+at_card_left w w1 told s number card d same is h =
+    subst (λ (k : ℕ). PerformsIn w.pool s (moment w) (λ v. is_left v k (moment w).now d) (moment w1)) is
+    (subst (λ (x : Setting). PerformsIn w.pool x (moment w) (λ v. is_left v number (moment w).now d) (moment w1)) same h)
+
+pub is_one : (c : ℕ) → c ≡ 1 → (c == 1) ≡ true
+is_one c e = ap (λ (k : ℕ). k == 1) e
+
+pub is_other : (c : ℕ) → (c ≡ 1 → ⊥) → (c == 1) ≡ false
+is_other zero h = grind arith
+is_other (suc zero) h = absurd (h refl)
+is_other (suc (suc c)) h = grind arith
