@@ -1,0 +1,4 @@
+pub mod Put
+pub mod Placed
+pub mod Framed
+pub mod Told

@@ -1,0 +1,3 @@
+pub mod NotesTold
+pub mod Shapes
+pub mod Kept
