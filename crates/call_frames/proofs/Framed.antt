@@ -41,18 +41,18 @@ same_other (d ∷ ds) (t ∷ ts) before after x e = ap (λ (s : Tree). cond (sam
 -- a shared data name is among all of them
 shared_among : (ds : List DataName) (x : Name) → has_role is_shared_role (data_name_in ds x) ≡ true → is_among x (all_shared ds) ≡ true
 shared_among [] x h = absurd (cc)
-shared_among (d ∷ ds) x h = by (same_bytes d.name x) refl
+shared_among (d ∷ ds) x h = by (same_bytes d.name x) refl (shared_among ds x)
   where
     front : (b : Bool) → b ≡ true → same_bytes x d.name ≡ true → is_among x (cond b (d.name ∷ []) [] ++ all_shared ds) ≡ true
     front true e like = ap (λ (c : Bool). c || is_among x (all_shared ds)) like
     front false e like = absurd (cc)
 
-    by : (b : Bool) → same_bytes d.name x ≡ b → is_among x (all_shared (d ∷ ds)) ≡ true
-    by true e =
+    by : (b : Bool) → same_bytes d.name x ≡ b → (has_role is_shared_role (data_name_in ds x) ≡ true → is_among x (all_shared ds) ≡ true) → is_among x (all_shared (d ∷ ds)) ≡ true
+    by true e rest =
         front (is_shared_role d.role) (sym (ap (λ (c : Bool). has_role is_shared_role (cond c (Some d) (data_name_in ds x))) e) ∙ h) (nat_list_eq_equiv.symm x d.name ∙ e)
-    by false e =
+    by false e rest =
         among_both x (shared_in d) (all_shared ds)
-        ∙ or_second (is_among x (shared_in d)) (is_among x (all_shared ds)) (shared_among ds x (sym (ap (λ (c : Bool). has_role is_shared_role (cond c (Some d) (data_name_in ds x))) e) ∙ h))
+        ∙ or_second (is_among x (shared_in d)) (is_among x (all_shared ds)) (rest (sym (ap (λ (c : Bool). has_role is_shared_role (cond c (Some d) (data_name_in ds x))) e) ∙ h))
 
 pub fills : (n0 n1 n2 : List Node) (a b c : Names) (g : Routine) (ts us : List Tree) (own : Named Tree) → IsFilled n0 a n1 b (all_shared g.names) own → IsPlaced n1 b n2 c g.dummies us → us ≡ ts
     → Fills a.table n2 c g (with_terms g.dummies ts own)
@@ -77,13 +77,12 @@ frame_as nodes names g told other f e = subst (λ (t : Named Tree). IsFrame node
 has_term : (table : List (List ℕ)) (ids : List TermId) (x : List ℕ) → length table ≡ length ids → is_among x table ≡ true → has_entry table ids x ≡ true
 has_term [] ids x e h = absurd (cc)
 has_term (n ∷ table) [] x e h = absurd (cc)
-has_term (n ∷ table) (id ∷ ids) x e h = by (same_bytes x n) refl
+has_term (n ∷ table) (id ∷ ids) x e h = by (same_bytes x n) refl (has_term table ids x (let k : length table ≡ length ids = cc in k))
   where
-    by : (b : Bool) → same_bytes x n ≡ b → has_entry (n ∷ table) (id ∷ ids) x ≡ true
-    by true t = ap (λ (b : Bool). is_some (if b then Some id else term_named table ids x)) t
-    by false f =
-        ap (λ (b : Bool). is_some (if b then Some id else term_named table ids x)) f
-        ∙ has_term table ids x (let k : length table ≡ length ids = cc in k) (sym (ap (λ (b : Bool). b || is_among x table) f) ∙ h)
+    by : (b : Bool) → same_bytes x n ≡ b → (is_among x table ≡ true → has_entry table ids x ≡ true) → has_entry (n ∷ table) (id ∷ ids) x ≡ true
+    by true t rest = ap (λ (b : Bool). is_some (if b then Some id else term_named table ids x)) t
+    by false f rest =
+        ap (λ (b : Bool). is_some (if b then Some id else term_named table ids x)) f ∙ rest (sym (ap (λ (b : Bool). b || is_among x table) f) ∙ h)
 
 pub entry_now : (nodes : List Node) (names : Names) (entry : List TermId) (g : Routine) (told : Named Tree) → IsFrame nodes names g told → entry ≡ names.terms.items → HasEntry nodes names.table entry g told
 entry_now nodes names entry g told f e = record {
@@ -95,15 +94,16 @@ entry_now nodes names entry g told f e = record {
 found_still : (table more : List (List ℕ)) (entry : List TermId) (x : List ℕ) → has_entry table entry x ≡ true → term_named (table ++ more) entry x ≡ term_named table entry x
 found_still [] more entry x h = absurd (cc)
 found_still (n ∷ table) more [] x h = absurd (cc)
-found_still (n ∷ table) more (id ∷ entry) x h = by (same_bytes x n) refl
+found_still (n ∷ table) more (id ∷ entry) x h = by (same_bytes x n) refl (found_still table more entry x)
   where
-    by : (b : Bool) → same_bytes x n ≡ b → term_named ((n ∷ table) ++ more) (id ∷ entry) x ≡ term_named (n ∷ table) (id ∷ entry) x
-    by true t =
+    by : (b : Bool) → same_bytes x n ≡ b → (has_entry table entry x ≡ true → term_named (table ++ more) entry x ≡ term_named table entry x)
+        → term_named ((n ∷ table) ++ more) (id ∷ entry) x ≡ term_named (n ∷ table) (id ∷ entry) x
+    by true t rest =
         ap (λ (b : Bool). if b then Some id else term_named (table ++ more) entry x) t
         ∙ sym (ap (λ (b : Bool). if b then Some id else term_named table entry x) t)
-    by false f =
+    by false f rest =
         ap (λ (o : Option TermId). if same_bytes x n then Some id else o)
-        (found_still table more entry x (sym (ap (λ (b : Bool). is_some (if b then Some id else term_named table entry x)) f) ∙ h))
+        (rest (sym (ap (λ (b : Bool). is_some (if b then Some id else term_named table entry x)) f) ∙ h))
 
 pub entry_stays : (old new : List Node) (table longer : List (List ℕ)) (entry : List TermId) (g : Routine) (told : Named Tree) → Grows old new → Extends table longer → HasEntry old table entry g told
     → HasEntry new longer entry g told

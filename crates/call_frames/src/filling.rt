@@ -1,6 +1,7 @@
 // All names of a called unit, put into a frame.
 ghost use Rattle.std.specs.Prelude.{◌≡◌, length, OnOk};
 ghost use Rattle.formula.specs.Pool.{AllBelow, IsIn, tree_of};
+ghost use Rattle.fort_syntax.specs.Names.{is_local};
 ghost use Rattle.call_frames.specs.Frames.{Fills, IsFilled, IsPlaced, all_shared, own_of, shared_in, told_by};
 ghost use Rattle.note_terms.specs.Stated.{trees_in};
 ghost use Rattle.walk_names.specs.Names.{IsNames};
@@ -13,6 +14,18 @@ use formula::TermId;
 use fort_syntax::{DataName, Name, Role};
 use walk_names::Names;
 use walk_state::Walk;
+
+/// A data name is a local one.
+fn is_local(entity: &DataName) -> bool
+    ensures { result ≡ is_local entity.now.role }
+{
+    match entity.role {
+        Role::Local => true,
+        Role::Dummy => false,
+        Role::InCommon => false,
+        Role::OwnValue => false,
+    }
+}
 
 /// A data name stands for what it does where it is no dummy; a local name is left out.
 fn put_data(
@@ -29,11 +42,12 @@ fn put_data(
     ensures same { moment walk.new ≡ moment walk.old }
     ensures filled { OnOk result (IsFilled walk.old.pool frame.old walk.new.pool frame.new (shared_in entity.now) (own_of callee.now.unit.now (moment walk.old).now (tree_of walk.old.pool value))) }
 {
-    if matches!(entity.role, Role::Local) {
+    if is_local(entity) {
         return Ok(());
     }
     let id = own_term(walk, callee, value, &entity.name)?;
-    put(walk, frame, &entity.name, id)
+    put(walk, frame, &entity.name, id)?;
+    Ok(())
 }
 
 /// All data names but the local ones, as `put_data` puts them.
@@ -97,5 +111,6 @@ pub(crate) fn fill(
     ensures fills { OnOk result (Fills frame.old.table walk.new.pool frame.new callee.now.unit.now (told_by callee.now.unit.now (trees_in walk.old.pool actuals.now) (moment walk.old).now (tree_of walk.old.pool value))) }
 {
     put_names(walk, frame, callee, value, callee.unit.names.as_slice())?;
-    put_actuals(walk, frame, callee.unit.dummies.as_slice(), actuals)
+    put_actuals(walk, frame, callee.unit.dummies.as_slice(), actuals)?;
+    Ok(())
 }

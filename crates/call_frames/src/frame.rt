@@ -14,6 +14,7 @@ use crate::filling::fill;
 use call_sites::Book;
 use edge_io::NoMemory;
 use formula::TermId;
+use std::alloc::Global;
 use walk_names::Names;
 use walk_state::Walk;
 use walk_terms::undefined;
@@ -24,6 +25,19 @@ use walk_terms::undefined;
 pub struct Frame {
     pub names: Names,
     pub entry: Vec<TermId>,
+}
+
+/// The same ids.
+fn copied(alloc: Global, ids: &[TermId]) -> Result<Vec<TermId>, NoMemory>
+    ensures { IfOk result (λ all. all.items ≡ ids.now) }
+{
+    let mut all = Vec::new(alloc);
+    for id in ids {
+        let Ok(()) = all.push(*id) else {
+            return Err(NoMemory);
+        };
+    }
+    Ok(all)
 }
 
 /// The frame of a called unit at its entry: dummies stand for the actuals, COMMON entities for what
@@ -40,7 +54,7 @@ pub fn enter(walk: &mut Walk, callee: &Book, actuals: &[TermId]) -> Result<Frame
     };
     let mut names = Names::new(walk.alloc, walk.pool.keys());
     fill(walk, &mut names, callee, actuals, none)?;
-    let Ok(entry) = names.terms.as_slice().to_vec(walk.alloc) else {
+    let Ok(entry) = copied(walk.alloc, names.terms.as_slice()) else {
         return Err(NoMemory);
     };
     Ok(Frame { names, entry })
@@ -64,5 +78,6 @@ pub fn leave(
     ensures tells { OnOk result (IsFrame walk.new.pool frame.new.names callee.now.unit.now (told_by callee.now.unit.now (trees_in walk.old.pool actuals.now) (moment walk.old).now (tree_of walk.old.pool value))) }
     ensures entry { OnOk result ((told : Named Tree) → HasEntry walk.old.pool frame.old.names.table frame.old.entry.items callee.now.unit.now told → HasEntry walk.new.pool frame.new.names.table frame.new.entry.items callee.now.unit.now told) }
 {
-    fill(walk, &mut frame.names, callee, actuals, value)
+    fill(walk, &mut frame.names, callee, actuals, value)?;
+    Ok(())
 }
