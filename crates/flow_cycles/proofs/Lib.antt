@@ -1,0 +1,4 @@
+pub mod Marking
+pub mod Ways
+pub mod Telling
+pub mod Firsts
