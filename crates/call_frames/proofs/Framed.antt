@@ -1,8 +1,8 @@
 -- Frames of called units.
-use Rattle.std.proofs.Common.{◌≡◌, ℕ, zero, suc, ◌||◌, Bool, true, false, cond, Option, Some, None, is_some, if◌then◌else◌, List, [], ◌∷◌, ◌++◌, length, map, refl, sym, ap, ◌∙◌, subst, arith}
-use Rattle.std.specs.Cmp.Lexicographic.{same_text, nat_list_eq_equiv}
+use Rattle.std.proofs.Common.{◌≡◌, ℕ, ◌||◌, Bool, true, false, cond, Option, Some, is_some, if◌then◌else◌, List, [], ◌∷◌, ◌++◌, length, refl, sym, ap, ◌∙◌, subst}
+use Rattle.std.specs.Cmp.Lexicographic.{nat_list_eq_equiv}
 use Rattle.formula.specs.Atoms.{is_among, same_bytes}
-use Rattle.formula.specs.Pool.{AllBelow, Grows, tree_of}
+use Rattle.formula.specs.Pool.{AllBelow, Grows}
 use Rattle.formula.specs.Substitution.{term_named, tree_or}
 use Rattle.formula.specs.Tree.{Tree}
 use Rattle.formula.specs.declared.node.Node.{Node}
@@ -12,14 +12,13 @@ use Rattle.fort_model.specs.Seen.{Named}
 use Rattle.fort_syntax.specs.Names.{data_name_in, has_role}
 use Rattle.fort_syntax.specs.declared.name.Name.{Name}
 use Rattle.fort_syntax.specs.declared.unit.DataName.{DataName}
-use Rattle.fort_syntax.specs.declared.unit.Role.{Role}
 use Rattle.fort_syntax.specs.declared.unit.Unit.{Unit as Routine}
 use Rattle.note_terms.specs.Stated.{has_entry}
 use Rattle.walk_names.specs.declared.names.Logged.{Logged}
 use Rattle.walk_names.specs.declared.names.Names.{Names}
 use Rattle.walk_names.specs.Names.{AreLogged, Extends, IsNames, entry_of, named, named_by}
 use Rattle.walk_names.proofs.NameTables.{extends_more, named_grows}
-use Rattle.call_frames.specs.Frames.{Fills, HasEntry, IsFilled, IsFrame, IsPlaced, all_shared, filled, is_shared, is_shared_role, shared_in, with_terms}
+use Rattle.call_frames.specs.Frames.{Fills, HasEntry, IsFilled, IsFrame, IsPlaced, all_shared, is_shared, is_shared_role, shared_in, with_terms}
 use Rattle.call_frames.proofs.Put.{among_both, among_extends, or_second}
 
 -- ---- a frame of no names

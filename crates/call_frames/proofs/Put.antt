@@ -2,7 +2,7 @@
 use Rattle.std.proofs.Common.{◌≡◌, ℕ, zero, suc, ◌<◌, ◌||◌, Bool, true, false, cond, List, [], ◌∷◌, ◌++◌, length, take, get_or, append_assoc, refl, sym, ap, ◌∙◌, subst, arith}
 use Rattle.std.specs.Cmp.Lexicographic.{same_text, nat_list_eq_equiv}
 use Rattle.formula.specs.Atoms.{is_among, same_bytes}
-use Rattle.formula.specs.Pool.{AllBelow, Grows, IsIn, tree_of}
+use Rattle.formula.specs.Pool.{Grows, IsIn, tree_of}
 use Rattle.formula.specs.Tree.{Tree}
 use Rattle.formula.specs.declared.node.Node.{Node}
 use Rattle.formula.specs.declared.node.TermId.{TermId}

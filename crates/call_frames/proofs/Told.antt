@@ -1,27 +1,22 @@
 -- What a frame tells of notes, and what a call tells of names.
-use Rattle.std.proofs.Common.{◌≡◌, ℕ, Bool, true, false, cond, ◌&&◌, ◌||◌, codes, List, [], ◌∷◌, map, Option, Some, None, refl, sym, ap, ◌∙◌}
+use Rattle.std.proofs.Common.{◌≡◌, Bool, true, false, cond, ◌&&◌, ◌||◌, codes, List, [], ◌∷◌, map, Option, Some, None, refl, sym, ap, ◌∙◌}
 use Rattle.std.specs.List.{list_all}
 use Rattle.formula.specs.Atoms.{is_among, same_bytes}
 use Rattle.formula.specs.Substitution.{is_bound, substituted, row_substituted}
 use Rattle.formula.specs.TermTests.{names_pass, row_names_pass}
 use Rattle.formula.specs.Tree.{Tree, num, truth, symbol, old, apply, Row, none, more}
-use Rattle.formula.specs.declared.node.Node.{Node}
-use Rattle.formula.specs.declared.node.TermId.{TermId}
 use Rattle.fort_model.specs.Conditions.{sight}
 use Rattle.fort_model.specs.Fitting.{may_name}
-use Rattle.fort_model.specs.Program.{Program}
 use Rattle.fort_model.specs.Seen.{Named}
-use Rattle.fort_model.specs.Senses.{of_terms, with_bounds, least_integer, greatest_integer, note}
-use Rattle.fort_model.specs.WalkCalls.{Sight, seen_by, with_actuals}
+use Rattle.fort_model.specs.Senses.{of_terms, with_bounds, least_integer, greatest_integer}
+use Rattle.fort_model.specs.WalkCalls.{Sight, with_actuals}
 use Rattle.fort_syntax.specs.Names.{data_name, has_role}
 use Rattle.fort_syntax.specs.declared.name.Name.{Name}
 use Rattle.fort_syntax.specs.declared.unit.DataName.{DataName}
 use Rattle.fort_syntax.specs.declared.unit.Role.{Role}
-use Rattle.fort_syntax.specs.declared.unit.Unit.{Unit as Routine}
-use Rattle.note_terms.specs.Stated.{has_entry, is_known_term, is_told, stated}
-use Rattle.walk_names.specs.declared.names.Names.{Names}
+use Rattle.note_terms.specs.Stated.{has_entry, is_told}
 use Rattle.walk_names.specs.Names.{named, named_by}
-use Rattle.call_frames.specs.Frames.{HasEntry, IsFrame, is_shared, is_shared_role, own_of, told_by, with_terms}
+use Rattle.call_frames.specs.Frames.{is_shared_role, own_of, with_terms}
 use Rattle.call_frames.specs.Laws.{FramesTellNotes, ToldByCalls}
 
 both_parts : (a b : Bool) → (a && b) ≡ true → (a ≡ true) × (b ≡ true)

@@ -1,12 +1,12 @@
 -- A FUNCTION smashes no name of its caller.
-use Rattle.std.proofs.Common.{◌≡◌, ℕ, zero, suc, Bool, true, false, cond, not, ◌&&◌, ◌||◌, Option, Some, None, List, [], ◌∷◌, ◌++◌, slice_get, map, refl, sym, ap, ◌∙◌, subst}
+use Rattle.std.proofs.Common.{◌≡◌, ℕ, Bool, true, false, cond, not, ◌&&◌, ◌||◌, Option, Some, None, List, [], ◌∷◌, ◌++◌, slice_get, map, refl, sym, ap, ◌∙◌}
 use Rattle.std.specs.List.{filter, list_all, list_any}
 use Rattle.std.specs.Cmp.Lexicographic.{same_text, nat_list_eq_equiv}
 use Rattle.formula.specs.Atoms.{has_twin, is_among, same_bytes}
 use Rattle.formula.specs.Tree.{Tree}
 use Rattle.formula.specs.declared.node.Node.{Node}
-use Rattle.fort_syntax.specs.Names.{commons, data_name, data_name_in, has_common, has_role, is_function, is_in_common, is_own}
-use Rattle.fort_syntax.specs.WellFormed.{are_data_names, commons_of_unit, has_right_role, names_of_unit, own_value_of_unit, role_in_unit, same_role}
+use Rattle.fort_syntax.specs.Names.{commons, data_name, data_name_in, has_common, has_role, is_in_common, is_own}
+use Rattle.fort_syntax.specs.WellFormed.{commons_of_unit, has_right_role, names_of_unit, own_value_of_unit, role_in_unit, same_role}
 use Rattle.fort_syntax.specs.declared.name.Name.{Name}
 use Rattle.fort_syntax.specs.declared.rule.Rule.TheVariants.{FunctionSmashes}
 use Rattle.fort_syntax.specs.declared.unit.DataName.{DataName}
@@ -40,16 +40,17 @@ keeps_rule pool scene p j g ready is =
 unsmashed : (p : Program) (j : ℕ) (ds : List DataName) (x : Name) → list_any (λ d. not (is_own d.role) && is_smashed p j d.name) ds ≡ false → has_role is_visible_role (data_name_in ds x) ≡ true
     → is_smashed p j x ≡ false
 unsmashed p j [] x none h = absurd (cc)
-unsmashed p j (d ∷ ds) x none h = by (same_bytes d.name x) refl h
+unsmashed p j (d ∷ ds) x none h = by (same_bytes d.name x) refl h (unsmashed p j ds x)
   where
     parts : ((not (is_own d.role) && is_smashed p j d.name) ≡ false) × (list_any (λ e. not (is_own e.role) && is_smashed p j e.name) ds ≡ false)
     parts = neither (not (is_own d.role) && is_smashed p j d.name) (list_any (λ e. not (is_own e.role) && is_smashed p j e.name) ds) none
 
-    by : (b : Bool) → same_bytes d.name x ≡ b → has_role is_visible_role (cond b (Some d) (data_name_in ds x)) ≡ true → is_smashed p j x ≡ false
-    by true e k =
+    by : (b : Bool) → same_bytes d.name x ≡ b → has_role is_visible_role (cond b (Some d) (data_name_in ds x)) ≡ true
+        → (list_any (λ e. not (is_own e.role) && is_smashed p j e.name) ds ≡ false → has_role is_visible_role (data_name_in ds x) ≡ true → is_smashed p j x ≡ false) → is_smashed p j x ≡ false
+    by true e k rest =
         ap (is_smashed p j) (sym (same_text d.name x (sym e)))
         ∙ (sym (ap (λ (b : Bool). b && is_smashed p j d.name) k) ∙ parts.0)
-    by false e k = unsmashed p j ds x parts.1 k
+    by false e k rest = rest parts.1 k
 
 -- ---- dummies
 

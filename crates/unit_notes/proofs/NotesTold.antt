@@ -1,17 +1,12 @@
 -- The notes of a unit.
-use Rattle.std.proofs.Common.{◌≡◌, ℕ, zero, suc, true, Option, Some, None, List, [], ◌∷◌, length, map, slice_get, refl, sym, ap, ◌∙◌, subst}
+use Rattle.std.proofs.Common.{◌≡◌, ℕ, Option, Some, None, List, [], length, slice_get, refl, sym, ap, ◌∙◌, subst}
 use Rattle.std.specs.Prelude.{option_map}
-use Rattle.std.specs.List.{All}
 use Rattle.std.proofs.lemmas.List.Elements.{All-get_or}
 use Rattle.std.proofs.lemmas.Option.{get_or_from_slice_get, slice_get_within, slice_get-map}
-use Rattle.formula.specs.Pool.{AllBelow, tree_of}
-use Rattle.formula.specs.Tree.{Tree}
 use Rattle.formula.specs.declared.node.Node.{Node}
-use Rattle.formula.specs.declared.node.TermId.{TermId}
-use Rattle.fort_notes.specs.Assertions.{Assertion, Notes, no_notes, notes_tree}
+use Rattle.fort_notes.specs.Assertions.{Notes, no_notes, notes_tree}
 use Rattle.fort_notes.specs.declared.notes.UnitSpec.{UnitSpec}
 use Rattle.fort_model.specs.Fitting.{FitsUnit}
-use Rattle.fort_model.specs.Lists.{IsAmong}
 use Rattle.fort_model.specs.Program.{Program, notes_in, notes_of}
 use Rattle.fort_syntax.specs.declared.unit.Unit.{Unit as Routine}
 use Rattle.path_scene.specs.Scenes.{AreNotesIn, IsScene}

@@ -55,14 +55,14 @@ well_formed pool scene p i u ready is =
 -- a test that all data names pass
 pub data_passes : (test : DataName → Bool) (ds : List DataName) (x : Name) (d : DataName) → list_all test ds ≡ true → data_name_in ds x ≡ Some d → test d ≡ true
 data_passes test [] x d all e = absurd (none_some d e)
-data_passes test (c ∷ ds) x d all e = by (same_bytes c.name x) e
+data_passes test (c ∷ ds) x d all e = by (same_bytes c.name x) e (data_passes test ds x d)
   where
     parts : (test c ≡ true) × (list_all test ds ≡ true)
     parts = both_parts (test c) (list_all test ds) all
 
-    by : (b : Bool) → cond b (Some c) (data_name_in ds x) ≡ Some d → test d ≡ true
-    by true k = ap test (sym (some_is c d k)) ∙ parts.0
-    by false k = data_passes test ds x d parts.1 k
+    by : (b : Bool) → cond b (Some c) (data_name_in ds x) ≡ Some d → (list_all test ds ≡ true → data_name_in ds x ≡ Some d → test d ≡ true) → test d ≡ true
+    by true k rest = ap test (sym (some_is c d k)) ∙ parts.0
+    by false k rest = rest parts.1 k
 
 -- ---- shapes
 

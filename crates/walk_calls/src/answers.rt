@@ -29,13 +29,7 @@ fn names_hit(walk: &Walk, called: &Called, operands: &[Operand]) -> Result<List<
     };
     let caller = called.setting.book;
     match called.setting.scene.smashes.get(called.number) {
-        Some(smashed) => call_hits(
-            walk.alloc,
-            caller,
-            called.callee,
-            smashed,
-            bare.as_slice(),
-        ),
+        Some(smashed) => call_hits(walk.alloc, caller, called.callee, smashed, bare.as_slice()),
         None => {
             let none = NameSet::new(walk.alloc, walk.pool.keys());
             call_hits(walk.alloc, caller, called.callee, &none, bare.as_slice())

@@ -1,4 +1,4 @@
-use Rattle.std.proofs.Common.{◌≡◌, ◌∙◌, refl}
+use Rattle.std.proofs.Common.{◌∙◌, refl}
 use Rattle.formula.specs.Pool.{tree_of}
 use Rattle.formula.proofs.Grown.{AllBelow-Grows}
 use Rattle.fort_model.specs.Senses.{of_terms, undefined}

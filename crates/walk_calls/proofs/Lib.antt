@@ -1,0 +1,4 @@
+pub mod Chained
+pub mod Noted
+pub mod Operated
+pub mod Passed
