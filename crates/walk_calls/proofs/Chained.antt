@@ -4,14 +4,14 @@ use Rattle.call_facts.specs.Calls.{called}
 use Rattle.formula.specs.Tree.{Tree}
 use Rattle.fort_model.specs.Events.{Event, checks, takes}
 use Rattle.fort_model.specs.Program.{notes_of}
-use Rattle.fort_model.specs.Seen.{Named, See, ◌>>=◌, ◌>>◌, later, meet, next_answer, see}
+use Rattle.fort_model.specs.Seen.{Named, See, ◌>>=◌, ◌>>◌, later, meet, see}
 use Rattle.fort_model.specs.WalkCalls.{Operand, Bare, Part, Computed, Sight, call_unit, changed, hits, notes_told, result_facts, seen_by, stands_after}
 use Rattle.fort_model.specs.WalkPlaces.{sorts}
 use Rattle.fort_syntax.specs.declared.condition.Kind.TheVariants.{InputCheck}
 use Rattle.fort_syntax.specs.declared.name.Name.{Name}
 use Rattle.fort_syntax.specs.declared.unit.Unit.{Unit as Routine}
-use Rattle.walk_calls.specs.Calls.{IsCalled, called_at}
-use Rattle.walk_calls.specs.Parts.{TakesFacts, TakesOutput, after_call, before_call}
+use Rattle.walk_calls.specs.Calls.{IsCalled, called_at, unit_call}
+use Rattle.call_parts.specs.Parts.{TakesFacts, TakesOutput, after_call, before_call}
 use Rattle.walk_state.specs.Moments.{Did, Moment, met, with_answers, with_names}
 
 append_nothing : {A : Type 0} (xs : List A) → xs ≡ xs ++ []
@@ -30,10 +30,6 @@ after_same w now [] = refl
 after_same w now (Bare x v ∷ xs) = ap (λ (ts : List Tree). now x ∷ ts) (after_same w now xs)
 after_same w now (Part v ∷ xs) = ap (λ (ts : List Tree). v ∷ ts) (after_same w now xs)
 after_same w now (Computed v ∷ xs) = ap (λ (ts : List Tree). v ∷ ts) (after_same w now xs)
-
--- events that are met from a moment on
-pub did_as : (m0 m1 m2 : Moment) (es fs : List (Event Tree)) → Did m1 (meet es) m2 tt → m1 ≡ m0 → es ≡ fs → Did m0 (meet fs) m2 tt
-did_as m0 m1 m2 es fs d e f = record { is = d.is ∙ (λ j. met (e j) (meet (f j))); gives = refl }
 
 module _ (w : Sight Tree) (card i : ℕ) (g : Routine) (xs : List (Operand Tree)) where
   unit_called : (answer : Named Tree) (n a b c d : Moment)
@@ -88,7 +84,7 @@ module _ (w : Sight Tree) (card i : ℕ) (g : Routine) (xs : List (Operand Tree)
       → TakesFacts w g (hits w i g xs) (called k) b c
       → TakesOutput w i g xs (before_call w g xs n.now) (called k g.name) c d
       → value ≡ called k g.name
-      → IsCalled m (next_answer >>= call_unit w card i g m.now xs) d value
+      → IsCalled m (unit_call w card i g m.now xs) d value
   call_done k m n a b c d value e f first second third fourth is = record {
     is =
         unit_called (called k) n a b c d first second third fourth

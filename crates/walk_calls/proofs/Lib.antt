@@ -1,4 +1,2 @@
 pub mod Chained
-pub mod Noted
-pub mod Operated
-pub mod Passed
+pub mod Referred

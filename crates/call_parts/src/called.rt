@@ -9,7 +9,7 @@ use walk_setting::Setting;
 
 /// A call at a card of a unit, and the called unit with its number, from 0, in the program.
 #[derive(Drop)]
-pub(crate) struct Called<'a> {
+pub struct Called<'a> {
     pub setting: &'a Setting<'a>,
     pub card: u32,
     pub number: usize,

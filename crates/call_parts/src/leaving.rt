@@ -6,7 +6,7 @@ ghost use Rattle.call_frames.specs.Frames.{HasEntry};
 ghost use Rattle.fort_model.specs.Program.{Program};
 ghost use Rattle.fort_model.specs.Seen.{Named};
 ghost use Rattle.path_scene.specs.Scenes.{IsReady};
-ghost use Rattle.walk_calls.specs.Parts.{TakesOutput, after_call};
+ghost use Rattle.call_parts.specs.Parts.{TakesOutput, after_call};
 ghost use Rattle.walk_names.specs.Names.{IsNames};
 ghost use Rattle.walk_operands.specs.Operands.{AreOperandsIn, IsOperandIn, operand_tree, operand_trees};
 ghost use Rattle.walk_setting.specs.Settings.{seen_from};
@@ -58,7 +58,7 @@ fn terms_after(walk: &mut Walk, operands: &[Operand]) -> Result<Vec<TermId>, NoM
 
 /// The terms of the OUTPUT are facts, where the names of the called unit stand for what the caller's do
 /// now, and its own name for a value.
-pub(crate) fn leave_unit(
+pub fn leave_unit(
     walk: &mut Walk,
     called: &Called,
     frame: &mut Frame,
@@ -77,5 +77,6 @@ pub(crate) fn leave_unit(
     let terms = terms_after(walk, operands)?;
     leave(walk, frame, called.callee, terms.as_slice(), value)?;
     let output = output_of(called.setting.scene, called.number);
-    take_output(walk, &frame.names, frame.entry.as_slice(), output)
+    take_output(walk, &frame.names, frame.entry.as_slice(), output)?;
+    Ok(())
 }

@@ -2,7 +2,7 @@
 ghost use Rattle.std.specs.Prelude.{◌≡◌, length, IfOk};
 ghost use Rattle.fort_model.specs.Program.{Program};
 ghost use Rattle.path_scene.specs.Scenes.{IsReady};
-ghost use Rattle.walk_calls.specs.Parts.{Entered};
+ghost use Rattle.call_parts.specs.Parts.{Entered};
 ghost use Rattle.walk_operands.specs.Operands.{AreOperandsIn, operand_trees};
 ghost use Rattle.walk_setting.specs.Settings.{seen_from};
 ghost use Rattle.walk_state.specs.Moments.{Follows, IsWalk, moment};
@@ -16,11 +16,7 @@ use walk_operands::{Operand, terms_of};
 use walk_state::Walk;
 
 /// The names of the called unit stand for the actuals, and its INPUT is checked.
-pub(crate) fn enter_unit(
-    walk: &mut Walk,
-    called: &Called,
-    operands: &[Operand],
-) -> Result<Frame, NoMemory>
+pub fn enter_unit(walk: &mut Walk, called: &Called, operands: &[Operand]) -> Result<Frame, NoMemory>
     requires well { IsWalk walk.old }
     requires ready { (p : Program) × IsReady walk.old.pool called.now.setting.now.scene.now p }
     requires operands { AreOperandsIn (length walk.old.pool) operands.now }

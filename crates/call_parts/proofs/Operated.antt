@@ -15,7 +15,7 @@ use Rattle.note_terms.proofs.Added.{trees_grow}
 use Rattle.note_terms.specs.Stated.{trees_in}
 use Rattle.path_scene.specs.Scenes.{IsScene}
 use Rattle.path_scene.specs.declared.scene.Scene.{Scene}
-use Rattle.walk_calls.specs.Parts.{after_call}
+use Rattle.call_parts.specs.Parts.{after_call}
 use Rattle.walk_operands.specs.Operands.{AreOperandsIn, IsOperandIn, name_of, operand_tree, operand_trees}
 use Rattle.walk_operands.specs.declared.operand.Operand.{Operand}
 use Rattle.walk_operands.specs.declared.operand.Operand.TheVariants as is
@@ -37,6 +37,11 @@ there_dropped [] zero x e = absurd (nothing_more x [] e)
 there_dropped [] (suc k) x e = absurd (nothing_more x [] e)
 there_dropped (y ∷ xs) zero x e = same_first y x xs (drop 1 (y ∷ xs)) e
 there_dropped (y ∷ xs) (suc k) x e = there_dropped xs k x e
+
+-- the unit of a number in a program
+pub unit_in : (pool : List Node) (scene : Scene) (p : Program) (i : ℕ) (g : Routine) → IsScene pool scene p → drop i scene.books.now.units.now ≡ g ∷ drop (suc i) scene.books.now.units.now
+    → slice_get p.units i ≡ Some g
+unit_in pool scene p i g s e = ap (λ (us : List Routine). slice_get us i) (sym s.units) ∙ there_dropped scene.books.now.units.now i g e
 
 -- ---- bare names
 

@@ -5,7 +5,7 @@ ghost use Rattle.formula.specs.Pool.{IsIn, tree_of};
 ghost use Rattle.fort_model.specs.Program.{Program};
 ghost use Rattle.fort_model.specs.WalkCalls.{changed, hits};
 ghost use Rattle.path_scene.specs.Scenes.{IsReady, IsScene};
-ghost use Rattle.walk_calls.specs.Parts.{TakesFacts};
+ghost use Rattle.call_parts.specs.Parts.{TakesFacts};
 ghost use Rattle.walk_operands.specs.Operands.{operand_trees};
 ghost use Rattle.walk_setting.specs.Settings.{seen_from};
 ghost use Rattle.walk_state.specs.Moments.{Follows, IsWalk, moment, with_names};
@@ -38,7 +38,7 @@ fn names_hit(walk: &Walk, called: &Called, operands: &[Operand]) -> Result<List<
 }
 
 /// The smashed names of the caller stand for what the call of a number answers.
-pub(crate) fn smash_names(
+pub fn smash_names(
     walk: &mut Walk,
     called: &Called,
     operands: &[Operand],
@@ -55,7 +55,7 @@ pub(crate) fn smash_names(
 }
 
 /// The smashed names have their types, and the value of a FUNCTION is defined and has its type.
-pub(crate) fn take_facts(
+pub fn take_facts(
     walk: &mut Walk,
     called: &Called,
     names: &[Name],

@@ -18,9 +18,9 @@ use Rattle.note_terms.specs.Stated.{stated, trees_in}
 use Rattle.path_scene.specs.Scenes.{IsReady}
 use Rattle.path_scene.proofs.Staying.{ready_stays}
 use Rattle.unit_notes.specs.Terms.{AreTermsOf}
-use Rattle.walk_calls.specs.Parts.{Entered, TakesOutput, after_call, before_call}
-use Rattle.walk_calls.proofs.Chained.{did_as}
-use Rattle.walk_calls.proofs.Noted.{enters_grow, input_told, output_told}
+use Rattle.call_parts.specs.Parts.{Entered, TakesOutput, after_call, before_call}
+use Rattle.call_parts.proofs.Meeting.{did_as}
+use Rattle.call_parts.proofs.Noted.{enters_grow, input_told, output_told}
 use Rattle.walk_setting.specs.declared.setting.Setting.{Setting}
 use Rattle.walk_setting.specs.Settings.{seen_from}
 use Rattle.walk_state.specs.declared.walk.Walk.{Walk}
