@@ -1,8 +1,9 @@
 -- A note more that was judged.
-use Rattle.std.proofs.Common.{◌≡◌, ℕ, ◌+◌, ◌<◌, List, [], ◌∷◌, ◌++◌, length, map, drop, get_or, Result, Ok, Err, refl, sym, ap, ◌∙◌, subst, map-append}
+use Rattle.std.proofs.Common.{◌≡◌, ℕ, ◌+◌, ◌<◌, ◌≤◌, List, [], ◌∷◌, ◌++◌, length, map, drop, get_or, Result, Ok, Err, refl, sym, ap, ◌∙◌, subst}
+use Rattle.std.proofs.lemmas.List.{map-append}
 use Rattle.std.specs.List.{flat_map}
 use Rattle.std.proofs.lemmas.Grind.{flat_map-append}
-use Rattle.std.proofs.lemmas.List.{at_drop_more}
+use Rattle.std.proofs.lemmas.List.{at_drop_all, at_drop_more}
 use Rattle.formula.specs.Adding.{AreAdded}
 use Rattle.formula.specs.Headings.{headings_of}
 use Rattle.formula.specs.Pool.{Grows}
@@ -13,7 +14,7 @@ use Rattle.formula.proofs.Grown.{AllBelow-Grows}
 use Rattle.fort_syntax.specs.declared.deck.Deck.{Deck}
 use Rattle.fort_syntax.specs.declared.deck.Placed.{Placed}
 use Rattle.fort_syntax.specs.declared.refusal.Fault.{Fault}
-use Rattle.fort_syntax.specs.declared.rule.Rule.{Rule}
+use Rattle.fort_syntax.specs.declared.refusal.Refusal.{Refusal}
 use Rattle.fort_notes.specs.Forms.{Form, assertion, definition, input, output, proof}
 use Rattle.fort_notes.specs.Judging.{Judged, judge, judged_from, judged_then}
 use Rattle.note_parts.proofs.Rounds.{trees_of-Grows}
@@ -27,8 +28,9 @@ use Rattle.note_steps.proofs.Judges.{judge_is}
 use Rattle.note_steps.specs.declared.refused.Refused.{Refused}
 use Rattle.note_steps.specs.declared.refused.Refused.TheVariants as refused
 use Rattle.note_steps.specs.declared.taken.Taken.{Taken}
-use Rattle.note_judging.specs.Items.{judged_tree, judged_trees, noted_as, AreNotedIn, definitions_among, Holds, Learns, Steps}
+use Rattle.note_judging.specs.Items.{judged_tree, judged_trees, noted_as, AreNotedIn, definitions_among, Holds, Learns, IsSeated, Steps, Tells, refusal_by}
 use Rattle.note_judging.specs.declared.noted.Noted.{Noted}
+use Rattle.note_judging.specs.declared.seating.Seat.{Seat}
 
 -- ---- while the pool grows
 
@@ -90,18 +92,18 @@ module _ (old new : List Node) (ds after : List Definition) (t u : Taken) (items
   }
 
   -- the rest decides
-  pub goes_on : (deck : Deck) → told deck t (headings_of ds) n ≡ Ok (judged_note n (form_tree new f)) → Holds old ds t items
+  pub goes_on : (deck d : Deck) → d ≡ deck → told d t (headings_of ds) n ≡ Ok (judged_note n (form_tree new f)) → Holds old ds t items
       → Steps deck (judged_trees old items) n (judged_trees new more) (Ok tt)
-  goes_on deck said h rest =
-      ap (λ r. judged_then r n.card (λ j. judged_from deck (judged_trees old items ++ j ∷ []) rest)) (judge_is deck t ds n (judged_trees old items) h.knows ∙ said)
+  goes_on deck d same said h rest =
+      ap (λ r. judged_then r n.card (λ j. judged_from deck (judged_trees old items ++ j ∷ []) rest)) (judge_is deck t ds n (judged_trees old items) h.knows ∙ ap (λ x. told x t (headings_of ds) n) (sym same) ∙ said)
       ∙ ap (λ l. judged_from deck l rest) (sym (trees_pushed old new items more (noted_as n f) g h.inside pushed))
 
 -- the note is at fault
-pub fails : (view : NoteForm → Judged) (deck : Deck) (old : List Node) (ds : List Definition) (t : Taken) (items : List Noted) (n : Placed) (new : List Judged) (why : Refused)
-    → Says view (Err why) (told deck t (headings_of ds) n) → Holds old ds t items → Steps deck (judged_trees old items) n new (Err why)
-fails view deck old ds t items n new (refused.Broken rule) said h rest =
-    ap (λ r. judged_then r n.card (λ j. judged_from deck (judged_trees old items ++ j ∷ []) rest)) (judge_is deck t ds n (judged_trees old items) h.knows ∙ said)
-fails view deck old ds t items n new refused.Memory said h = tt
+pub fails : (view : NoteForm → Judged) (deck d : Deck) (old : List Node) (ds : List Definition) (t : Taken) (items : List Noted) (n : Placed) (new : List Judged) (why : Refused)
+    → d ≡ deck → Says view (Err why) (told d t (headings_of ds) n) → Holds old ds t items → Steps deck (judged_trees old items) n new (Err why)
+fails view deck d old ds t items n new (refused.Broken rule) same said h = λ rest.
+    ap (λ r. judged_then r n.card (λ j. judged_from deck (judged_trees old items ++ j ∷ []) rest)) (judge_is deck t ds n (judged_trees old items) h.knows ∙ ap (λ x. told x t (headings_of ds) n) (sym same) ∙ said)
+fails view deck d old ds t items n new refused.Memory same said h = tt
 
 -- ---- all notes
 
@@ -113,3 +115,35 @@ holds_none pool ds t items d e k = record {
   definitions = d ∙ ap definitions_among (sym e);
   added = subst (AreAdded pool) (sym d) tt;
 }
+
+-- the note at an index, and those behind it
+at_note : (deck : Deck) (old : List Judged) (notes : List Placed) (i : ℕ) (n : Placed) (told_all : Result (List Judged) Fault) → i < length notes → n ≡ get_or notes i n
+    → judged_from deck old (drop i notes) ≡ told_all → judged_from deck old (n ∷ drop (i + 1) notes) ≡ told_all
+at_note deck old notes i n told_all lt is e =
+    ap (λ (x : Placed). judged_from deck old (x ∷ drop (i + 1) notes)) is ∙ sym (at_drop_more (λ (rest : List Placed). judged_from deck old rest) notes i n lt) ∙ e
+
+fault_of : {X : Type 0} (view : X → List Judged) (deck : Deck) (old new : List Judged) (n : Placed) (rest : List Placed) (why : Refused) (told_all : Result (List Judged) Fault)
+    → Steps deck old n new (Err why) → judged_from deck old (n ∷ rest) ≡ told_all → Tells view (Err (refusal_by n.card why)) told_all
+fault_of view deck old new n rest (refused.Broken rule) told_all steps is = sym is ∙ steps rest
+fault_of view deck old new n rest refused.Memory told_all steps is = tt
+
+module _ (deck d : Deck) (same : d ≡ deck) (old new : List Judged) (notes : List Placed) (i : ℕ) (n : Placed) (told_all : Result (List Judged) Fault) (lt : i < length notes) (is : n ≡ get_or notes i n) where
+  -- what is told of a note at fault is told of all
+  pub told_fault : {X : Type 0} (view : X → List Judged) (why : Refused) (r : Refusal) → r ≡ refusal_by n.card why → Steps d old n new (Err why)
+      → judged_from deck old (drop i notes) ≡ told_all → Tells view (Err r) told_all
+  told_fault view why r by steps told =
+      subst (λ x. Tells view (Err x) told_all) (sym by)
+      (fault_of view deck old new n (drop (i + 1) notes) why told_all (subst (λ x. Steps x old n new (Err why)) same steps) (at_note deck old notes i n told_all lt is told))
+
+  -- the notes behind one that is not at fault decide
+  pub goes_to : Steps d old n new (Ok tt) → judged_from deck old (drop i notes) ≡ told_all → judged_from deck new (drop (i + 1) notes) ≡ told_all
+  goes_to steps told = sym (subst (λ x. Steps x old n new (Ok tt)) same steps (drop (i + 1) notes)) ∙ at_note deck old notes i n told_all lt is told
+
+-- behind the last note
+pub all_told : (deck : Deck) (old : List Judged) (notes : List Placed) (i : ℕ) (told_all : Result (List Judged) Fault) → length notes ≤ i
+    → judged_from deck old (drop i notes) ≡ told_all → told_all ≡ Ok old
+all_told deck old notes i told_all le e = sym e ∙ at_drop_all (λ (rest : List Placed). judged_from deck old rest) notes i le
+
+-- a seat of a deck is one of the same deck
+pub reseated : (deck d : Deck) (s : Seat) → d ≡ deck → IsSeated d s → IsSeated deck s
+reseated deck d s e h = subst (λ x. IsSeated x s) e h

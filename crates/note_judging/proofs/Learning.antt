@@ -1,7 +1,8 @@
 -- What is known after a note more.
-use Rattle.std.proofs.Common.{◌≡◌, ℕ, Bool, true, false, List, [], ◌∷◌, ◌++◌, map, refl, sym, ap, ◌∙◌, map-append}
-use Rattle.std.specs.Prelude.{◌&&◌, ◌||◌, ◌==◌, nat_eq, if◌then◌else◌}
+use Rattle.std.proofs.Common.{◌≡◌, ℕ, Bool, true, false, List, [], ◌∷◌, ◌++◌, map, refl, sym, ap, ◌∙◌, subst}
+use Rattle.std.specs.Prelude.{Result, Ok, Err, OnOk, ◌&&◌, ◌||◌, ◌==◌, nat_eq, if◌then◌else◌}
 use Rattle.std.specs.Cmp.Lexicographic.{same_text}
+use Rattle.std.proofs.lemmas.List.{map-append}
 use Rattle.std.specs.List.{list_any, flat_map}
 use Rattle.std.proofs.lemmas.Bool.{eqb-true, eq-eqb}
 use Rattle.std.proofs.lemmas.Grind.{flat_map-append}
@@ -100,17 +101,21 @@ nothing t unit f b p q l = record {
   lemmas = λ x. ap (λ c. is_among x t.lemmas || is_among x c) l ∙ or_false (is_among x t.lemmas);
 }
 
-pub learns_definition : (t : Taken) (unit : ℕ) (d : Definition) → Learns t t unit (note.Definition d)
-learns_definition t unit d = learned t t unit (note.Definition d) (λ pool. nothing t unit (form_tree pool (note.Definition d)) refl refl refl refl)
+pub learns_definition : (t : Taken) (unit : ℕ) (form : NoteForm) (d : Definition) → form ≡ note.Definition d → Learns t t unit form
+learns_definition t unit form d is =
+    subst (Learns t t unit) (sym is) (learned t t unit (note.Definition d) (λ pool. nothing t unit (form_tree pool (note.Definition d)) refl refl refl refl))
 
-pub learns_assertion : (t : Taken) (unit : ℕ) (a : Asserted) → Learns t t unit (note.Assertion a)
-learns_assertion t unit a = learned t t unit (note.Assertion a) (λ pool. nothing t unit (form_tree pool (note.Assertion a)) refl refl refl refl)
+pub learns_assertion : (t : Taken) (unit : ℕ) (form : NoteForm) (a : Asserted) → form ≡ note.Assertion a → Learns t t unit form
+learns_assertion t unit form a is =
+    subst (Learns t t unit) (sym is) (learned t t unit (note.Assertion a) (λ pool. nothing t unit (form_tree pool (note.Assertion a)) refl refl refl refl))
 
-pub learns_run : (t : Taken) (unit : ℕ) (card : RunCard) → Learns t t unit (note.Run card)
-learns_run t unit card = learned t t unit (note.Run card) (λ pool. nothing t unit (form_tree pool (note.Run card)) refl refl refl refl)
+pub learns_run : (t : Taken) (unit : ℕ) (form : NoteForm) (card : RunCard) → form ≡ note.Run card → Learns t t unit form
+learns_run t unit form card is =
+    subst (Learns t t unit) (sym is) (learned t t unit (note.Run card) (λ pool. nothing t unit (form_tree pool (note.Run card)) refl refl refl refl))
 
-pub learns_try : (t : Taken) (unit : ℕ) (card : TryCard) → Learns t t unit (note.Try card)
-learns_try t unit card = learned t t unit (note.Try card) (λ pool. nothing t unit (form_tree pool (note.Try card)) refl refl refl refl)
+pub learns_try : (t : Taken) (unit : ℕ) (form : NoteForm) (card : TryCard) → form ≡ note.Try card → Learns t t unit form
+learns_try t unit form card is =
+    subst (Learns t t unit) (sym is) (learned t t unit (note.Try card) (λ pool. nothing t unit (form_tree pool (note.Try card)) refl refl refl refl))
 
 or_true : (a : Bool) → (a || true) ≡ true
 or_true true = refl
@@ -131,32 +136,35 @@ and_true false = refl
 here : (unit i : ℕ) (known : Bool) → (known || ((unit == i) && true)) ≡ (nat_eq i unit || known)
 here unit i known = ap (λ c. known || c) (and_true (unit == i) ∙ same_sides unit i) ∙ or_swap known (nat_eq i unit)
 
-pub learns_bound : (old new : Taken) (unit b : ℕ) → new.bounded ≡ true → new.inputs ≡ old.inputs → new.outputs ≡ old.outputs → new.lemmas ≡ old.lemmas
-    → Learns old new unit (note.Bound b)
-learns_bound old new unit b e p q l = learned old new unit (note.Bound b) (λ pool. record {
+pub learns_bound : (old new : Taken) (unit b : ℕ) (form : NoteForm) → form ≡ note.Bound b → new.bounded ≡ true → new.inputs ≡ old.inputs → new.outputs ≡ old.outputs → new.lemmas ≡ old.lemmas
+    → Learns old new unit form
+learns_bound old new unit b form is e p q l = subst (Learns old new unit) (sym is) (learned old new unit (note.Bound b) (λ pool. record {
   bounded = or_true old.bounded ∙ sym e;
   inputs = λ i. nowhere unit i (is_known i old.inputs) ∙ ap (is_known i) (sym p);
   outputs = λ i. nowhere unit i (is_known i old.outputs) ∙ ap (is_known i) (sym q);
   lemmas = λ x. or_false (is_among x old.lemmas) ∙ ap (is_among x) (sym l);
-})
+}))
 
-pub learns_input : (old new : Taken) (unit : ℕ) (ts : List TermId) → new.bounded ≡ old.bounded → ((i : ℕ) → is_known i new.inputs ≡ (nat_eq i unit || is_known i old.inputs))
-    → new.outputs ≡ old.outputs → new.lemmas ≡ old.lemmas → Learns old new unit (note.Input ts)
-learns_input old new unit ts e p q l = learned old new unit (note.Input ts) (λ pool. record {
+
+pub learns_input : (old new : Taken) (unit : ℕ) (ts : List TermId) (form : NoteForm) → form ≡ note.Input ts → new.bounded ≡ old.bounded → ((i : ℕ) → is_known i new.inputs ≡ (nat_eq i unit || is_known i old.inputs))
+    → new.outputs ≡ old.outputs → new.lemmas ≡ old.lemmas → Learns old new unit form
+learns_input old new unit ts form is e p q l = subst (Learns old new unit) (sym is) (learned old new unit (note.Input ts) (λ pool. record {
   bounded = or_false old.bounded ∙ sym e;
   inputs = λ i. here unit i (is_known i old.inputs) ∙ sym (p i);
   outputs = λ i. nowhere unit i (is_known i old.outputs) ∙ ap (is_known i) (sym q);
   lemmas = λ x. or_false (is_among x old.lemmas) ∙ ap (is_among x) (sym l);
-})
+}))
 
-pub learns_output : (old new : Taken) (unit : ℕ) (ts : List TermId) → new.bounded ≡ old.bounded → new.inputs ≡ old.inputs
-    → ((i : ℕ) → is_known i new.outputs ≡ (nat_eq i unit || is_known i old.outputs)) → new.lemmas ≡ old.lemmas → Learns old new unit (note.Output ts)
-learns_output old new unit ts e p q l = learned old new unit (note.Output ts) (λ pool. record {
+
+pub learns_output : (old new : Taken) (unit : ℕ) (ts : List TermId) (form : NoteForm) → form ≡ note.Output ts → new.bounded ≡ old.bounded → new.inputs ≡ old.inputs
+    → ((i : ℕ) → is_known i new.outputs ≡ (nat_eq i unit || is_known i old.outputs)) → new.lemmas ≡ old.lemmas → Learns old new unit form
+learns_output old new unit ts form is e p q l = subst (Learns old new unit) (sym is) (learned old new unit (note.Output ts) (λ pool. record {
   bounded = or_false old.bounded ∙ sym e;
   inputs = λ i. nowhere unit i (is_known i old.inputs) ∙ ap (is_known i) (sym p);
   outputs = λ i. here unit i (is_known i old.outputs) ∙ sym (q i);
   lemmas = λ x. or_false (is_among x old.lemmas) ∙ ap (is_among x) (sym l);
-})
+}))
+
 
 -- ---- certificates
 
@@ -169,11 +177,17 @@ among_after : (x l : List ℕ) (ls : List (List ℕ)) (there : Bool) → is_amon
 among_after x l ls true h = same_among x l ls (same_bytes x l) refl h
 among_after x l ls false h = sym (any_more (same_bytes x) ls l)
 
-pub learns_proof : (old new : Taken) (unit : ℕ) (p : ProofCard) → new.bounded ≡ old.bounded → new.inputs ≡ old.inputs → new.outputs ≡ old.outputs
-    → new.lemmas ≡ (if is_among p.lemma old.lemmas then old.lemmas else old.lemmas ++ p.lemma ∷ []) → Learns old new unit (note.Proof p)
-learns_proof old new unit p e i o l = learned old new unit (note.Proof p) (λ pool. record {
+pub learns_proof : (old new : Taken) (unit : ℕ) (p : ProofCard) (form : NoteForm) → form ≡ note.Proof p → new.bounded ≡ old.bounded → new.inputs ≡ old.inputs → new.outputs ≡ old.outputs
+    → new.lemmas ≡ (if is_among p.lemma old.lemmas then old.lemmas else old.lemmas ++ p.lemma ∷ []) → Learns old new unit form
+learns_proof old new unit p form is e i o l = subst (Learns old new unit) (sym is) (learned old new unit (note.Proof p) (λ pool. record {
   bounded = or_false old.bounded ∙ sym e;
   inputs = λ k. nowhere unit k (is_known k old.inputs) ∙ ap (is_known k) (sym i);
   outputs = λ k. nowhere unit k (is_known k old.outputs) ∙ ap (is_known k) (sym o);
   lemmas = λ x. ap (λ b. is_among x old.lemmas || b) (or_false (same_bytes x p.lemma)) ∙ among_after x p.lemma old.lemmas (is_among p.lemma old.lemmas) refl ∙ ap (is_among x) (sym l);
-})
+}))
+
+-- ---- answers
+
+pub on_ok : {A E P Q : Type 0} (r : Result A E) → (P → Q) → OnOk r P → OnOk r Q
+on_ok (Ok x) f p = f p
+on_ok (Err e) f p = tt

@@ -46,6 +46,11 @@ Tells view (Ok x) told = told ≡ Ok (view x)
 Tells view (Err (Broken f)) told = told ≡ Err f
 Tells view (Err NoMemory) told = Unit {0}
 
+-- the refusal of a note on a card
+abbrev pub refusal_by : ℕ → Refused → Refusal
+refusal_by card (note.Broken rule) = Broken (record { rule = rule; card = card })
+refusal_by card note.Memory = NoMemory
+
 -- ---- what is held
 
 -- what was gathered of the notes that were judged
@@ -71,7 +76,7 @@ Steps deck old n new (Err note.Memory) = Unit {0}
 
 -- what the judgement of a note looks up is that of a deck, with the roles of the names of a unit
 pub record IsSeated (deck : Deck) (seat : Seat) : Type 0 where
-  pub deck : seat.sites.deck.now ≡ deck
+  pub same : seat.sites.deck.now ≡ deck
   pub last : seat.sites.last_end ≡ last_end 0 deck.units
   pub marks : AreMarksOf deck.notes seat.sites.asserts
   pub roles : AreRolesOf (unit_of_number deck.units seat.unit) seat.sites.roles

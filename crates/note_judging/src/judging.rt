@@ -3,7 +3,7 @@ ghost use Rattle.std.specs.Prelude.{◌≡◌, [], IfOk, OnOk};
 ghost use Rattle.formula.specs.Adding.{AreAdded};
 ghost use Rattle.formula.specs.Pool.{Grows};
 ghost use Rattle.fort_notes.specs.Judging.{judged, judged_from};
-ghost use Rattle.note_judging.specs.Items.{AreNotedIn, IsSeated, Tells, definitions_among, judged_trees};
+ghost use Rattle.note_judging.specs.Items.{AreNotedIn, IsSeated, Tells, definitions_among, judged_trees, refusal_by};
 
 use crate::Noted;
 use crate::gathering::Gathered;
@@ -14,6 +14,16 @@ use formula::{Definitions, TermPool};
 use fort_syntax::{Deck, Fault, Placed, Refusal};
 use note_steps::{Refused, Taken};
 use std::alloc::Global;
+
+// The refusal of a note on a card.
+fn refusal_of(why: Refused, card: u32) -> Refusal
+    ensures { result ≡ refusal_by card why }
+{
+    match why {
+        Refused::Broken(rule) => Refusal::Broken(Fault { rule, card }),
+        Refused::Memory => Refusal::NoMemory,
+    }
+}
 
 // Judges the notes of a deck, one after another.
 fn judge_all(
@@ -38,13 +48,7 @@ fn judge_all(
     for note in notes {
         match step(seat, pool, definitions, &mut gathered, note) {
             Ok(()) => {}
-            Err(Refused::Broken(rule)) => {
-                return Err(Refusal::Broken(Fault {
-                    rule,
-                    card: note.card,
-                }));
-            }
-            Err(Refused::Memory) => return Err(Refusal::NoMemory),
+            Err(why) => return Err(refusal_of(why, note.card)),
         }
     }
     Ok(gathered.items)
