@@ -1,7 +1,6 @@
 -- A note more that was judged.
-use Rattle.std.proofs.Common.{◌≡◌, ℕ, ◌+◌, ◌<◌, ◌≤◌, List, [], ◌∷◌, ◌++◌, length, map, drop, get_or, Result, Ok, Err, refl, sym, ap, ◌∙◌, subst}
+use Rattle.std.proofs.Common.{◌≡◌, ℕ, ◌+◌, ◌<◌, ◌≤◌, List, [], ◌∷◌, ◌++◌, length, drop, get_or, Result, Ok, Err, refl, sym, ap, ◌∙◌, subst}
 use Rattle.std.proofs.lemmas.List.{map-append}
-use Rattle.std.specs.List.{flat_map}
 use Rattle.std.proofs.lemmas.Grind.{flat_map-append}
 use Rattle.std.proofs.lemmas.List.{at_drop_all, at_drop_more}
 use Rattle.formula.specs.Adding.{AreAdded}
@@ -15,15 +14,14 @@ use Rattle.fort_syntax.specs.declared.deck.Deck.{Deck}
 use Rattle.fort_syntax.specs.declared.deck.Placed.{Placed}
 use Rattle.fort_syntax.specs.declared.refusal.Fault.{Fault}
 use Rattle.fort_syntax.specs.declared.refusal.Refusal.{Refusal}
-use Rattle.fort_notes.specs.Forms.{Form, assertion, definition, input, output, proof}
-use Rattle.fort_notes.specs.Judging.{Judged, judge, judged_from, judged_then}
+use Rattle.fort_notes.specs.Forms.{assertion, definition, input, output, proof}
+use Rattle.fort_notes.specs.Judging.{Judged, judged_from, judged_then}
 use Rattle.note_parts.proofs.Rounds.{trees_of-Grows}
-use Rattle.note_forms.specs.FormTrees.{proof_tree}
 use Rattle.note_forms.proofs.GrownSteps.{steps_of-Grows, AreStepsIn-Grows}
 use Rattle.note_reading.specs.NoteTrees.{form_tree, IsFormIn}
 use Rattle.note_reading.specs.declared.note_form.NoteForm.{NoteForm}
 use Rattle.note_reading.specs.declared.note_form.NoteForm.TheVariants as note
-use Rattle.note_steps.specs.Steps.{Knows, Says, JudgesBy, judged_note, told, definitions_in}
+use Rattle.note_steps.specs.Steps.{Knows, Says, judged_note, told, definitions_in}
 use Rattle.note_steps.proofs.Judges.{judge_is}
 use Rattle.note_steps.specs.declared.refused.Refused.{Refused}
 use Rattle.note_steps.specs.declared.refused.Refused.TheVariants as refused

@@ -3,14 +3,13 @@ use Rattle.std.proofs.Common.{◌≡◌, ℕ, Bool, true, false, List, [], ◌�
 use Rattle.std.specs.Prelude.{Result, Ok, Err, OnOk, ◌&&◌, ◌||◌, ◌==◌, nat_eq, if◌then◌else◌}
 use Rattle.std.specs.Cmp.Lexicographic.{same_text}
 use Rattle.std.proofs.lemmas.List.{map-append}
-use Rattle.std.specs.List.{list_any, flat_map}
+use Rattle.std.specs.List.{list_any}
 use Rattle.std.proofs.lemmas.Bool.{eqb-true, eq-eqb}
 use Rattle.std.proofs.lemmas.Grind.{flat_map-append}
 use Rattle.std.proofs.lemmas.List.Folds.{list_any-append}
 use Rattle.formula.specs.Atoms.{is_among, same_bytes}
 use Rattle.formula.specs.Headings.{headings_of, heading_with}
 use Rattle.formula.specs.declared.definition.Definition.{Definition}
-use Rattle.formula.specs.declared.definition.Heading.{Heading}
 use Rattle.formula.specs.declared.node.Node.{Node}
 use Rattle.formula.specs.declared.node.TermId.{TermId}
 use Rattle.fort_notes.specs.Forms.{Form}
@@ -23,7 +22,7 @@ use Rattle.note_places.specs.Places.{is_known}
 use Rattle.note_reading.specs.NoteTrees.{form_tree}
 use Rattle.note_reading.specs.declared.note_form.NoteForm.{NoteForm}
 use Rattle.note_reading.specs.declared.note_form.NoteForm.TheVariants as note
-use Rattle.note_steps.specs.Steps.{Knows, definitions_in}
+use Rattle.note_steps.specs.Steps.{definitions_in}
 use Rattle.note_steps.specs.declared.taken.Taken.{Taken}
 use Rattle.note_judging.specs.Items.{Learns}
 
@@ -145,7 +144,6 @@ learns_bound old new unit b form is e p q l = subst (Learns old new unit) (sym i
   lemmas = λ x. or_false (is_among x old.lemmas) ∙ ap (is_among x) (sym l);
 }))
 
-
 pub learns_input : (old new : Taken) (unit : ℕ) (ts : List TermId) (form : NoteForm) → form ≡ note.Input ts → new.bounded ≡ old.bounded → ((i : ℕ) → is_known i new.inputs ≡ (nat_eq i unit || is_known i old.inputs))
     → new.outputs ≡ old.outputs → new.lemmas ≡ old.lemmas → Learns old new unit form
 learns_input old new unit ts form is e p q l = subst (Learns old new unit) (sym is) (learned old new unit (note.Input ts) (λ pool. record {
@@ -155,7 +153,6 @@ learns_input old new unit ts form is e p q l = subst (Learns old new unit) (sym 
   lemmas = λ x. or_false (is_among x old.lemmas) ∙ ap (is_among x) (sym l);
 }))
 
-
 pub learns_output : (old new : Taken) (unit : ℕ) (ts : List TermId) (form : NoteForm) → form ≡ note.Output ts → new.bounded ≡ old.bounded → new.inputs ≡ old.inputs
     → ((i : ℕ) → is_known i new.outputs ≡ (nat_eq i unit || is_known i old.outputs)) → new.lemmas ≡ old.lemmas → Learns old new unit form
 learns_output old new unit ts form is e p q l = subst (Learns old new unit) (sym is) (learned old new unit (note.Output ts) (λ pool. record {
@@ -164,7 +161,6 @@ learns_output old new unit ts form is e p q l = subst (Learns old new unit) (sym
   outputs = λ i. here unit i (is_known i old.outputs) ∙ sym (q i);
   lemmas = λ x. or_false (is_among x old.lemmas) ∙ ap (is_among x) (sym l);
 }))
-
 
 -- ---- certificates
 

@@ -74,13 +74,7 @@ pub fn judged_notes(
     let Ok(mut seat) = first_seat(alloc, keys, deck) else {
         return Err(Refusal::NoMemory);
     };
-    let all = judge_all(
-        alloc,
-        &mut seat,
-        pool,
-        definitions,
-        deck.notes.as_slice(),
-    );
+    let all = judge_all(alloc, &mut seat, pool, definitions, deck.notes.as_slice());
     leave(seat);
     all
 }

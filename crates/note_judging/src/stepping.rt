@@ -26,13 +26,7 @@ pub(crate) fn step(
     let Ok(()) = sit(pool.keys(), seat, note.unit) else {
         return Err(Refused::Memory);
     };
-    let form = match judged(
-        &seat.sites,
-        pool,
-        definitions,
-        &gathered.taken,
-        note,
-    ) {
+    let form = match judged(&seat.sites, pool, definitions, &gathered.taken, note) {
         Ok(form) => form,
         Err(why) => return Err(why),
     };

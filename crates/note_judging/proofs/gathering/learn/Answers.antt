@@ -1,4 +1,4 @@
-use Rattle.std.proofs.Common.{◌≡◌, true, refl}
+use Rattle.std.proofs.Common.{true, refl}
 use Rattle.note_judging.proofs.Learning.{learns_assertion, learns_bound, learns_definition, learns_input, learns_output, learns_proof, learns_run, learns_try, on_ok}
 use Rattle.note_judging.proofs.gathering.learn.Goals as goal
 

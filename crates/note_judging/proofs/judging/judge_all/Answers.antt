@@ -1,4 +1,4 @@
-use Rattle.std.proofs.Common.{rules, arith, ◌≡◌, ◌<◌, ◌≤◌, [], length, ap, sym, Global, Vec}
+use Rattle.std.proofs.Common.{rules, ap, sym, Global, Vec}
 use Rattle.formula.proofs.Grown.{Grows-refl, Grows-trans}
 use Rattle.fort_notes.specs.Judging.{judged_from}
 use Rattle.note_judging.specs.Items.{judged_trees}

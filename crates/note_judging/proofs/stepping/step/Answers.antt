@@ -1,4 +1,3 @@
-use Rattle.std.proofs.Common.{◌≡◌}
 use Rattle.note_reading.specs.NoteTrees.{form_tree}
 use Rattle.note_steps.specs.Steps.{judged_note}
 use Rattle.note_judging.specs.Items.{judged_trees}
