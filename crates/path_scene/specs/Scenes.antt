@@ -1,10 +1,11 @@
 -- Of which program a scene is.
-use Rattle.std.specs.Prelude.{◌≡◌, ℕ, List, length, map}
+use Rattle.std.specs.Prelude.{◌≡◌, ◌<◌, ℕ, List, length, map, Some, slice_get}
 use Rattle.std.specs.List.{All}
 use Rattle.formula.specs.declared.node.Node.{Node}
 use Rattle.formula.specs.Pool.{AllBelow}
 use Rattle.fort_syntax.specs.WellFormed.{IsWellFormed}
 use Rattle.fort_syntax.specs.declared.deck.Deck.{Deck}
+use Rattle.fort_syntax.specs.declared.unit.Unit.{Unit as Routine}
 use Rattle.fort_notes.specs.Assertions.{notes_tree}
 use Rattle.fort_notes.specs.declared.notes.AssertSpec.{AssertSpec}
 use Rattle.fort_notes.specs.declared.notes.UnitSpec.{UnitSpec}
@@ -35,7 +36,8 @@ pub record IsScene (pool : List Node) (scene : Scene) (p : Program) : Type 0 whe
   pub inside : All (AreNotesIn (length pool)) scene.notes.now
 
 -- A scene is that of a program which keeps all rules that stand before the flow: its units are those of a deck that is well
--- formed, its notes fit them, and it keeps the rules on calls, on smashed names, and on the ranges of DOs and the clocks.
+-- formed, its notes fit them, it keeps the rules on calls, on smashed names, and on the
+-- ranges of DOs and the clocks; and its units are not too long to have their statements counted.
 pub record IsReady (pool : List Node) (scene : Scene) (p : Program) : Type 0 where
   pub is_scene : IsScene pool scene p
   pub deck : Deck
@@ -45,3 +47,4 @@ pub record IsReady (pool : List Node) (scene : Scene) (p : Program) : Type 0 whe
   pub calls : KeepsAll p rules_of_calls
   pub smashing : KeepsAll p rules_of_smashing
   pub ranges : KeepsAll p rules_of_ranges
+  pub few : (i : ℕ) (u : Routine) → slice_get p.units i ≡ Some u → length u.lines < 1073741824
