@@ -11,10 +11,10 @@ use Rattle.fort_notes.specs.Remarks.{remarks_of}
 use Rattle.fort_notes.specs.declared.notes.Specs.{Specs}
 use Rattle.annot.specs.RemarksTree.{remarks_tree}
 use Rattle.fort_model.specs.Programs.{program_of}
-use Rattle.alias_rules.specs.Stages.{IsAliasFault}
-use Rattle.deck_judging.specs.Stages.{AreNotesOf, IsDeckFault, IsSceneFault}
+use Rattle.alias_rules.specs.Stages.{IsAliasFault, KeepCalls}
+use Rattle.deck_judging.specs.Stages.{AreNotesOf, HaveTable, IsDeckFault, IsSceneFault, KeepSmashing}
 use Rattle.deck_judging.proofs.Kept.{kept_by_stages}
-use Rattle.deck_judging.proofs.Scenes.{GiveCalls, GiveSmashing, GiveTable, found_program, is_program}
+use Rattle.deck_judging.proofs.Scenes.{found_program, is_program}
 
 -- a fault among notes
 pub note_fault : (d : Dialect) (deck : Deck) (f : Fault) → remarks_of deck ≡ Err f → IsDeckFault d deck f
@@ -35,7 +35,7 @@ module _ (d : Dialect) (deck : Deck) (pool : List Node) (ds : List Definition) (
       )))
 
   -- in ranges, in the flow, or of sizes
-  pub scene_fault : (rows : List (List Name)) → GiveTable deck.units rows → GiveCalls deck.units → GiveSmashing deck.units rows
+  pub scene_fault : (rows : List (List Name)) → HaveTable deck.units rows → KeepCalls deck.units → KeepSmashing deck.units rows
       → IsSceneFault (found_program d deck pool ds specs rows) f → IsDeckFault d deck f
   scene_fault rows table calls smashing (inl h) =
       let p = found_program d deck pool ds specs rows in

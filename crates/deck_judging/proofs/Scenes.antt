@@ -11,7 +11,6 @@ use Rattle.fort_syntax.specs.declared.deck.Deck.{Deck}
 use Rattle.fort_syntax.specs.declared.dialect.Dialect.{Dialect}
 use Rattle.fort_syntax.specs.declared.name.Name.{Name}
 use Rattle.fort_syntax.specs.declared.rule.Rule.TheVariants.{UncutCycle}
-use Rattle.fort_syntax.specs.declared.unit.Unit.{Unit as Routine}
 use Rattle.fort_notes.specs.Assertions.{notes_tree}
 use Rattle.fort_notes.specs.Remarks.{Remarks}
 use Rattle.fort_notes.specs.declared.notes.Specs.{Specs}
@@ -20,14 +19,14 @@ use Rattle.annot.specs.RemarksTree.{remarks_tree}
 use Rattle.event_text.specs.Conditions.{IsConditionIn}
 use Rattle.fort_model.specs.Program.{Program}
 use Rattle.fort_model.specs.Programs.{program_of}
-use Rattle.fort_model.specs.SmashTables.{IsSmashTable}
-use Rattle.fort_model.specs.Stages.{KeepsAll, rules_of_calls, rules_of_ranges, rules_of_smashing}
+use Rattle.fort_model.specs.Stages.{KeepsAll, rules_of_ranges}
 use Rattle.note_laws.proofs.NotesFit.{notes_fit_units}
 use Rattle.accepted_laws.specs.Accepted.{IsProgramOf}
 use Rattle.path_laws.proofs.AllPaths.{all_paths_exist}
 use Rattle.path_scene.specs.Scenes.{AreNotesIn, IsReady, IsScene}
 use Rattle.path_scene.specs.declared.scene.Scene.{Scene}
-use Rattle.deck_judging.specs.Stages.{AreAllConditions, AreConditionsOfDeck, AreNotesOf, IsAliased, KeepsScene}
+use Rattle.alias_rules.specs.Stages.{KeepCalls}
+use Rattle.deck_judging.specs.Stages.{AreAllConditions, AreConditionsOfDeck, AreNotesOf, AreShort, HaveTable, IsAliased, KeepSmashing, KeepsScene}
 use Rattle.deck_judging.proofs.Functions.{bodies_stay, functions_same}
 use Rattle.deck_judging.proofs.Kept.{kept_by_stages}
 
@@ -42,25 +41,16 @@ is_ready pool scene p a ranges = record {
   calls = a.calls;
   smashing = a.smashing;
   ranges = ranges;
+  few = a.short;
 }
 
 -- the program of a deck, of which its notes say so, with a table of smashed names
 abbrev pub found_program : Dialect → Deck → List Node → List Definition → Specs → List (List Name) → Program
 found_program d deck pool ds specs rows = program_of d deck (remarks_tree pool ds specs) rows
 
--- the table of every program of some units with these rows
-abbrev pub GiveTable : List Routine → List (List Name) → Type 0
-GiveTable units rows = (p : Program) → p.units ≡ units → p.smashes ≡ rows → IsSmashTable p
-
-abbrev pub GiveCalls : List Routine → Type 0
-GiveCalls units = (p : Program) → p.units ≡ units → KeepsAll p rules_of_calls
-
-abbrev pub GiveSmashing : List Routine → List (List Name) → Type 0
-GiveSmashing units rows = (p : Program) → p.units ≡ units → p.smashes ≡ rows → KeepsAll p rules_of_smashing
-
 module _ (d : Dialect) (deck : Deck) (pool : List Node) (ds : List Definition) (specs : Specs) (rows : List (List Name))
     (well : IsWellFormed d deck) (notes : AreNotesOf deck pool ds specs) where
-  pub is_program : GiveTable deck.units rows → IsProgramOf d deck (remarks_tree pool ds specs) (found_program d deck pool ds specs rows)
+  pub is_program : HaveTable deck.units rows → IsProgramOf d deck (remarks_tree pool ds specs) (found_program d deck pool ds specs rows)
   is_program table = record {
     well_formed = well;
     remarks = notes.remarks;
@@ -70,8 +60,8 @@ module _ (d : Dialect) (deck : Deck) (pool : List Node) (ds : List Definition) (
 
   -- its scene
   pub is_aliased : (scene : Scene) → scene.dialect ≡ d → scene.bound ≡ specs.bound → scene.books.now.units.now ≡ deck.units → scene.notes.now ≡ specs.units → scene.smashes.now ≡ rows
-      → GiveCalls deck.units → GiveSmashing deck.units rows → IsAliased pool scene (found_program d deck pool ds specs rows)
-  is_aliased scene a b u n s calls smashing = record {
+      → KeepCalls deck.units → KeepSmashing deck.units rows → AreShort deck.units → IsAliased pool scene (found_program d deck pool ds specs rows)
+  is_aliased scene a b u n s calls smashing short = record {
     is_scene = record {
       dialect = a;
       bound = b;
@@ -86,10 +76,11 @@ module _ (d : Dialect) (deck : Deck) (pool : List Node) (ds : List Definition) (
     fitting = notes_fit_units d deck (remarks_tree pool ds specs) rows well notes.remarks;
     calls = calls (found_program d deck pool ds specs rows) refl;
     smashing = smashing (found_program d deck pool ds specs rows) refl refl;
+    short = short;
   }
 
   -- its conditions, where all rules are kept
-  pub are_conditions : (new : List Node) (cs : List Condition) → GiveTable deck.units rows → GiveCalls deck.units → GiveSmashing deck.units rows
+  pub are_conditions : (new : List Node) (cs : List Condition) → HaveTable deck.units rows → KeepCalls deck.units → KeepSmashing deck.units rows
       → KeepsScene (found_program d deck pool ds specs rows) → AreAllConditions (found_program d deck pool ds specs rows) new cs → Grows pool new → All (IsConditionIn new) cs
       → AreConditionsOfDeck d deck new ds cs
   are_conditions new cs table calls smashing scene all grows inside =

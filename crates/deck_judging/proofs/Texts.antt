@@ -1,13 +1,21 @@
 -- What is found of a deck is found of its text.
-use Rattle.std.proofs.Common.{◌≡◌, ℕ, inl, inr, List}
+use Rattle.std.proofs.Common.{◌≡◌, ◌≤◌, ◌<◌, ℕ, inl, inr, List, Some, length, slice_get, arith, subst}
 use Rattle.fort_syntax.specs.declared.deck.Deck.{Deck}
 use Rattle.fort_syntax.specs.declared.dialect.Dialect.{Dialect}
 use Rattle.fort_syntax.specs.declared.refusal.Fault.{Fault}
+use Rattle.fort_syntax.specs.declared.unit.Unit.{Unit as Routine}
+use Rattle.deck_sizes.proofs.Counting.{decks_are_short}
 use Rattle.judging.specs.Judgement.{IsDeckIn, IsFirstFaultIn}
 use Rattle.deck_judging.specs.Judged.{IsJudgedIn}
-use Rattle.deck_judging.specs.Stages.{AreConditionsOfDeck, IsDeckFault}
-use Rattle.deck_judging.specs.declared.text.Judged.{Judged}
+use Rattle.deck_judging.specs.Stages.{AreConditionsOfDeck, AreShort, IsDeckFault}
+use Rattle.deck_judging.specs.declared.found.Judged.{Judged}
 use Rattle.deck_judging.proofs.Functions.{definitions_inside}
+
+-- units of a deck are not too long
+pub short_in : (d : Dialect) (bytes : List ℕ) (deck : Deck) → IsDeckIn d bytes deck → AreShort deck.units
+short_in d bytes deck h i u e =
+    let few : length u.lines ≤ 1048576 = decks_are_short d bytes h.1.0 h.0 h.1.1 i u (subst (λ (x : Deck). slice_get x.units i ≡ Some u) h.1.3 e) in
+    omega (arith, few)
 
 pub judged_in : (d : Dialect) (bytes : List ℕ) (deck : Deck) (j : Judged) → IsDeckIn d bytes deck → AreConditionsOfDeck d deck j.pool j.definitions j.conditions → IsJudgedIn d bytes j
 judged_in d bytes deck j is h = record {

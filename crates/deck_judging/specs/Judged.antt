@@ -10,7 +10,7 @@ use Rattle.fort_model.specs.Conditions.{conditions_of}
 use Rattle.fort_model.specs.Paths.{Path}
 use Rattle.fort_model.specs.Program.{Program}
 use Rattle.judging.specs.Judgement.{IsAcceptedIn}
-use Rattle.deck_judging.specs.declared.text.Judged.{Judged}
+use Rattle.deck_judging.specs.declared.found.Judged.{Judged}
 
 -- Bytes are accepted in a dialect; the definitions are those of their notes, and the conditions those of their program along all
 -- its paths, all with terms of the pool.

@@ -1,5 +1,5 @@
 -- What is known of a deck behind each stage, and its first fault.
-use Rattle.std.specs.Prelude.{◌≡◌, ◌⊎◌, List, length, map, Ok}
+use Rattle.std.specs.Prelude.{◌≡◌, ◌<◌, ◌⊎◌, ℕ, List, length, map, Some, Ok, slice_get}
 use Rattle.std.specs.List.{All}
 use Rattle.formula.specs.Adding.{AreBodiesIn}
 use Rattle.formula.specs.Worth.{functions_of}
@@ -9,7 +9,9 @@ use Rattle.fort_syntax.specs.WellFormed.{IsWellFormed}
 use Rattle.fort_syntax.specs.declared.condition.Condition.{Condition}
 use Rattle.fort_syntax.specs.declared.deck.Deck.{Deck}
 use Rattle.fort_syntax.specs.declared.dialect.Dialect.{Dialect}
+use Rattle.fort_syntax.specs.declared.name.Name.{Name}
 use Rattle.fort_syntax.specs.declared.refusal.Fault.{Fault}
+use Rattle.fort_syntax.specs.declared.unit.Unit.{Unit as Routine}
 use Rattle.fort_notes.specs.Remarks.{Remarks, remarks_of}
 use Rattle.fort_notes.specs.declared.notes.Specs.{Specs}
 use Rattle.annot.specs.RemarksTree.{remarks_tree}
@@ -19,12 +21,19 @@ use Rattle.fort_model.specs.Fitting.{HasFittingNotes}
 use Rattle.fort_model.specs.Paths.{Path}
 use Rattle.fort_model.specs.Program.{Program}
 use Rattle.fort_model.specs.Rules.{KeepsRules}
+use Rattle.fort_model.specs.SmashTables.{IsSmashTable}
 use Rattle.fort_model.specs.Stages.{IsFirstBroken, KeepsAll, rules_of_calls, rules_of_flow, rules_of_ranges, rules_of_smashing}
 use Rattle.accepted_laws.specs.Accepted.{IsAcceptedAs, IsProgramOf}
 use Rattle.accepted_laws.specs.ModelFaults.{IsModelFault}
 use Rattle.path_scene.specs.Scenes.{AreNotesIn, IsScene}
 use Rattle.path_scene.specs.declared.scene.Scene.{Scene}
 use Rattle.path_sizes.specs.Limits.{IsSizeFault, IsWithinLimits}
+
+-- ---- units
+
+-- units are not too long to have their statements counted
+abbrev pub AreShort : List Routine → Type 0
+AreShort units = (i : ℕ) (u : Routine) → slice_get units i ≡ Some u → length u.lines < 1073741824
 
 -- ---- notes
 
@@ -37,7 +46,7 @@ pub record AreNotesOf (deck : Deck) (pool : List Node) (ds : List Definition) (s
 -- ---- calls and smashed names
 
 -- A scene is that of a program which keeps the rules on calls and on smashed names: its units are those of a deck that is well
--- formed, and its notes fit them.
+-- formed and not too long, and its notes fit them.
 pub record IsAliased (pool : List Node) (scene : Scene) (p : Program) : Type 0 where
   pub is_scene : IsScene pool scene p
   pub deck : Deck
@@ -46,6 +55,15 @@ pub record IsAliased (pool : List Node) (scene : Scene) (p : Program) : Type 0 w
   pub fitting : HasFittingNotes p
   pub calls : KeepsAll p rules_of_calls
   pub smashing : KeepsAll p rules_of_smashing
+  pub short : AreShort p.units
+
+-- every program of some units that has this table of smashed names is right to have it
+abbrev pub HaveTable : List Routine → List (List Name) → Type 0
+HaveTable units rows = (p : Program) → p.units ≡ units → p.smashes ≡ rows → IsSmashTable p
+
+-- and keeps the rules on smashed names
+abbrev pub KeepSmashing : List Routine → List (List Name) → Type 0
+KeepSmashing units rows = (p : Program) → p.units ≡ units → p.smashes ≡ rows → KeepsAll p rules_of_smashing
 
 -- ---- ranges, flow and sizes
 

@@ -2,9 +2,12 @@
 #![tactic(auto)]
 
 mod deck;
+mod found;
 mod noted;
+mod notes_found;
 mod scene;
 mod smashed;
 mod text;
 
-pub use text::{Judged, judged};
+pub use found::Judged;
+pub use text::judged;

@@ -7,20 +7,12 @@ ghost use Rattle.fort_syntax.specs.declared.refusal.Refusal.TheVariants.{Broken}
 ghost use Rattle.fort_notes.specs.Remarks.{remarks_of};
 ghost use Rattle.deck_judging.specs.Stages.{AreNotesOf};
 
+use crate::notes_found::Noted;
 use annot::notes;
 use edge_io::Keys;
 use formula::{Definitions, TermPool};
-use fort_notes::Specs;
 use fort_syntax::{Deck, Refusal};
 use std::alloc::Global;
-
-/// What the notes of a deck say, as terms of a pool.
-#[derive(Drop)]
-pub(crate) struct Noted {
-    pub pool: TermPool,
-    pub definitions: Definitions,
-    pub specs: Specs,
-}
 
 /// What the notes of a deck say, or their first fault.
 pub(crate) fn noted(alloc: Global, keys: Keys, deck: &Deck) -> Result<Noted, Refusal>

@@ -5,10 +5,8 @@ ghost use Rattle.fort_syntax.specs.declared.dialect.Dialect.{Dialect};
 ghost use Rattle.fort_syntax.specs.declared.refusal.Fault.{Fault};
 ghost use Rattle.fort_syntax.specs.declared.refusal.Refusal.TheVariants.{Broken};
 ghost use Rattle.fort_model.specs.CallOrder.{IsCallOrder};
-ghost use Rattle.fort_model.specs.Program.{Program};
-ghost use Rattle.fort_model.specs.SmashTables.{IsSmashTable};
-ghost use Rattle.fort_model.specs.Stages.{KeepsAll, rules_of_calls, rules_of_smashing};
-ghost use Rattle.alias_rules.specs.Stages.{IsAliasFault, IsSmashFault};
+ghost use Rattle.alias_rules.specs.Stages.{IsAliasFault, IsSmashFault, KeepCalls};
+ghost use Rattle.deck_judging.specs.Stages.{HaveTable, KeepSmashing};
 
 use call_rules::call_stage;
 use call_sites::DeckBook;
@@ -29,8 +27,8 @@ fn table_of(
 ) -> Result<Vec<NameSet>, Refusal>
     requires well { (dialect : Dialect) × IsWellFormed dialect deck.now }
     requires order { IsCallOrder deck.now.units order.now }
-    ensures table { IfOk result (λ rows. (p : Program) → p.units ≡ deck.now.units → p.smashes ≡ rows.items → IsSmashTable p) }
-    ensures kept { IfOk result (λ rows. (p : Program) → p.units ≡ deck.now.units → p.smashes ≡ rows.items → KeepsAll p rules_of_smashing) }
+    ensures table { IfOk result (λ rows. HaveTable deck.now.units rows.items) }
+    ensures kept { IfOk result (λ rows. KeepSmashing deck.now.units rows.items) }
     ensures broken { (f : Fault) → result ≡ Err (Broken f) → IsSmashFault deck.now.units f }
 {
     let Ok(book) = DeckBook::new(alloc, keys, deck.units.as_slice()) else {
@@ -52,9 +50,9 @@ fn table_of(
 /// those on smashed names.
 pub(crate) fn smashed(alloc: Global, keys: Keys, deck: &Deck) -> Result<Vec<NameSet>, Refusal>
     requires { (dialect : Dialect) × IsWellFormed dialect deck.now }
-    ensures table { IfOk result (λ rows. (p : Program) → p.units ≡ deck.now.units → p.smashes ≡ rows.items → IsSmashTable p) }
-    ensures calls_kept { IfOk result (λ _. (p : Program) → p.units ≡ deck.now.units → KeepsAll p rules_of_calls) }
-    ensures smashing_kept { IfOk result (λ rows. (p : Program) → p.units ≡ deck.now.units → p.smashes ≡ rows.items → KeepsAll p rules_of_smashing) }
+    ensures table { IfOk result (λ rows. HaveTable deck.now.units rows.items) }
+    ensures calls_kept { IfOk result (λ _. KeepCalls deck.now.units) }
+    ensures smashing_kept { IfOk result (λ rows. KeepSmashing deck.now.units rows.items) }
     ensures broken { (f : Fault) → result ≡ Err (Broken f) → IsAliasFault deck.now.units f }
 {
     match call_stage(alloc, keys, deck) {

@@ -6,22 +6,13 @@ ghost use Rattle.fort_syntax.specs.declared.refusal.Refusal.TheVariants.{Broken}
 ghost use Rattle.judging.specs.Judgement.{IsDeckIn, IsFirstFaultIn, IsTextFaultIn};
 ghost use Rattle.deck_judging.specs.Judged.{IsJudgedIn};
 
+use crate::Judged;
 use crate::deck::judged_deck;
 use card_deck::cards;
-use edge_io::{Keys, List};
-use formula::{Definitions, TermPool};
-use fort_syntax::{Condition, Deck, Dialect, Refusal};
+use edge_io::Keys;
+use fort_syntax::{Deck, Dialect, Refusal};
 use std::alloc::Global;
 use unit_decl::units;
-
-/// What is found of a text that is accepted: the definitions of its notes and its conditions, as
-/// terms of a pool.
-#[derive(Drop)]
-pub struct Judged {
-    pub pool: TermPool,
-    pub definitions: Definitions,
-    pub conditions: List<Condition>,
-}
 
 /// The deck of some bytes, or their first fault by the rules on cards, statements and units.
 #[tactic(auto, using(crate::proofs::CardsAscend::cards_ascend))]

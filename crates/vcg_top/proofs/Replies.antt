@@ -16,7 +16,7 @@ use Rattle.judging.specs.Judgement.{IsAcceptedIn, IsFirstFaultIn}
 use Rattle.judging.proofs.NoneBoth.{accepted_in_have_no_fault}
 use Rattle.judging.proofs.OneJudgement.{accepted_in_are_sound}
 use Rattle.deck_judging.specs.Judged.{IsJudgedIn}
-use Rattle.deck_judging.specs.declared.text.Judged.{Judged}
+use Rattle.deck_judging.specs.declared.found.Judged.{Judged}
 use Rattle.vcg_top.specs.declared.status.Status.{Status}
 use Rattle.vcg_top.specs.declared.status.Status.TheVariants.{Done, Refused, WriteFault, NoMemory as Starved}
 use Rattle.vcg_top.specs.Answers.{AppendsOf, AppendsPartOf, IsDoneText, IsRefusedText, most_read, plain_text}

@@ -2,7 +2,7 @@
 use Rattle.std.specs.Prelude.{ℕ, List, map}
 use Rattle.formula.specs.Worth.{functions_of}
 use Rattle.event_text.specs.Conditions.{condition_tree}
-use Rattle.deck_judging.specs.declared.text.Judged.{Judged}
+use Rattle.deck_judging.specs.declared.found.Judged.{Judged}
 use Rattle.vcg_top.specs.Answers.{plain_text}
 
 -- the text of its definitions and conditions
