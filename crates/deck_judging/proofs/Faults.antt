@@ -1,5 +1,5 @@
 -- Faults of decks, stage by stage.
-use Rattle.std.proofs.Common.{◌≡◌, inl, inr, List, Err, refl}
+use Rattle.std.proofs.Common.{◌≡◌, inl, inr, List, [], Err, refl}
 use Rattle.formula.specs.declared.definition.Definition.{Definition}
 use Rattle.formula.specs.declared.node.Node.{Node}
 use Rattle.fort_syntax.specs.WellFormed.{IsWellFormed}
@@ -9,7 +9,7 @@ use Rattle.fort_syntax.specs.declared.name.Name.{Name}
 use Rattle.fort_syntax.specs.declared.refusal.Fault.{Fault}
 use Rattle.fort_notes.specs.Remarks.{remarks_of}
 use Rattle.fort_notes.specs.declared.notes.Specs.{Specs}
-use Rattle.annot.specs.RemarksTree.{remarks_tree}
+use Rattle.note_units.specs.Sorting.{remarks_tree}
 use Rattle.fort_model.specs.Programs.{program_of}
 use Rattle.alias_rules.specs.Stages.{IsAliasFault, KeepCalls}
 use Rattle.deck_judging.specs.Stages.{AreNotesOf, HaveTable, IsDeckFault, IsSceneFault, KeepSmashing}

@@ -5,3 +5,5 @@ pub mod Scenes
 pub mod Faults
 pub mod Texts
 pub mod Tables
+pub mod Weaker
+pub mod Told

@@ -15,7 +15,7 @@ use Rattle.fort_notes.specs.Assertions.{notes_tree}
 use Rattle.fort_notes.specs.Remarks.{Remarks}
 use Rattle.fort_notes.specs.declared.notes.Specs.{Specs}
 use Rattle.fort_notes.specs.declared.notes.UnitSpec.{UnitSpec}
-use Rattle.annot.specs.RemarksTree.{remarks_tree}
+use Rattle.note_units.specs.Sorting.{remarks_tree}
 use Rattle.event_text.specs.Conditions.{IsConditionIn}
 use Rattle.fort_model.specs.Program.{Program}
 use Rattle.fort_model.specs.Programs.{program_of}
@@ -93,8 +93,8 @@ module _ (d : Dialect) (deck : Deck) (pool : List Node) (ds : List Definition) (
         paths = paths.0;
         accepted = record { is_program = is_program table; kept = kept; all_paths = paths.1 };
         within = all.within paths.0 paths.1;
-        functions = functions_same pool new ds grows notes.bodies;
-        bodies = bodies_stay pool new ds grows notes.bodies;
+        functions = functions_same pool new grows ds notes.bodies;
+        bodies = bodies_stay pool new grows ds notes.bodies;
         trees = all.trees paths.0 paths.1;
         inside = inside;
       }

@@ -9,7 +9,6 @@ use Rattle.judging.specs.Judgement.{IsDeckIn, IsFirstFaultIn}
 use Rattle.deck_judging.specs.Judged.{IsJudgedIn}
 use Rattle.deck_judging.specs.Stages.{AreConditionsOfDeck, AreShort, IsDeckFault}
 use Rattle.deck_judging.specs.declared.found.Judged.{Judged}
-use Rattle.deck_judging.proofs.Functions.{definitions_inside}
 
 -- units of a deck are not too long
 pub short_in : (d : Dialect) (bytes : List ℕ) (deck : Deck) → IsDeckIn d bytes deck → AreShort deck.units
@@ -26,7 +25,7 @@ judged_in d bytes deck j is h = record {
   accepted = record { is_deck = is; accepted = h.accepted; within = h.within };
   functions = h.functions;
   conditions = h.trees;
-  definitions_inside = definitions_inside j.pool j.definitions h.bodies;
+  definitions_inside = h.bodies;
   conditions_inside = h.inside;
 }
 

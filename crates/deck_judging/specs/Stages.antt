@@ -1,7 +1,6 @@
 -- What is known of a deck behind each stage, and its first fault.
 use Rattle.std.specs.Prelude.{◌≡◌, ◌<◌, ◌⊎◌, ℕ, List, length, map, Some, Ok, slice_get}
 use Rattle.std.specs.List.{All}
-use Rattle.formula.specs.Adding.{AreBodiesIn}
 use Rattle.formula.specs.Worth.{functions_of}
 use Rattle.formula.specs.declared.definition.Definition.{Definition}
 use Rattle.formula.specs.declared.node.Node.{Node}
@@ -14,8 +13,8 @@ use Rattle.fort_syntax.specs.declared.refusal.Fault.{Fault}
 use Rattle.fort_syntax.specs.declared.unit.Unit.{Unit as Routine}
 use Rattle.fort_notes.specs.Remarks.{Remarks, remarks_of}
 use Rattle.fort_notes.specs.declared.notes.Specs.{Specs}
-use Rattle.annot.specs.RemarksTree.{remarks_tree}
-use Rattle.event_text.specs.Conditions.{IsConditionIn, condition_tree}
+use Rattle.note_units.specs.Sorting.{remarks_tree}
+use Rattle.event_text.specs.Conditions.{IsConditionIn, IsDefinitionIn, condition_tree}
 use Rattle.fort_model.specs.Conditions.{AreAllPaths, conditions_of}
 use Rattle.fort_model.specs.Fitting.{HasFittingNotes}
 use Rattle.fort_model.specs.Paths.{Path}
@@ -41,7 +40,7 @@ AreShort units = (i : ℕ) (u : Routine) → slice_get units i ≡ Some u → le
 pub record AreNotesOf (deck : Deck) (pool : List Node) (ds : List Definition) (specs : Specs) : Type 0 where
   pub remarks : remarks_of deck ≡ Ok (remarks_tree pool ds specs)
   pub inside : All (AreNotesIn (length pool)) specs.units
-  pub bodies : AreBodiesIn pool ds
+  pub bodies : All (IsDefinitionIn pool) ds
 
 -- ---- calls and smashed names
 
@@ -97,7 +96,7 @@ pub record AreConditionsOfDeck (dialect : Dialect) (deck : Deck) (pool : List No
   pub accepted : IsAcceptedAs dialect deck r p paths
   pub within : IsWithinLimits p paths
   pub functions : functions_of pool ds ≡ r.definitions
-  pub bodies : AreBodiesIn pool ds
+  pub bodies : All (IsDefinitionIn pool) ds
   pub trees : map (condition_tree pool) cs ≡ conditions_of p paths
   pub inside : All (IsConditionIn pool) cs
 
