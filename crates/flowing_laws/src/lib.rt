@@ -1,0 +1,6 @@
+//! Which units have a flow.
+#![tactic(auto)]
+
+mod laws;
+
+pub use laws::units_flow;

@@ -1,0 +1,4 @@
+pub mod Capping
+pub mod CapCalls
+pub mod Weighing
+pub mod Along
