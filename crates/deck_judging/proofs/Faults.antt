@@ -28,7 +28,8 @@ module _ (d : Dialect) (deck : Deck) (pool : List Node) (ds : List Definition) (
   alias_fault (inr h) =
       let p = found_program d deck pool ds specs h.1.table in
       inl (inr (inr (
-        remarks_tree pool ds specs, p,
+        remarks_tree pool ds specs,
+        p,
         is_program d deck pool ds specs h.1.table well notes h.1.is_table,
         h.0 p refl,
         inl (h.1.first p refl refl),
@@ -40,7 +41,8 @@ module _ (d : Dialect) (deck : Deck) (pool : List Node) (ds : List Definition) (
   scene_fault rows table calls smashing (inl h) =
       let p = found_program d deck pool ds specs rows in
       inl (inr (inr (
-        remarks_tree pool ds specs, p,
+        remarks_tree pool ds specs,
+        p,
         is_program d deck pool ds specs rows well notes table,
         calls p refl,
         inr (smashing p refl refl, inl h),
@@ -48,7 +50,8 @@ module _ (d : Dialect) (deck : Deck) (pool : List Node) (ds : List Definition) (
   scene_fault rows table calls smashing (inr (ranges, inl h)) =
       let p = found_program d deck pool ds specs rows in
       inl (inr (inr (
-        remarks_tree pool ds specs, p,
+        remarks_tree pool ds specs,
+        p,
         is_program d deck pool ds specs rows well notes table,
         calls p refl,
         inr (smashing p refl refl, inr (ranges, inl h)),
@@ -56,7 +59,8 @@ module _ (d : Dialect) (deck : Deck) (pool : List Node) (ds : List Definition) (
   scene_fault rows table calls smashing (inr (ranges, inr h)) =
       let p = found_program d deck pool ds specs rows in
       inr (
-        remarks_tree pool ds specs, p,
+        remarks_tree pool ds specs,
+        p,
         is_program d deck pool ds specs rows well notes table,
         kept_by_stages p (calls p refl) (smashing p refl refl) ranges h.0,
         h.1,

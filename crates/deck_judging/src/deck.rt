@@ -82,12 +82,7 @@ fn judged_books(
 }
 
 /// The conditions of a deck of which this is known; or its first fault in ranges or in a later stage.
-fn judged_known(
-    alloc: Global,
-    keys: Keys,
-    deck: &Deck,
-    known: Known,
-) -> Result<Judged, Refusal>
+fn judged_known(alloc: Global, keys: Keys, deck: &Deck, known: Known) -> Result<Judged, Refusal>
     requires well { IsWellFormed known.dialect deck.now }
     requires short { AreShort deck.now.units }
     requires notes { AreNotesOf deck.now known.noted.pool known.noted.definitions known.noted.specs }

@@ -19,12 +19,7 @@ use std::alloc::Global;
 
 /// The names that each unit of a deck smashes, where the order of its calls is known; or the first
 /// fault of the rules on smashed names.
-fn table_of(
-    alloc: Global,
-    keys: Keys,
-    deck: &Deck,
-    order: &[u32],
-) -> Result<Vec<NameSet>, Refusal>
+fn table_of(alloc: Global, keys: Keys, deck: &Deck, order: &[u32]) -> Result<Vec<NameSet>, Refusal>
     requires well { (dialect : Dialect) × IsWellFormed dialect deck.now }
     requires order { IsCallOrder deck.now.units order.now }
     ensures table { IfOk result (λ rows. HaveTable deck.now.units rows.items) }

@@ -16,12 +16,7 @@ use unit_decl::units;
 
 /// The deck of some bytes, or their first fault by the rules on cards, statements and units.
 #[tactic(auto, using(crate::proofs::CardsAscend::cards_ascend))]
-fn deck_of(
-    alloc: Global,
-    keys: Keys,
-    dialect: Dialect,
-    bytes: &[u8],
-) -> Result<Deck, Refusal>
+fn deck_of(alloc: Global, keys: Keys, dialect: Dialect, bytes: &[u8]) -> Result<Deck, Refusal>
     ensures deck { IfOk result (λ deck. IsDeckIn dialect bytes.now deck) }
     ensures well_formed { IfOk result (λ deck. IsWellFormed dialect deck) }
     ensures broken { (f : Fault) → result ≡ Err (Broken f) → IsTextFaultIn dialect bytes.now f }
@@ -39,12 +34,7 @@ fn deck_of(
 /// units, of notes, of calls, of smashed names, of ranges and clocks, of the flow, and of sizes; each
 /// is judged where all rules of those before it are kept. Or it says that memory was wanted and not
 /// had. No answer depends on the keys.
-pub fn judged(
-    alloc: Global,
-    keys: Keys,
-    dialect: Dialect,
-    bytes: &[u8],
-) -> Result<Judged, Refusal>
+pub fn judged(alloc: Global, keys: Keys, dialect: Dialect, bytes: &[u8]) -> Result<Judged, Refusal>
     ensures judged { IfOk result (λ j. IsJudgedIn dialect bytes.now j) }
     ensures broken { (f : Fault) → result ≡ Err (Broken f) → IsFirstFaultIn dialect bytes.now f }
 {

@@ -73,12 +73,7 @@ fn tell<K: Sink>(alloc: Global, sink: &mut K, found: &Judged) -> Status
 }
 
 /// Writes the definitions and conditions of a deck that is accepted, or the line of its first fault.
-pub(crate) fn answer<K: Sink>(
-    alloc: Global,
-    dialect: Dialect,
-    sink: &mut K,
-    bytes: &[u8],
-) -> Status
+pub(crate) fn answer<K: Sink>(alloc: Global, dialect: Dialect, sink: &mut K, bytes: &[u8]) -> Status
     ensures only { (result ≡ Done) ⊎ ((result ≡ Refused) ⊎ ((result ≡ WriteFault) ⊎ (result ≡ Starved))) }
     ensures done { result ≡ Done → AppendsOf (IsDoneText dialect bytes.now) (K.written sink.old) (K.written sink.new) }
     ensures refused { result ≡ Refused → AppendsOf (IsRefusedText dialect bytes.now) (K.written sink.old) (K.written sink.new) }
