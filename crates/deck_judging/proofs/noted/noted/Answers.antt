@@ -13,4 +13,4 @@ returns-in-Ok-clause-notes c = record {
 pub returns-in-Err-clause-broken : goal.returns-in-Err-clause-broken
 returns-in-Err-clause-broken c f q =
     let same : c.in-Err.refusal ≡ Broken f = cc in
-    broken_told _ c.in-Err.refusal _ f same c.in-Err.ensures.tells
+    broken_told c.args.deck.now c.in-Err.refusal f same c.in-Err.ensures.tells
