@@ -1,9 +1,10 @@
 -- What is written for an input.
-use Rattle.std.proofs.Common.{◌≡◌, ◌⊎◌, inl, inr, ℕ, List, length, map, take, sym, ap, ◌∙◌, subst}
+use Rattle.std.proofs.Common.{◌≡◌, ◌⊎◌, inl, inr, ℕ, List, map, take, refl, sym, ap, ◌∙◌, subst}
 use Rattle.std.specs.declared.option.Option.{Option}
 use Rattle.std.specs.declared.option.Option.TheVariants.{Some, None}
 use Rattle.formula.specs.Worth.{Function, functions_of}
 use Rattle.fort_syntax.specs.Conditions.{ConditionTree}
+use Rattle.fort_syntax.specs.FaultLine.{fault_line}
 use Rattle.fort_syntax.specs.declared.deck.Deck.{Deck}
 use Rattle.fort_syntax.specs.declared.dialect.Dialect.{Dialect}
 use Rattle.fort_syntax.specs.declared.refusal.Fault.{Fault}
@@ -42,6 +43,10 @@ found_text d bytes j h = record {
       ap (λ (fs : List Function). plain_text fs (map (condition_tree j.pool) j.conditions)) (h.functions ∙ sym (program_functions d bytes h.deck h.r h.p h.paths h.accepted))
       ∙ ap (λ (cs : List ConditionTree). plain_text h.p.functions cs) h.conditions;
 }
+
+-- the line of the first fault
+pub fault_text : (d : Dialect) (bytes : List ℕ) (f : Fault) → IsFirstFaultIn d bytes f → IsRefusedText d bytes (fault_line f)
+fault_text d bytes f h = record { fault = f; first = h; is = refl }
 
 -- a text of conditions is sound
 sound_text : (d : Dialect) (bytes text : List ℕ) → IsDoneText d bytes text → IsSoundText d bytes text
