@@ -29,14 +29,14 @@ fn unmarked(alloc: Global, count: usize) -> Result<Marks, NoMemory>
 }
 
 /// Writes the line of a fault. It takes no memory.
-fn refuse<K: Sink>(sink: &mut K, fault: &Fault) -> Status
+fn refuse<K: Sink>(sink: &mut K, fault: Fault) -> Status
     ensures only { (result ≡ Refused) ⊎ (result ≡ WriteFault) }
-    ensures refused { result ≡ Refused → Appends (K.written sink.old) (K.written sink.new) (fault_line fault.now) }
-    ensures part { result ≡ WriteFault → AppendsPart (K.written sink.old) (K.written sink.new) (fault_line fault.now) }
+    ensures refused { result ≡ Refused → Appends (K.written sink.old) (K.written sink.new) (fault_line fault) }
+    ensures part { result ≡ WriteFault → AppendsPart (K.written sink.old) (K.written sink.new) (fault_line fault) }
     ensures cause { result ≡ WriteFault → Rose (K.faults sink.old) (K.faults sink.new) }
     ensures later { K.faults sink.old ≤ K.faults sink.new }
 {
-    let Ok(()) = write_fault(sink, fault) else {
+    let Ok(()) = write_fault(sink, &fault) else {
         return Status::WriteFault;
     };
     Status::Refused
@@ -84,7 +84,7 @@ pub(crate) fn answer<K: Sink>(alloc: Global, dialect: Dialect, sink: &mut K, byt
 {
     match judged(alloc, Keys::of(bytes), dialect, bytes) {
         Ok(found) => tell(alloc, sink, &found),
-        Err(Refusal::Broken(fault)) => refuse(sink, &fault),
+        Err(Refusal::Broken(fault)) => refuse(sink, fault),
         Err(Refusal::NoMemory) => Status::NoMemory,
     }
 }
