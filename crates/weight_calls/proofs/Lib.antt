@@ -1,4 +1,0 @@
-mod CalledNames
-mod CallSteps
-mod HitNames
-mod NoteTerms

@@ -1,3 +1,0 @@
-mod Arms
-mod Powers
-pub mod Views
