@@ -1,0 +1,4 @@
+pub mod Added
+pub mod UnitWays
+pub mod Paths
+pub mod Stepwise

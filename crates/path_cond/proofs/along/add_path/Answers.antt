@@ -1,0 +1,18 @@
+use Rattle.std.proofs.Common.{◌++◌, [], ◌∙◌}
+use Rattle.met_conditions.specs.Numbered.{conditions_at}
+use Rattle.path_cond.proofs.Added.{adds_met}
+use Rattle.path_cut.specs.Cursor.{way_seen}
+use Rattle.path_starts.specs.Starts.{unit_of}
+use Rattle.walk_setting.specs.Settings.{seen_from}
+use Rattle.way_walks.specs.Along.{along}
+use Rattle.path_cond.proofs.along.add_path.Goals as goal
+
+pub returns : goal.returns
+returns c =
+    let plan = c.args.plan.now in
+    let way = way_seen c.args.path.now in
+    let name = (unit_of plan).name in
+    adds_met plan.setting.now.scene.now c.args.drafts (record { alloc = c.args.drafts.alloc; pool = c.in-Ok.walk.pool; conditions = c.add_conditions.new.conditions }) name c.args.number
+    c.in-Ok.walk.met.items (λ p. along (seen_from plan.setting.now p) way.start way.steps way.end) c.requires.drafts c.in-Ok.ensures.grows c.in-Ok.ensures.well.met
+    (c.in-Ok-add_conditions.ensures ∙ (λ i. c.args.drafts.conditions.items ++ conditions_at name c.args.number 0 [] (c.deref.ensures.value i)))
+    (λ p r. c.in-Ok.ensures.along p r (c.requires.start p r))

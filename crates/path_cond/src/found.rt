@@ -1,0 +1,20 @@
+// What is found.
+use edge_io::List;
+use formula::TermPool;
+use fort_syntax::Condition;
+use std::alloc::Global;
+
+/// Conditions, and the pool of their terms.
+#[derive(Drop)]
+pub struct Conditions {
+    pub pool: TermPool,
+    pub conditions: List<Condition>,
+}
+
+/// The conditions so far, and the pool of their terms.
+#[derive(Drop)]
+pub(crate) struct Drafts {
+    pub(crate) alloc: Global,
+    pub(crate) pool: TermPool,
+    pub(crate) conditions: Vec<Condition>,
+}
