@@ -1,0 +1,4 @@
+pub mod ClosedGoals
+pub mod Standing
+pub mod Asked
+pub mod Enough
