@@ -1,0 +1,3 @@
+mod AssertFacts
+mod Walked
+mod Parts

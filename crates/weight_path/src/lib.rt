@@ -1,0 +1,12 @@
+//! The weights of the conditions along a path, as far as the cap.
+#![tactic(auto)]
+
+mod arrivals;
+mod choices;
+mod notes;
+mod starts;
+mod statements;
+mod terms;
+mod ways;
+
+pub use ways::weigh_way;
