@@ -1,0 +1,15 @@
+      SUBROUTINE SWAP(I, J)
+C$ INPUT (DEFINED I) (DEFINED J)
+C$ OUTPUT (EQUAL I (OLD J)) (EQUAL J (OLD I))
+      K = I
+      I = J
+      J = K
+      RETURN
+      END
+      SUBROUTINE ROT(I, J, K)
+C$ INPUT (DEFINED I) (DEFINED J) (DEFINED K)
+C$ OUTPUT (EQUAL I (OLD J)) (EQUAL J (OLD K)) (EQUAL K (OLD I))
+      CALL SWAP(I, J)
+      CALL SWAP(J, K)
+      RETURN
+      END
