@@ -1,0 +1,23 @@
+use Rattle.std.proofs.Common.{Err, inl, inr, ap}
+use Rattle.fort_syntax.specs.FaultLine.{fault_line}
+use Rattle.vcg_top.specs.Found.{text_of}
+use Rattle.vcg_top.proofs.Replies.{fault_text, found_text}
+use Rattle.vcg_top.proofs.answering.answer.Goals as goal
+
+pub returns-in-Ok-clause-done : goal.returns-in-Ok-clause-done
+returns-in-Ok-clause-done g c is =
+    (text_of c.in-Ok.found, found_text c.args.dialect c.args.bytes.now c.in-Ok.found c.in-Ok.ensures.judged, c.tell.ensures.done is)
+
+pub returns-in-Ok-clause-part : goal.returns-in-Ok-clause-part
+returns-in-Ok-clause-part g c is =
+    (text_of c.in-Ok.found, inl (found_text c.args.dialect c.args.bytes.now c.in-Ok.found c.in-Ok.ensures.judged), c.tell.ensures.part is)
+
+pub returns-in-Err-clause-refused : goal.returns-in-Err-clause-refused
+returns-in-Err-clause-refused g c is =
+    let told = c.deny.ensures.refused is in
+    (fault_line told.0, fault_text c.args.dialect c.args.bytes.now told.0 (c.in-Err.ensures.broken told.0 (ap Err told.1)), told.2)
+
+pub returns-in-Err-clause-part : goal.returns-in-Err-clause-part
+returns-in-Err-clause-part g c is =
+    let told = c.deny.ensures.part is in
+    (fault_line told.0, inr (fault_text c.args.dialect c.args.bytes.now told.0 (c.in-Err.ensures.broken told.0 (ap Err told.1))), told.2)
