@@ -1,0 +1,14 @@
+pub mod Made
+pub mod Words
+pub mod Fine
+pub mod Right
+pub mod Parts
+pub mod Walks
+pub mod Listed
+pub mod Units
+pub mod Lines
+pub mod Notes
+pub mod Readable
+pub mod Texts
+pub mod Inputs
+pub mod OfTexts
