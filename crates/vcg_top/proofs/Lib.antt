@@ -1,14 +1,3 @@
-pub mod Drafted
-pub mod Evaluated
-pub mod Found
-pub mod OneDeck
-pub mod Operations
-pub mod PathMade
-pub mod Rebound
-pub mod Sized
-pub mod Stated
-pub mod Steps
-pub mod TermsRead
+pub mod Fronts
 pub mod Replies
 pub mod Taken
-pub mod CardsAscend

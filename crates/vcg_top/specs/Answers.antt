@@ -1,22 +1,23 @@
 -- What the top call answers.
-use Rattle.std.specs.Prelude.{ℕ, ◌≡◌, ◌⊎◌, ◌&&◌, if◌then◌else◌, Option, Some, None, List, [], ◌∷◌, length, map, replicate, codes, string_bytes}
+use Rattle.std.specs.Prelude.{ℕ, ◌≡◌, ◌&&◌, if◌then◌else◌, Option, Some, None, List, [], ◌∷◌, length, map, replicate, codes, string_bytes}
 use Rattle.std.specs.Io.KnownBytes.{Appends}
 use Rattle.std.specs.declared.string.String.{String}
-use Rattle.fort_syntax.specs.Conditions.{ConditionTree}
 use Rattle.formula.specs.Atoms.{same_bytes}
-use Rattle.fort_syntax.specs.CardRules.{card_fault}
-use Rattle.fort_syntax.specs.Cards.{entries_of}
+use Rattle.formula.specs.Worth.{Function}
+use Rattle.fort_syntax.specs.Conditions.{ConditionTree}
 use Rattle.fort_syntax.specs.FaultLine.{fault_line}
 use Rattle.fort_syntax.specs.declared.deck.Deck.{Deck}
 use Rattle.fort_syntax.specs.declared.dialect.Dialect.{Dialect}
 use Rattle.fort_syntax.specs.declared.dialect.Dialect.TheVariants.{Common, SeventySeven}
 use Rattle.fort_syntax.specs.declared.refusal.Fault.{Fault}
-use Rattle.deck_entries.specs.Decks.{IsDeckOf, IsFirstFault}
+use Rattle.fort_notes.specs.Remarks.{Remarks}
 use Rattle.event_text.specs.EventText.{event_text}
 use Rattle.event_text.specs.Sending.{AppendsPart}
 use Rattle.event_text.specs.declared.marks.Marks.{Marks}
-use Rattle.vcg_top.specs.Conditions.{conditions_of, first_deck}
-use Rattle.vcg_top.specs.FirstForm.{FirstTree}
+use Rattle.fort_model.specs.Conditions.{conditions_of}
+use Rattle.fort_model.specs.Paths.{Path}
+use Rattle.fort_model.specs.Program.{Program}
+use Rattle.judging.specs.Judgement.{IsAcceptedIn, IsFirstFaultIn}
 
 -- ---- words
 
@@ -29,20 +30,11 @@ asked_dialect _ = None
 abbrev pub dialect_of : {A : Type 0} → List (String A) → Option Dialect
 dialect_of words = asked_dialect (map string_bytes words)
 
--- ---- judging
+-- ---- what is read
 
 -- so many bytes of an input are read, one more than a deck may have
 abbrev pub most_read : ℕ
 most_read = 1048577
-
--- the bytes keep all rules, and this is their deck
-abbrev pub IsDeckIn : Dialect → List ℕ → Deck → Type 0
-IsDeckIn d bytes deck = (card_fault bytes ≡ None) × IsDeckOf d (entries_of bytes) deck
-
--- the first fault of the bytes: rules on cards come before all others
-abbrev pub IsFaultIn : Dialect → List ℕ → Fault → Type 0
-IsFaultIn d bytes fault =
-    (card_fault bytes ≡ Some fault) ⊎ ((card_fault bytes ≡ None) × IsFirstFault d (entries_of bytes) fault)
 
 -- ---- texts
 
@@ -50,31 +42,24 @@ IsFaultIn d bytes fault =
 abbrev pub unmarked : ℕ → Marks
 unmarked count = record { letters = replicate count 45; asked = [] }
 
--- the text of conditions with no definitions and no prover asked
-abbrev pub conditions_text : List ConditionTree → List ℕ
-conditions_text conditions = event_text [] conditions (unmarked (length conditions))
+-- the text of definitions and conditions with no prover asked
+abbrev pub plain_text : List Function → List ConditionTree → List ℕ
+plain_text functions conditions = event_text functions conditions (unmarked (length conditions))
 
--- the line for a deck that has not the first form
-abbrev pub not_built_line : List ℕ
-not_built_line = codes "REFUSED 0 NotBuilt CARD 1\n"
+-- the text for bytes that are accepted: the definitions of their program, and its conditions along all its paths
+pub record IsDoneText (d : Dialect) (bytes text : List ℕ) : Type 0 where
+  pub deck : Deck
+  pub r : Remarks
+  pub p : Program
+  pub paths : List (List Path)
+  pub accepted : IsAcceptedIn d bytes deck r p paths
+  pub is : text ≡ plain_text p.functions (conditions_of p paths)
 
--- the conditions of a deck of the first form
-abbrev pub IsConditionsText : Deck → List ℕ → Type 0
-IsConditionsText deck text = (first : FirstTree) × (first_deck deck ≡ Some first) × (text ≡ conditions_text (conditions_of first))
-
--- a deck has not the first form
-abbrev pub IsNotBuiltText : Deck → List ℕ → Type 0
-IsNotBuiltText deck text = (first_deck deck ≡ None) × (text ≡ not_built_line)
-
--- the text for bytes whose deck has the first form
-abbrev pub IsDoneText : Dialect → List ℕ → List ℕ → Type 0
-IsDoneText d bytes text = (deck : Deck) × IsDeckIn d bytes deck × IsConditionsText deck text
-
--- the text for other bytes: the line of their first fault, or that their deck has not the first form
-abbrev pub IsRefusedText : Dialect → List ℕ → List ℕ → Type 0
-IsRefusedText d bytes text =
-    ((fault : Fault) × IsFaultIn d bytes fault × (text ≡ fault_line fault))
-    ⊎ ((deck : Deck) × IsDeckIn d bytes deck × IsNotBuiltText deck text)
+-- the text for other bytes: the line of their first fault
+pub record IsRefusedText (d : Dialect) (bytes text : List ℕ) : Type 0 where
+  pub fault : Fault
+  pub first : IsFirstFaultIn d bytes fault
+  pub is : text ≡ fault_line fault
 
 -- a text of this kind was appended
 abbrev pub AppendsOf : (List ℕ → Type 0) → Option (List ℕ) → Option (List ℕ) → Type 0

@@ -1,7 +1,4 @@
 pub mod Answers
-pub mod Conditions
-pub mod Decks
-pub mod Drafts
-pub mod FirstForm
 pub mod Found
+pub mod Soundness
 pub mod Status

@@ -1,5 +1,5 @@
 use Rattle.std.proofs.Common.{◌∙◌}
-use Rattle.vcg_top.proofs.Replies.{asked_is, done_for, refused_for, part_for, never_refused, done_or_starved}
+use Rattle.vcg_top.proofs.Replies.{asked_is, done_for, refused_for, part_for, sound_for, never_refused, never_done, done_or_starved, refused_or_starved}
 use Rattle.vcg_top.proofs.call.vcg.Goals as goal
 
 pub returns-clause-done : goal.returns-clause-done
@@ -20,11 +20,26 @@ returns-clause-part g c d bytes asks told is =
     let same = asked_is _ _ c.in-Some.dialect d c.in-Some.is c.dialect_of.ensures asks in
     (read.1, part_for c.in-Some.dialect d _ bytes _ _ same (c.deref.ensures.value ∙ read.0) (c.answer.ensures.part is))
 
+pub returns-clause-sound : goal.returns-clause-sound
+returns-clause-sound g c d bytes asks told is =
+    let read = c.in-Ok.ensures.told bytes told in
+    let same = asked_is _ _ c.in-Some.dialect d c.in-Some.is c.dialect_of.ensures asks in
+    sound_for d bytes _ _ (done_for c.in-Some.dialect d _ bytes _ _ same (c.deref.ensures.value ∙ read.0) (c.answer.ensures.done is))
+
 pub returns-clause-complete : goal.returns-clause-complete
-returns-clause-complete g c d bytes deck asks told is some source sink =
+returns-clause-complete g c d bytes deck r p paths asks told is source sink =
     let read = c.in-Ok.ensures.told bytes told in
     let same = asked_is _ _ c.in-Some.dialect d c.in-Some.is c.dialect_of.ensures asks in
     done_or_starved c.answer.result c.answer.ensures.only
-    (λ refused. never_refused d bytes deck _ _ is some
+    (λ refused. never_refused d bytes deck r p paths _ _ is
     (refused_for c.in-Some.dialect d _ bytes _ _ same (c.deref.ensures.value ∙ read.0) (c.answer.ensures.refused refused)))
+    (λ failed. sink (c.answer.ensures.cause failed))
+
+pub returns-clause-strict : goal.returns-clause-strict
+returns-clause-strict g c d bytes f asks told is source sink =
+    let read = c.in-Ok.ensures.told bytes told in
+    let same = asked_is _ _ c.in-Some.dialect d c.in-Some.is c.dialect_of.ensures asks in
+    refused_or_starved c.answer.result c.answer.ensures.only
+    (λ done. never_done d bytes f _ _ is
+    (done_for c.in-Some.dialect d _ bytes _ _ same (c.deref.ensures.value ∙ read.0) (c.answer.ensures.done done)))
     (λ failed. sink (c.answer.ensures.cause failed))

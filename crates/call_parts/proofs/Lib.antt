@@ -1,0 +1,4 @@
+pub mod Meeting
+pub mod Noted
+pub mod Operated
+pub mod Passed

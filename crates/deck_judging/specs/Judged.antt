@@ -1,0 +1,26 @@
+-- What is found of a text that is accepted.
+use Rattle.std.specs.Prelude.{ℕ, ◌≡◌, List, map}
+use Rattle.std.specs.List.{All}
+use Rattle.formula.specs.Worth.{functions_of}
+use Rattle.fort_syntax.specs.declared.deck.Deck.{Deck}
+use Rattle.fort_syntax.specs.declared.dialect.Dialect.{Dialect}
+use Rattle.fort_notes.specs.Remarks.{Remarks}
+use Rattle.event_text.specs.Conditions.{IsConditionIn, IsDefinitionIn, condition_tree}
+use Rattle.fort_model.specs.Conditions.{conditions_of}
+use Rattle.fort_model.specs.Paths.{Path}
+use Rattle.fort_model.specs.Program.{Program}
+use Rattle.judging.specs.Judgement.{IsAcceptedIn}
+use Rattle.deck_judging.specs.declared.found.Judged.{Judged}
+
+-- Bytes are accepted in a dialect; the definitions are those of their notes, and the conditions those of their program along all
+-- its paths, all with terms of the pool.
+pub record IsJudgedIn (d : Dialect) (bytes : List ℕ) (j : Judged) : Type 0 where
+  pub deck : Deck
+  pub r : Remarks
+  pub p : Program
+  pub paths : List (List Path)
+  pub accepted : IsAcceptedIn d bytes deck r p paths
+  pub functions : functions_of j.pool j.definitions ≡ r.definitions
+  pub conditions : map (condition_tree j.pool) j.conditions ≡ conditions_of p paths
+  pub definitions_inside : All (IsDefinitionIn j.pool) j.definitions
+  pub conditions_inside : All (IsConditionIn j.pool) j.conditions

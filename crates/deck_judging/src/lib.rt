@@ -1,0 +1,13 @@
+//! The judgement of a text: its conditions, or its first fault.
+#![tactic(auto)]
+
+mod deck;
+mod found;
+mod noted;
+mod notes_found;
+mod scene;
+mod smashed;
+mod text;
+
+pub use found::Judged;
+pub use text::judged;

@@ -1,0 +1,2 @@
+mod Units
+mod Kept

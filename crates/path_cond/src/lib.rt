@@ -1,0 +1,10 @@
+//! The conditions of a program.
+#![tactic(auto)]
+
+mod along;
+mod found;
+mod units;
+mod whole;
+
+pub use found::Conditions;
+pub use whole::conditions;

@@ -1,0 +1,25 @@
+-- What a text of conditions is good for.
+use Rattle.std.specs.Prelude.{ℕ, ◌≡◌, List}
+use Rattle.fort_syntax.specs.declared.deck.Deck.{Deck}
+use Rattle.fort_syntax.specs.declared.dialect.Dialect.{Dialect}
+use Rattle.fort_notes.specs.Remarks.{Remarks}
+use Rattle.fort_model.specs.Conditions.{AreValid, IsExact, conditions_of}
+use Rattle.fort_model.specs.Correct.{IsTotallyCorrect}
+use Rattle.fort_model.specs.Paths.{Path}
+use Rattle.fort_model.specs.Program.{Program}
+use Rattle.judging.specs.Judgement.{IsAcceptedIn}
+use Rattle.vcg_top.specs.Answers.{plain_text}
+
+-- A text spells the conditions of a program, that of a deck that these bytes are and that keeps all rules. The conditions are
+-- exact: one for each check of each path of each unit, in order, and each is false just where the walk along its path fails at
+-- its check. And where all of them are valid, the program is totally correct: each call of each of its units, on each
+-- processor of the dialect that meets the bound, from each storage that fits and meets INPUT, ends without error and meets OUTPUT.
+pub record IsSoundText (d : Dialect) (bytes text : List ℕ) : Type 0 where
+  pub deck : Deck
+  pub r : Remarks
+  pub p : Program
+  pub paths : List (List Path)
+  pub accepted : IsAcceptedIn d bytes deck r p paths
+  pub spelled : text ≡ plain_text p.functions (conditions_of p paths)
+  pub exact : IsExact p (conditions_of p paths)
+  pub correct : AreValid p.functions (conditions_of p paths) → IsTotallyCorrect p

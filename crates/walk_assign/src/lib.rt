@@ -1,0 +1,6 @@
+//! Assignments along a path.
+#![tactic(auto)]
+
+mod assignments;
+
+pub use assignments::assign;

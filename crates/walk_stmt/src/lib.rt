@@ -1,0 +1,6 @@
+//! Statements along a path.
+#![tactic(auto)]
+
+mod statements;
+
+pub use statements::performed;

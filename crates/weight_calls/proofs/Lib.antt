@@ -1,0 +1,4 @@
+mod CalledNames
+mod CallSteps
+mod HitNames
+mod NoteTerms

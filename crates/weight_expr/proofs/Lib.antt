@@ -1,0 +1,3 @@
+mod Arms
+mod Powers
+pub mod Views

@@ -1,0 +1,2 @@
+mod StmtViews
+mod TestSteps
