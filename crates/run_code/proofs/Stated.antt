@@ -22,10 +22,10 @@ use Rattle.fort_model.specs.Storage.{Storage}
 use Rattle.fort_model.specs.Flow.{target, next_point, next_branch, loops_at, loops_around, through, leads, leads_do, leads_computed, one_of, chosen, behind}
 use Rattle.fort_model.specs.Outcome.{Act, ◌>>=◌, ◌>>◌, give, check, and_then, step}
 use Rattle.fort_model.specs.Passing.{Taken, Fresh, Caller, call, passed}
-use Rattle.fort_model.specs.Evaluate.{Scene, value_of, ranged, taken, actuals, evaluate}
+use Rattle.fort_model.specs.Evaluate.{Scene, ranged, taken, actuals, evaluate}
 use Rattle.fort_model.specs.Perform.{variable, step_value, parameter, tests, card_in, assign, begin, select, result, perform, sign_choice, truth_choice}
-use Rattle.run_code.specs.Code.{Instr, value, forget, assigned, turn, signs, ways, begin_do, refer, count, code, led_to, chooses, begins, behind_code, over_code, param_code, step_code, stmt_code, under, exec, StatementsArePerformed}
-use Rattle.run_code.proofs.Coded.{assoc, alike, alike_if, pushed, computed, taking, newest_all, under_all, actuals_count}
+use Rattle.run_code.specs.Code.{Instr, forget, assigned, turn, signs, ways, begin_do, refer, count, code, led_to, chooses, begins, behind_code, over_code, param_code, step_code, stmt_code, under, exec, StatementsArePerformed}
+use Rattle.run_code.proofs.Coded.{assoc, alike, alike_if, pushed, computed, read_on, taking, newest_all, under_all, actuals_count}
 
 equal_all : (n : ℕ) → (n == n) ≡ true
 equal_all n = grind arith
@@ -131,10 +131,8 @@ module _ {A : Type 0} (s : Scene) (run : Caller) (card : ℕ) (next : ℕ → Li
 
     valued_then : (e : Expr) (k : ℕ) (is : List Instr) (act : Cell → Act (List ℕ)) (way : List ℕ → Option ℕ)
         → ((v : Cell) (st : Storage) (n : ℕ) → does is 0 (Fresh v ∷ xs) st n ≡ and_then (act v st n) (to xs way)) → (st : Storage) (n : ℕ)
-        → does (code s.unit s.units k e (value ∷ is)) 0 xs st n ≡ and_then (and_then (evaluate s run card k e st n) act) (to xs way)
-    valued_then e k is act way h st n =
-        computed s run card next k e (value ∷ is) xs st n ∙ sym (assoc (taken s run card k e st n) (value_of card) _)
-        ∙ alike (evaluate s run card k e st n) _ _ h ∙ sym (assoc (evaluate s run card k e st n) _ _)
+        → does (code s.unit s.units true k e is) 0 xs st n ≡ and_then (and_then (evaluate s run card k e st n) act) (to xs way)
+    valued_then e k is act way h st n = read_on s run card next k e is xs st n ∙ alike (evaluate s run card k e st n) _ _ h ∙ sym (assoc (evaluate s run card k e st n) _ _)
 
     -- ---- CALL
 
@@ -153,10 +151,10 @@ module _ {A : Type 0} (s : Scene) (run : Caller) (card : ℕ) (next : ℕ → Li
     pub stated : (k : ℕ) (stmt : Stmt) (st : Storage) (n : ℕ) → does (here k stmt) 0 xs st n ≡ goes k stmt st n
     stated k (Assign l r) st n =
         let kr = k + calls_in s.unit l in
-        computed s run card next kr r (value ∷ code s.unit s.units k l (assigned ∷ behind_code s.unit card pc ∷ [])) xs st n ∙ sym (assoc (taken s run card kr r st n) (value_of card) _)
+        read_on s run card next kr r (code s.unit s.units false k l (assigned ∷ behind_code s.unit card pc ∷ [])) xs st n
         ∙ alike (evaluate s run card kr r st n) _ _
         (λ c st n.
-        computed s run card next k l (assigned ∷ behind_code s.unit card pc ∷ []) (Fresh c ∷ xs) st n
+        computed s run card next false k l (assigned ∷ behind_code s.unit card pc ∷ []) (Fresh c ∷ xs) st n
         ∙ alike (taken s run card k l st n) _ _ (λ x st n. sym (assoc (assign x c st n) _ _))
         ∙ sym (assoc (taken s run card k l st n) _ _))
         ∙ sym (assoc (evaluate s run card kr r st n) _ _)

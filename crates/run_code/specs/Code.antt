@@ -1,5 +1,5 @@
 -- The code of expressions and statements, and what it does.
-use Rattle.std.specs.Prelude.{ℕ, zero, suc, ◌+◌, ◌≡◌, Bool, true, false, cond, not, ◌&&◌, ◌||◌, ℤ, neg_ℤ, pos, ◌+ℤ◌, ◌-ℤ◌, int_le, int_lt, List, [], ◌∷◌, map, length, Option, Some, None, slice_get}
+use Rattle.std.specs.Prelude.{ℕ, zero, suc, ◌+◌, ◌≡◌, Bool, true, false, cond, not, ◌&&◌, ◌||◌, ℤ, neg_ℤ, pos, ◌+ℤ◌, ◌-ℤ◌, int_le, int_lt, List, [], ◌∷◌, ◌++◌, map, length, Option, Some, None, slice_get}
 use mathlib.Core.Former.{Count}
 use Rattle.formula.specs.Values as values_of
 use Rattle.formula.specs.Values.{is_between}
@@ -26,17 +26,18 @@ use Rattle.fort_model.specs.Cells.{num, holds, same, compares}
 use Rattle.fort_model.specs.Storage.{Storage}
 use Rattle.fort_model.specs.Outcome.{Act, ◌>>=◌, ◌>>◌, check, step, stuck}
 use Rattle.fort_model.specs.Passing.{Taken, Cells, Fresh, passed, Caller, call}
-use Rattle.fort_model.specs.Evaluate.{Scene, value_of, ranged, constant, operate, power, intrinsic_value, element, taken}
+use Rattle.fort_model.specs.Evaluate.{Scene, read, value_of, ranged, constant, operate, power, intrinsic_value, element, fresh, taken, evaluate}
 use Rattle.fort_model.specs.Perform.{set_variable, tests, card_in, assign, result, perform}
 use Rattle.fort_model.specs.Flow.{Loop, target, next_point, next_branch, loops_at, loops_around, chosen, through, leads}
 
 -- An instruction. Code works on a stack of what was taken: the cells of a name or of an element, or fresh values.
 pub data Instr : Type 0 where
-  -- a constant; the step of a DO that has none; a truth value; the cells of a name
+  -- a constant; the step of a DO that has none; a truth value; the cells of a name; what its first cell holds
   number : ℕ → Instr
   one : Instr
   truth : Bool → Instr
   place : Name → Instr
+  load : Name → Instr
   -- what was taken is read for its value
   value : Instr
   -- operators on the values at the top
@@ -76,86 +77,99 @@ pub data Instr : Type 0 where
 
 -- ---- code
 
+-- how many expressions a row has
 abbrev pub count : {m : Count} → Row_of-Expr m → ℕ
 count end_of-Expr = 0
 count (more_of-Expr e es) = suc (count es)
 
-abbrev pub size_by : Applied → ℕ → ℕ → ℕ
-size_by (Element dims) v a = suc v
-size_by (BuiltIn i) v a = suc v
-size_by Reference v a = suc a
+-- an array's element is a place too, which is read where it is wanted for its value
+abbrev pub size_by : Bool → Applied → ℕ → ℕ → ℕ
+size_by reads (Element dims) v a = suc (v + cond reads 1 0)
+size_by reads (BuiltIn i) v a = suc v
+size_by reads Reference v a = suc a
 
+-- how long the code of an expression is, which is read for its value or only taken
 abbrev mutual
-  pub size : Routine → Expr → ℕ
-  size u (Const c) = 1
-  size u (Truth b) = 1
-  size u (Var x) = 1
-  size u (Apply' f _ args) = size_by (applied u f) (values_size u args) (actuals_size u args)
-  size u (Paren' _ (only a)) = suc (size u a)
-  size u (Pos' _ (only a)) = suc (size u a)
-  size u (Neg' _ (only a)) = suc (suc (size u a))
-  size u (Power' _ (only a) n) = suc (suc (size u a))
-  size u (Bin' o _ (only a) _ (only b)) = suc (size u a) + suc (suc (size u b))
-  size u (Rel' o _ (only a) _ (only b)) = suc (size u a) + suc (suc (size u b))
-  size u (Not' _ (only a)) = suc (suc (size u a))
-  size u (And' _ (only a) _ (only b)) = suc (suc (size u a)) + suc (suc (size u b))
-  size u (Or' _ (only a) _ (only b)) = suc (suc (size u a)) + suc (suc (size u b))
+  pub size : Routine → Bool → Expr → ℕ
+  size u reads (Const c) = 1
+  size u reads (Truth b) = 1
+  size u reads (Var x) = 1
+  size u reads (Apply' f _ args) = size_by reads (applied u f) (values_size u args) (actuals_size u args)
+  size u reads (Paren' _ (only a)) = size u true a
+  size u reads (Pos' _ (only a)) = size u true a
+  size u reads (Neg' _ (only a)) = suc (size u true a)
+  size u reads (Power' _ (only a) n) = suc (size u true a)
+  size u reads (Bin' o _ (only a) _ (only b)) = size u true a + suc (size u true b)
+  size u reads (Rel' o _ (only a) _ (only b)) = size u true a + suc (size u true b)
+  size u reads (Not' _ (only a)) = suc (size u true a)
+  size u reads (And' _ (only a) _ (only b)) = suc (size u true a) + suc (size u true b)
+  size u reads (Or' _ (only a) _ (only b)) = suc (size u true a) + suc (size u true b)
 
+  -- the same for a row of which each expression is read, and for one of which each is only taken
   pub values_size : Routine → {m : Count} → Row_of-Expr m → ℕ
   values_size u end_of-Expr = 0
-  values_size u (more_of-Expr e es) = suc (size u e) + values_size u es
+  values_size u (more_of-Expr e es) = size u true e + values_size u es
 
   pub actuals_size : Routine → {m : Count} → Row_of-Expr m → ℕ
   actuals_size u end_of-Expr = 0
-  actuals_size u (more_of-Expr e es) = size u e + actuals_size u es
+  actuals_size u (more_of-Expr e es) = size u false e + actuals_size u es
 
-abbrev pub code_by : List Routine → ℕ → Name → Applied → ℕ → (List Instr → List Instr) → (List Instr → List Instr) → List Instr → List Instr
-code_by units k f (Element dims) n vs ws is = vs (array f dims n ∷ is)
-code_by units k f (BuiltIn i) n vs ws is = vs (built_in i n ∷ is)
-code_by units k f Reference n vs ws is = ws (refer (suc k) (function units f) n ∷ is)
+-- the code of an element, an intrinsic function or a call, by the code of its arguments
+abbrev pub code_by : List Routine → Bool → ℕ → Name → Applied → ℕ → (List Instr → List Instr) → (List Instr → List Instr) → List Instr → List Instr
+code_by units reads k f (Element dims) n vs ws is = vs (array f dims n ∷ cond reads (value ∷ is) is)
+code_by units reads k f (BuiltIn i) n vs ws is = vs (built_in i n ∷ is)
+code_by units reads k f Reference n vs ws is = ws (refer (suc k) (function units f) n ∷ is)
 
+-- the code of an expression, which is read for its value or only taken, with k calls before it, before other code
 abbrev mutual
-  pub code : Routine → List Routine → ℕ → Expr → List Instr → List Instr
-  code u units k (Const c) is = number c ∷ is
-  code u units k (Truth b) is = truth b ∷ is
-  code u units k (Var x) is = place x ∷ is
-  code u units k (Apply' f _ args) is = code_by units k f (applied u f) (count args) (values_code u units k args) (actuals_code u units (suc k) args) is
-  code u units k (Paren' _ (only a)) is = code u units k a (value ∷ is)
-  code u units k (Pos' _ (only a)) is = code u units k a (value ∷ is)
-  code u units k (Neg' _ (only a)) is = code u units k a (value ∷ negate ∷ is)
-  code u units k (Power' _ (only a) n) is = code u units k a (value ∷ raise n ∷ is)
-  code u units k (Bin' o _ (only a) _ (only b)) is = code u units k a (value ∷ code u units (k + calls_in u a) b (value ∷ operation o ∷ is))
-  code u units k (Rel' o _ (only a) _ (only b)) is = code u units k a (value ∷ code u units (k + calls_in u a) b (value ∷ comparison o ∷ is))
-  code u units k (Not' _ (only a)) is = code u units k a (value ∷ negation ∷ is)
-  code u units k (And' _ (only a) _ (only b)) is = code u units k a (value ∷ skip_false (suc (suc (size u b))) ∷ code u units (k + calls_in u a) b (value ∷ both ∷ is))
-  code u units k (Or' _ (only a) _ (only b)) is = code u units k a (value ∷ skip_true (suc (suc (size u b))) ∷ code u units (k + calls_in u a) b (value ∷ either ∷ is))
+  pub code : Routine → List Routine → Bool → ℕ → Expr → List Instr → List Instr
+  code u units reads k (Const c) is = number c ∷ is
+  code u units reads k (Truth b) is = truth b ∷ is
+  code u units reads k (Var x) is = cond reads (load x) (place x) ∷ is
+  code u units reads k (Apply' f _ args) is =
+      code_by units reads k f (applied u f) (count args) (values_code u units k args) (actuals_code u units (suc k) args) is
+  code u units reads k (Paren' _ (only a)) is = code u units true k a is
+  code u units reads k (Pos' _ (only a)) is = code u units true k a is
+  code u units reads k (Neg' _ (only a)) is = code u units true k a (negate ∷ is)
+  code u units reads k (Power' _ (only a) n) is = code u units true k a (raise n ∷ is)
+  code u units reads k (Bin' o _ (only a) _ (only b)) is = code u units true k a (code u units true (k + calls_in u a) b (operation o ∷ is))
+  code u units reads k (Rel' o _ (only a) _ (only b)) is = code u units true k a (code u units true (k + calls_in u a) b (comparison o ∷ is))
+  code u units reads k (Not' _ (only a)) is = code u units true k a (negation ∷ is)
+  code u units reads k (And' _ (only a) _ (only b)) is = code u units true k a (skip_false (suc (size u true b)) ∷ code u units true (k + calls_in u a) b (both ∷ is))
+  code u units reads k (Or' _ (only a) _ (only b)) is = code u units true k a (skip_true (suc (size u true b)) ∷ code u units true (k + calls_in u a) b (either ∷ is))
 
+  -- the same for a row of which each expression is read, and for one of which each is only taken
   pub values_code : Routine → List Routine → ℕ → {m : Count} → Row_of-Expr m → List Instr → List Instr
   values_code u units k end_of-Expr is = is
-  values_code u units k (more_of-Expr e es) is = code u units k e (value ∷ values_code u units (k + calls_in u e) es is)
+  values_code u units k (more_of-Expr e es) is = code u units true k e (values_code u units (k + calls_in u e) es is)
 
   pub actuals_code : Routine → List Routine → ℕ → {m : Count} → Row_of-Expr m → List Instr → List Instr
   actuals_code u units k end_of-Expr is = is
-  actuals_code u units k (more_of-Expr e es) is = code u units k e (actuals_code u units (k + calls_in u e) es is)
+  actuals_code u units k (more_of-Expr e es) is = code u units false k e (actuals_code u units (k + calls_in u e) es is)
 
 -- ---- what code does, on a stack of what was taken
 
+-- the newest item of a stack, which stands first; an undefined value where there is none
 abbrev pub top : List Taken → Taken
 top [] = Fresh Undefined
 top (x ∷ xs) = x
 
+-- what is below the newest item
 abbrev pub below : List Taken → List Taken
 below [] = []
 below (x ∷ xs) = xs
 
+-- the value of an item that was read
 abbrev pub cell_of : Taken → Cell
 cell_of (Fresh c) = c
 cell_of (Cells e) = Undefined
 
+-- the values of several items
 abbrev pub cells_of : List Taken → List Cell
 cells_of [] = []
 cells_of (x ∷ xs) = cell_of x ∷ cells_of xs
 
+-- the values of the newest item, of the one below it, and of the third
 abbrev pub first_of : List Taken → Cell
 first_of xs = cell_of (top xs)
 
@@ -210,6 +224,9 @@ exec s run card next (number c ∷ is) zero xs = do
 exec s run card next (one ∷ is) zero xs = exec s run card next is zero (Fresh (Int (pos 1)) ∷ xs)
 exec s run card next (truth b ∷ is) zero xs = exec s run card next is zero (Fresh (Logical b) ∷ xs)
 exec s run card next (place x ∷ is) zero xs = exec s run card next is zero (Cells (s.environment x) ∷ xs)
+exec s run card next (load x ∷ is) zero xs = do
+  v ← read card (s.environment x).first
+  exec s run card next is zero (Fresh v ∷ xs)
 exec s run card next (value ∷ is) zero xs = do
   v ← value_of card (top xs)
   exec s run card next is zero (Fresh v ∷ below xs)
@@ -274,38 +291,44 @@ over_code u last pc = test_loops (card_in (slice_get u.lines last)) (next_point 
 -- a parameter of a DO
 abbrev pub param_code : Param → List Instr → List Instr
 param_code (Fixed c) is = number c ∷ is
-param_code (Named x) is = place x ∷ value ∷ is
+param_code (Named x) is = load x ∷ is
 
+-- the step of a DO, where it has one
 abbrev pub step_code : Option Param → List Instr → List Instr
 step_code None is = one ∷ is
 step_code (Some m) is = param_code m is
 
 -- the code of a statement at a card and a point, with k calls before it
 abbrev pub stmt_code : Routine → List Routine → ℕ → ℕ → ℕ → Stmt → List Instr
-stmt_code u units card pc k (Assign l r) = code u units (k + calls_in u l) r (value ∷ code u units k l (assigned ∷ behind_code u card pc ∷ []))
+stmt_code u units card pc k (Assign l r) = code u units true (k + calls_in u l) r (code u units false k l (assigned ∷ behind_code u card pc ∷ []))
 stmt_code u units card pc k (GoTo label) = jump (target u.lines label) ∷ []
-stmt_code u units card pc k (Computed labels x) = place x ∷ value ∷ choose (map (target u.lines) labels) ∷ behind_code u card pc ∷ []
-stmt_code u units card pc k (ArithIf e l m n) = code u units k e (value ∷ signs (target u.lines l) (target u.lines m) (target u.lines n) ∷ [])
-stmt_code u units card pc k (LogicalIf' e _ (carried b)) = code u units k e (value ∷ turn ∷ behind_code u card pc ∷ stmt_code u units card pc (k + calls_in u e) b)
+stmt_code u units card pc k (Computed labels x) = load x ∷ choose (map (target u.lines) labels) ∷ behind_code u card pc ∷ []
+stmt_code u units card pc k (ArithIf e l m n) = code u units true k e (signs (target u.lines l) (target u.lines m) (target u.lines n) ∷ [])
+stmt_code u units card pc k (LogicalIf' e _ (carried b)) = code u units true k e (turn ∷ behind_code u card pc ∷ stmt_code u units card pc (k + calls_in u e) b)
 stmt_code u units card pc k (Do label x first last by) =
     param_code first (param_code last (step_code by (begin_do x (suc pc) ∷ over_code u (target u.lines label) pc ∷ [])))
 stmt_code u units card pc k Continue = behind_code u card pc ∷ []
 stmt_code u units card pc k (Call f args) =
     actuals_code u units (suc k) (row_of args) (refer (suc k) (subroutine units f) (count (row_of args)) ∷ forget ∷ behind_code u card pc ∷ [])
 stmt_code u units card pc k Return = result_of ∷ jump (length u.lines) ∷ []
-stmt_code u units card pc k (BlockIf e) = code u units k e (value ∷ ways (next_point u pc) (next_branch u pc) ∷ [])
-stmt_code u units card pc k (ElseIf e) = code u units k e (value ∷ ways (next_point u pc) (next_branch u pc) ∷ [])
+stmt_code u units card pc k (BlockIf e) = code u units true k e (ways (next_point u pc) (next_branch u pc) ∷ [])
+stmt_code u units card pc k (ElseIf e) = code u units true k e (ways (next_point u pc) (next_branch u pc) ∷ [])
 stmt_code u units card pc k Else = behind_code u card pc ∷ []
 stmt_code u units card pc k EndIf = behind_code u card pc ∷ []
 stmt_code u units card pc k _ = stop ∷ []
 
 -- ---- what code is
 
+-- an expression is read for its value, or only taken
+abbrev pub taken_so : Bool → Scene → Caller → ℕ → ℕ → Expr → Act Taken
+taken_so true s run card k e = fresh (evaluate s run card k e)
+taken_so false s run card k e = taken s run card k e
+
 -- the code of an expression before other code takes the expression, and then the other code goes on
 abbrev pub ExpressionsAreTaken : Type 0
 ExpressionsAreTaken =
-    (s : Scene) (run : Caller) (card k : ℕ) (next : ℕ → List Taken → Act Cell) (e : Expr) (is : List Instr) (xs : List Taken) (st : Storage) (n : ℕ)
-    → exec s run card next (code s.unit s.units k e is) 0 xs st n ≡ (taken s run card k e >>= (λ x. exec s run card next is 0 (x ∷ xs))) st n
+    (s : Scene) (run : Caller) (card k : ℕ) (next : ℕ → List Taken → Act Cell) (reads : Bool) (e : Expr) (is : List Instr) (xs : List Taken) (st : Storage) (n : ℕ)
+    → exec s run card next (code s.unit s.units reads k e is) 0 xs st n ≡ (taken_so reads s run card k e >>= (λ x. exec s run card next is 0 (x ∷ xs))) st n
 
 -- the code of a statement performs the statement, and goes on where that leads
 abbrev pub StatementsArePerformed : Type 0
@@ -313,3 +336,12 @@ StatementsArePerformed =
     (s : Scene) (run : Caller) (card pc k : ℕ) (next : ℕ → List Taken → Act Cell) (stmt : Stmt) (xs : List Taken) (st : Storage) (n : ℕ)
     → exec s run card next (stmt_code s.unit s.units card pc k stmt) 0 xs st n
     ≡ (perform s run card pc k stmt >>= (λ choices. led_to (leads s.processor.dialect s.unit pc stmt choices) (λ q. next q xs))) st n
+
+-- the code of an expression before other code is its code before the first part of that, and then the second
+abbrev pub CodeStandsBefore : Type 0
+CodeStandsBefore =
+    (u : Routine) (units : List Routine) (reads : Bool) (k : ℕ) (e : Expr) (is js : List Instr) → code u units reads k e (is ++ js) ≡ code u units reads k e is ++ js
+
+-- the code of an expression before other code is as long as both
+abbrev pub CodeIsSoLong : Type 0
+CodeIsSoLong = (u : Routine) (units : List Routine) (reads : Bool) (k : ℕ) (e : Expr) (is : List Instr) → length (code u units reads k e is) ≡ size u reads e + length is

@@ -1,8 +1,7 @@
 -- Runs of the model go on so.
-use Rattle.std.proofs.Common.{◌≡◌, ℕ, List, [], refl, ◌∙◌}
+use Rattle.std.proofs.Common.{◌≡◌, List, refl}
 use Rattle.formula.specs.declared.value.Cell.{Cell}
 use Rattle.fort_syntax.specs.declared.unit.Unit.{Unit as Routine}
-use Rattle.fort_model.specs.Storage.{Storage, Environment}
 use Rattle.fort_model.specs.Processor.{Processor}
 use Rattle.fort_model.specs.Outcome.{Outcome, Ended, Erred, Running, and_then, give}
 use Rattle.fort_model.specs.Run.{run}

@@ -1,13 +1,13 @@
 -- There is an end of work.
-use Rattle.std.proofs.Common.{◌≡◌, ℕ, zero, suc, ◌+◌, ◌-◌, ◌<◌, ◌≤◌, Bool, true, false, cond, not, ◌&&◌, List, [], ◌∷◌, length, drop, Option, Some, None, slice_get, refl, sym, ap, ◌∙◌, subst, arith}
-use Rattle.std.specs.Prelude.{is_some, ℤ, pos, neg_ℤ, ◌+ℤ◌, ◌-ℤ◌, int_le, ◌||◌}
+use Rattle.std.proofs.Common.{◌≡◌, ℕ, suc, ◌+◌, ◌-◌, ◌<◌, ◌≤◌, Bool, true, false, cond, not, ◌&&◌, List, [], ◌∷◌, length, drop, Option, Some, None, slice_get, arith}
+use Rattle.std.specs.Prelude.{is_some, ℤ, pos, neg_ℤ, ◌+ℤ◌, ◌-ℤ◌, int_le}
 use Rattle.formula.specs.Values.{count, is_between}
 use Rattle.fort_syntax.specs.Names.{is_function}
 use Rattle.fort_syntax.specs.declared.name.Name.{Name}
 use Rattle.fort_syntax.specs.declared.condition.Kind.TheVariants.{ChoiceCheck, LoopCheck}
 use Rattle.fort_model.specs.Cells.{num, holds}
 use Rattle.fort_model.specs.Flow.{chosen}
-use Rattle.fort_model.specs.Evaluate.{Scene, value_of, ranged, constant, operate, power, intrinsic_value, element}
+use Rattle.fort_model.specs.Evaluate.{Scene, read, value_of, ranged, constant, operate, power, intrinsic_value, element}
 use Rattle.fort_model.specs.Perform.{assign, result}
 use Rattle.run_code.specs.Code.{top, below, cells_of, first_of, second_of, third_of, newest, under}
 use Rattle.std.proofs.lemmas.List.{length-drop}
@@ -21,9 +21,9 @@ use Rattle.fort_model.specs.Storage.{Storage, store}
 use Rattle.fort_model.specs.Processor.{Processor}
 use Rattle.fort_model.specs.Outcome.{Outcome, Ended, Erred, Running, check}
 use Rattle.fort_model.specs.Passing.{Taken, Fresh}
-use Rattle.run_code.specs.Code.{Instr, number, one, truth, place, value, negate, raise, operation, comparison, negation, skip_false, both, skip_true, either, array, built_in, refer, forget, assigned, test_loops, jump, turn, signs, ways, choose, begin_do, result_of, stop}
+use Rattle.run_code.specs.Code.{Instr, number, one, truth, place, load, value, negate, raise, operation, comparison, negation, skip_false, both, skip_true, either, array, built_in, refer, forget, assigned, test_loops, jump, turn, signs, ways, choose, begin_do, result_of, stop}
 use Rattle.run_moves.specs.Moves.{Move, on, to_point, to_carried, to_tests, to_call, to_error, to_nothing, settled, to_chosen, calling, choosing, beginning, moved}
-use Rattle.run_frames.specs.Frames.{Frame, Waiting, lowest, scene_at}
+use Rattle.run_frames.specs.Frames.{Frame, Waiting, scene_at}
 use Rattle.run_frames.specs.Configs.{Config, entering, between, inside, carried, testing, ended, erred, nowhere, placed, left, left_at, worked, waits, is_over, weight_of, weight, WorkEnds}
 
 -- a move goes on with at most so many instructions
@@ -85,6 +85,7 @@ moved_short s card (number c) is xs st = short (length is) (constant s.processor
 moved_short s card one is xs st = all is
 moved_short s card (truth b) is xs st = all is
 moved_short s card (place x) is xs st = all is
+moved_short s card (load x) is xs st = short (length is) (read card (s.environment x).first st 0) (λ v st. on is (Fresh v ∷ xs) st) (λ v st. all is)
 moved_short s card value is xs st = short (length is) (value_of card (top xs) st 0) (λ v st. on is (Fresh v ∷ below xs) st) (λ v st. all is)
 moved_short s card negate is xs st = short (length is) (ranged s.processor card (neg_ℤ (num (first_of xs))) st 0) (λ v st. on is (Fresh v ∷ below xs) st) (λ v st. all is)
 moved_short s card (raise m) is xs st = short (length is) (power s.processor card (num (first_of xs)) m st 0) (λ v st. on is (Fresh v ∷ below xs) st) (λ v st. all is)

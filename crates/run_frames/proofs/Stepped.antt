@@ -1,19 +1,18 @@
 -- A step is taken where one is wanted.
-use Rattle.std.proofs.Common.{◌≡◌, ℕ, suc, Bool, true, false, List, [], ◌∷◌, ◌++◌, length, sum, replicate, Option, Some, None, slice_get, refl, sym, ap, ◌∙◌}
+use Rattle.std.proofs.Common.{◌≡◌, ℕ, suc, true, List, [], ◌∷◌, ◌++◌, length, sum, replicate, Option, Some, None, slice_get, refl, sym, ap, ◌∙◌}
 use Rattle.std.specs.Prelude.{is_some}
-use Rattle.formula.specs.declared.value.Cell.{Cell}
 use Rattle.formula.specs.declared.value.Cell.TheVariants.{Undefined}
 use Rattle.fort_syntax.specs.declared.unit.Line.{Line}
 use Rattle.fort_syntax.specs.declared.unit.Unit.{Unit as Routine}
 use Rattle.fort_model.specs.Sites.{calls_before}
-use Rattle.fort_model.specs.Flow.{Loop, leads}
+use Rattle.fort_model.specs.Flow.{leads}
 use Rattle.fort_model.specs.Storage.{Storage, Environment}
 use Rattle.fort_model.specs.Processor.{Processor}
-use Rattle.fort_model.specs.Outcome.{Outcome, Running, Act, ◌>>=◌, ◌>>◌, and_then}
+use Rattle.fort_model.specs.Outcome.{Running, ◌>>=◌, and_then}
 use Rattle.fort_model.specs.Passing.{Taken}
 use Rattle.fort_model.specs.Perform.{perform}
 use Rattle.fort_model.specs.Run.{own_sizes, leave, go_to}
-use Rattle.run_code.specs.Code.{Instr, led_to, stmt_code, exec}
+use Rattle.run_code.specs.Code.{led_to, stmt_code}
 use Rattle.run_code.proofs.Coded.{assoc, alike}
 use Rattle.run_code.proofs.Stated.{performed}
 use Rattle.run_moves.specs.Moves.{tested}
@@ -33,11 +32,11 @@ module _ {p : Processor} {units : List Routine} (r : Runs p units) where
   enters g env ws xs st = (
     ap (λ o. and_then o (finish r ws xs)) (r.runs g env st 0),
     λ n.
-    let f = entered p units g env (length xs) st in
-    let cs = st ++ replicate (sum (own_sizes g env st)) Undefined in
-    ap (λ o. and_then o (finish r ws xs)) (r.runs g env st (suc n))
-    ∙ assoc (r.from g f.environment 0 cs n) _ _
-    ∙ ap (λ ys. and_then (r.from g f.environment 0 cs n) (λ _. leave g f.environment (length st) >>= (λ v. finish r ws ys v))) (sym (lowest_all xs)),
+        let f = entered p units g env (length xs) st in
+        let cs = st ++ replicate (sum (own_sizes g env st)) Undefined in
+        ap (λ o. and_then o (finish r ws xs)) (r.runs g env st (suc n))
+        ∙ assoc (r.from g f.environment 0 cs n) _ _
+        ∙ ap (λ ys. and_then (r.from g f.environment 0 cs n) (λ _. leave g f.environment (length st) >>= (λ v. finish r ws ys v))) (sym (lowest_all xs)),
   )
 
   -- ---- a statement is begun
@@ -71,7 +70,7 @@ module _ {p : Processor} {units : List Routine} (r : Runs p units) where
   steps (testing f c q (d ∷ ds) ws xs) st h = (
     refl,
     λ n.
-    tests_once (scene_at p units f) r.run c (goes_on r f (finish r ws)) c d q ds xs st n ∙ sym (placed_on r f c ws (tested (scene_at p units f) c d q ds xs st) n),
+        tests_once (scene_at p units f) r.run c (goes_on r f (finish r ws)) c d q ds xs st n ∙ sym (placed_on r f c ws (tested (scene_at p units f) c d q ds xs st) n),
   )
   steps (ended v) st h = absurd (cc)
   steps (erred kind c) st h = absurd (cc)

@@ -4,14 +4,13 @@ use Rattle.formula.specs.declared.value.Cell.{Cell}
 use Rattle.fort_syntax.specs.declared.unit.Line.{Line}
 use Rattle.fort_syntax.specs.declared.unit.Unit.{Unit as Routine}
 use Rattle.fort_model.specs.Sites.{calls_before}
-use Rattle.fort_model.specs.Flow.{Loop, leads}
-use Rattle.fort_model.specs.Storage.{Storage, Environment, with_extents}
+use Rattle.fort_model.specs.Flow.{leads}
+use Rattle.fort_model.specs.Storage.{Storage, with_extents}
 use Rattle.fort_model.specs.Processor.{Processor}
 use Rattle.fort_model.specs.Outcome.{Outcome, Act, ◌>>=◌, ◌>>◌, step, and_then}
 use Rattle.fort_model.specs.Passing.{Taken, seats, new_cells}
 use Rattle.fort_model.specs.Perform.{perform}
 use Rattle.fort_model.specs.Run.{leave, go_to, at_line}
-use Rattle.run_code.specs.Code.{Instr, exec}
 use Rattle.run_code.proofs.Coded.{assoc}
 use Rattle.run_moves.specs.Moves.{Move, on, to_point, to_carried, to_tests, to_call, to_error, to_nothing, passed_on, goes_by, moved}
 use Rattle.run_moves.proofs.Moved.{moves}

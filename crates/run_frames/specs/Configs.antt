@@ -43,8 +43,8 @@ module _ (p : Processor) (units : List Routine) where
   placed f card ws (to_tests c q ds xs st) = (testing f c q ds ws xs, st)
   placed f card ws (to_call k g m is xs st) = (
     entering g (with_extents g.dummies (seats (passed_on (scene_at p units f) k m xs) (length st)) f.environment)
-    (record { frame = f; card = card; left = is; number = k; actuals = m; base = length st } ∷ ws)
-    xs,
+        (record { frame = f; card = card; left = is; number = k; actuals = m; base = length st } ∷ ws)
+        xs,
     st ++ new_cells st (passed_on (scene_at p units f) k m xs),
   )
   placed f card ws (to_error kind c st) = (erred kind c, st)
@@ -58,6 +58,7 @@ module _ (p : Processor) (units : List Routine) where
     take w.base (written_back (passed_on (scene_at p units w.frame) w.number w.actuals (lowest f.floor xs)) w.base (take f.before st)),
   )
 
+  -- at the end of a unit it is left
   abbrev pub left_at : Option Line → Frame → ℕ → List Waiting → List Taken → Storage → Config × Storage
   left_at None f q ws xs st = left f ws xs st
   left_at (Some line) f q ws xs st = (between f q ws xs, st)
@@ -79,6 +80,7 @@ module _ (p : Processor) (units : List Routine) where
     floor = floor;
   }
 
+  -- where a statement stands, its code is begun
   abbrev pub begun_at : Option Line → Frame → ℕ → List Waiting → List Taken → Config
   begun_at None f q ws xs = between f q ws xs
   begun_at (Some line) f q ws xs = inside f line.card (stmt_code f.unit units line.card q (calls_before f.unit q) line.stmt) ws xs
@@ -91,7 +93,7 @@ module _ (p : Processor) (units : List Routine) where
   stepped (testing f c q (d ∷ ds) ws xs) st = placed f c ws (tested (scene_at p units f) c d q ds xs st)
   stepped c st = (c, st)
 
--- whether a step is wanted; whether nothing is left to do
+-- whether a step is wanted
 abbrev pub waits : Config → Bool
 waits (entering g env ws xs) = true
 waits (between f q ws xs) = is_some (slice_get f.unit.lines q)
@@ -99,6 +101,7 @@ waits (carried f card is ws xs) = true
 waits (testing f c q (d ∷ ds) ws xs) = true
 waits _ = false
 
+-- whether nothing is left to do
 abbrev pub is_over : Config → Bool
 is_over (ended v) = true
 is_over (erred kind card) = true
@@ -107,10 +110,12 @@ is_over _ = false
 
 -- ---- the work until a step is wanted, at most
 
+-- of those that wait
 abbrev pub weight_of : List Waiting → ℕ
 weight_of [] = 0
 weight_of (w ∷ ws) = length w.left + 2 + weight_of ws
 
+-- of a run where it stands
 abbrev pub weight : Config → ℕ
 weight (entering g env ws xs) = weight_of ws
 weight (between f q ws xs) = 1 + weight_of ws
@@ -124,6 +129,7 @@ weight nowhere = 0
 -- ---- what the rest comes to
 
 module _ {p : Processor} {units : List Routine} (r : Runs p units) where
+  -- the rest of a run from where it stands
   abbrev pub rest : Config → Act Cell
   rest (entering g env ws xs) = r.run g env >>= finish r ws xs
   rest (between f q ws xs) = goes_on r f (finish r ws) q xs

@@ -51,6 +51,7 @@ pub record Waiting : Type 0 where
 abbrev pub lowest : {A : Type 0} → ℕ → List A → List A
 lowest n xs = drop (length xs - n) xs
 
+-- where the expressions of a frame's unit are evaluated
 abbrev pub scene_at : Processor → List Routine → Frame → Scene
 scene_at p units f = record { processor = p; units = units; unit = f.unit; environment = f.environment }
 

@@ -1,5 +1,5 @@
 -- What one instruction does is exact.
-use Rattle.std.proofs.Common.{◌≡◌, ℕ, zero, suc, Bool, true, false, cond, not, ◌&&◌, ◌||◌, List, [], ◌∷◌, length, drop, Option, Some, None, refl, sym, ap, ◌∙◌}
+use Rattle.std.proofs.Common.{◌≡◌, ℕ, zero, suc, Bool, true, false, cond, not, ◌&&◌, List, [], ◌∷◌, length, drop, Option, Some, None, refl, ap, ◌∙◌}
 use Rattle.std.specs.Prelude.{ℤ, neg_ℤ, pos, ◌+ℤ◌, ◌-ℤ◌, int_le}
 use Rattle.formula.specs.Values as values_of
 use Rattle.formula.specs.Values.{is_between}
@@ -14,14 +14,14 @@ use Rattle.fort_syntax.specs.declared.unit.Unit.{Unit as Routine}
 use Rattle.fort_model.specs.Cells.{num, holds}
 use Rattle.fort_model.specs.Storage.{Storage, store}
 use Rattle.fort_model.specs.Outcome.{Outcome, Ended, Erred, Running, Act, and_then, ◌>>=◌, ◌>>◌, check, give, step}
-use Rattle.fort_model.specs.Passing.{Taken, Cells, Fresh, Caller, call}
-use Rattle.fort_model.specs.Evaluate.{Scene, value_of, ranged, constant, operate, power, intrinsic_value, element}
+use Rattle.fort_model.specs.Passing.{Taken, Fresh, Caller, call}
+use Rattle.fort_model.specs.Evaluate.{Scene, read, value_of, ranged, constant, operate, power, intrinsic_value, element}
 use Rattle.fort_model.specs.Perform.{variable, step_value, parameter, set_variable, left_with, tests, assign, result}
 use Rattle.fort_model.specs.Flow.{Loop, chosen, through}
-use Rattle.run_code.specs.Code.{Instr, number, one, truth, place, value, negate, raise, operation, comparison, negation, skip_false, both, skip_true, either, array, built_in, refer, forget, assigned, test_loops, jump, turn, signs, ways, choose, begin_do, result_of, stop, top, below, cells_of, first_of, second_of, third_of, newest, under, led_to, chooses, begins, exec}
+use Rattle.run_code.specs.Code.{Instr, number, one, truth, place, load, value, negate, raise, operation, comparison, negation, skip_false, both, skip_true, either, array, built_in, refer, forget, assigned, test_loops, jump, turn, signs, ways, choose, begin_do, result_of, stop, top, below, cells_of, first_of, second_of, third_of, newest, under, led_to, chooses, begins, exec}
 use Rattle.run_code.proofs.Coded.{assoc}
-use Rattle.run_moves.specs.Moves.{Move, on, to_point, to_carried, to_tests, to_call, to_error, to_nothing, passed_on, goes_by, settled, to_chosen, calling, choosing, beginning, moved, tested, MovesAreExact, TestsAreExact}
-use Rattle.run_moves.proofs.Silent.{stocked, Silent, silent_check, silent_value, silent_ranged, silent_constant, silent_operate, silent_power, silent_intrinsic, silent_element, silent_assign, silent_variable, silent_parameter, silent_step, silent_result}
+use Rattle.run_moves.specs.Moves.{Move, on, to_point, to_carried, to_tests, passed_on, goes_by, settled, to_chosen, calling, choosing, beginning, moved, tested, MovesAreExact, TestsAreExact}
+use Rattle.run_moves.proofs.Silent.{stocked, Silent, silent_check, silent_read, silent_value, silent_ranged, silent_constant, silent_operate, silent_power, silent_intrinsic, silent_element, silent_assign, silent_variable, silent_parameter, silent_step, silent_result}
 
 module _ {A : Type 0} (s : Scene) (run : Caller) (card : ℕ) (next : ℕ → List Taken → Act A) where
   abbrev does : List Instr → ℕ → List Taken → Act A
@@ -101,6 +101,7 @@ module _ {A : Type 0} (s : Scene) (run : Caller) (card : ℕ) (next : ℕ → Li
   moves one is xs st n = refl
   moves (truth b) is xs st n = refl
   moves (place x) is xs st n = refl
+  moves (load x) is xs st n = settles (read card (s.environment x).first) (silent_read card (s.environment x).first) st n _ _ (λ v st. refl)
   moves value is xs st n = settles (value_of card (top xs)) (silent_value card (top xs)) st n _ _ (λ v st. refl)
   moves negate is xs st n = settles (ranged s.processor card (neg_ℤ (num (first_of xs)))) (silent_ranged s.processor card (neg_ℤ (num (first_of xs)))) st n _ _ (λ v st. refl)
   moves (raise m) is xs st n = settles (power s.processor card (num (first_of xs)) m) (silent_power s.processor card (num (first_of xs)) m) st n _ _ (λ v st. refl)

@@ -12,12 +12,12 @@ use Rattle.fort_syntax.specs.declared.stmt.Param.TheVariants.{Fixed, Named}
 use Rattle.fort_model.specs.Cells.{num}
 use Rattle.fort_model.specs.Storage.{Storage, Extent, Environment}
 use Rattle.fort_model.specs.Processor.{Processor}
-use Rattle.fort_model.specs.Outcome.{Outcome, Ended, Erred, Running, Act, ◌>>=◌, ◌>>◌, and_then, give, check, held, put}
+use Rattle.fort_model.specs.Outcome.{Outcome, Ended, Erred, Running, Act, ◌>>=◌, and_then, give, check, held}
 use Rattle.fort_model.specs.Passing.{Taken, Cells, Fresh}
 use Rattle.fort_model.specs.Evaluate.{Scene, read, value_of, ranged, constant, operate, power_on, power, intrinsic_value, numbers, subscripts_in, element}
 use Rattle.fort_model.specs.Places.{dim_values, place}
 use Rattle.formula.specs.Values.{count}
-use Rattle.fort_model.specs.Perform.{write_cell, assign, variable, parameter, step_value, result}
+use Rattle.fort_model.specs.Perform.{assign, variable, parameter, step_value, result}
 
 -- an outcome with another stock left
 abbrev pub stocked : {B : Type 0} → ℕ → Outcome B → Outcome B
@@ -51,7 +51,7 @@ silent_check kind card false st n = refl
 silent_held : Silent held
 silent_held st n = refl
 
-silent_read : (card i : ℕ) → Silent (read card i)
+pub silent_read : (card i : ℕ) → Silent (read card i)
 silent_read card i = silent_then held _ silent_held (λ st. silent_then (check _ card _) _ (silent_check _ card _) (λ _. silent_give _))
 
 pub silent_value : (card : ℕ) (x : Taken) → Silent (value_of card x)
@@ -98,7 +98,7 @@ silent_subscripts card (s ∷ ss) [] = silent_give _
 silent_subscripts card (s ∷ ss) (d ∷ ds) = silent_then (check _ card _) _ (silent_check _ card _) (λ _. silent_subscripts card ss ds)
 
 pub silent_element : (env : Environment) (card : ℕ) (array : Extent) (dims : List Dim) (cs : List Cell) → Silent (element env card array dims cs)
-silent_element env card array dims cs = silent_then held _ silent_held 
+silent_element env card array dims cs = silent_then held _ silent_held
     (λ st.
     silent_then (subscripts_in card (numbers cs) (dim_values env st dims)) _ (silent_subscripts card (numbers cs) (dim_values env st dims))
     (λ _. silent_give (Cells (record { first = array.first + count (place (numbers cs) (dim_values env st dims) -ℤ pos 1); size = 1 }))))

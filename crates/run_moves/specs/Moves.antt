@@ -1,5 +1,5 @@
 -- What one instruction does: where the flow goes on, with which stack and storage. It takes no step.
-use Rattle.std.specs.Prelude.{ℕ, zero, suc, ◌+◌, ◌≡◌, Bool, true, false, cond, not, ◌&&◌, ◌||◌, ℤ, neg_ℤ, pos, ◌+ℤ◌, ◌-ℤ◌, int_le, int_lt, List, [], ◌∷◌, length, drop, Option, Some, None}
+use Rattle.std.specs.Prelude.{ℕ, suc, ◌≡◌, true, false, cond, not, ◌&&◌, ◌||◌, ℤ, neg_ℤ, pos, ◌+ℤ◌, ◌-ℤ◌, int_le, int_lt, List, [], ◌∷◌, length, drop, Option, Some, None}
 use Rattle.formula.specs.Values.{count, is_between}
 use Rattle.formula.specs.declared.value.Cell.{Cell}
 use Rattle.formula.specs.declared.value.Cell.TheVariants.{Int, Logical}
@@ -12,13 +12,14 @@ use Rattle.fort_syntax.specs.declared.dialect.Dialect.TheVariants.{Common, Seven
 use Rattle.fort_syntax.specs.declared.unit.Unit.{Unit as Routine}
 use Rattle.fort_model.specs.Cells.{num, holds, same, compares}
 use Rattle.fort_model.specs.Storage.{Storage, store}
-use Rattle.fort_model.specs.Outcome.{Outcome, Ended, Erred, Running, Act, ◌>>=◌, ◌>>◌, and_then, check, step}
+use Rattle.fort_model.specs.Outcome.{Outcome, Ended, Erred, Running, Act, ◌>>=◌, ◌>>◌, check, step}
 use Rattle.fort_model.specs.Passing.{Taken, Cells, Fresh, Passed, passed, Caller, call_unit}
-use Rattle.fort_model.specs.Evaluate.{Scene, value_of, ranged, constant, operate, power, intrinsic_value, element}
+use Rattle.fort_model.specs.Evaluate.{Scene, read, value_of, ranged, constant, operate, power, intrinsic_value, element}
 use Rattle.fort_model.specs.Perform.{variable, step_value, parameter, left_with, tests, assign, result}
 use Rattle.fort_model.specs.Flow.{Loop, chosen, through}
-use Rattle.run_code.specs.Code.{Instr, number, one, truth, place, value, negate, raise, operation, comparison, negation, skip_false, both, skip_true, either, array, built_in, refer, forget, assigned, test_loops, jump, turn, signs, ways, choose, begin_do, result_of, stop, top, below, cells_of, first_of, second_of, third_of, newest, under, led_to, exec}
+use Rattle.run_code.specs.Code.{Instr, number, one, truth, place, load, value, negate, raise, operation, comparison, negation, skip_false, both, skip_true, either, array, built_in, refer, forget, assigned, test_loops, jump, turn, signs, ways, choose, begin_do, result_of, stop, top, below, cells_of, first_of, second_of, third_of, newest, under, led_to, exec}
 
+-- Where an instruction leads.
 pub data Move : Type 0 where
   -- on with code, a stack and storage
   on : List Instr → List Taken → Storage → Move
@@ -55,10 +56,12 @@ settled (Ended b st n) then = then b st
 settled (Erred kind c st) then = to_error kind c st
 settled (Running st) then = to_nothing st
 
+-- on to a point, where there is one
 abbrev pub to_chosen : Option ℕ → List Taken → Storage → Move
 to_chosen None xs st = to_nothing st
 to_chosen (Some q) xs st = to_point q xs st
 
+-- to the call of a unit, where there is one
 abbrev pub calling : ℕ → Option Routine → ℕ → List Instr → List Taken → Storage → Move
 calling k None m is xs st = to_nothing st
 calling k (Some g) m is xs st = to_call k g m is xs st
@@ -87,6 +90,7 @@ moved s card (number c) is xs st = settled (constant s.processor card c st 0) (�
 moved s card one is xs st = on is (Fresh (Int (pos 1)) ∷ xs) st
 moved s card (truth b) is xs st = on is (Fresh (Logical b) ∷ xs) st
 moved s card (place x) is xs st = on is (Cells (s.environment x) ∷ xs) st
+moved s card (load x) is xs st = settled (read card (s.environment x).first st 0) (λ v st. on is (Fresh v ∷ xs) st)
 moved s card value is xs st = settled (value_of card (top xs) st 0) (λ v st. on is (Fresh v ∷ below xs) st)
 moved s card negate is xs st = settled (ranged s.processor card (neg_ℤ (num (first_of xs))) st 0) (λ v st. on is (Fresh v ∷ below xs) st)
 moved s card (raise n) is xs st = settled (power s.processor card (num (first_of xs)) n st 0) (λ v st. on is (Fresh v ∷ below xs) st)
