@@ -1,0 +1,10 @@
+-- The oldest of some items.
+use Rattle.std.proofs.Common.{◌≡◌, ℕ, ◌-◌, ◌++◌, List, length, take, drop, reverse, sym, ap, ◌∙◌}
+use Rattle.std.proofs.lemmas.List.{reverse-append, take-append-drop, length-drop, drop_at, length-reverse}
+use Rattle.run_rooms.specs.Roomy.{oldest}
+
+pub kept : {X : Type 0} (n : ℕ) (xs : List X) → reverse (take n xs) ≡ oldest n (reverse xs)
+kept n xs =
+    let parts : reverse xs ≡ reverse (drop n xs) ++ reverse (take n xs) = ap reverse (sym (take-append-drop n xs)) ∙ reverse-append (take n xs) (drop n xs) in
+    let long : length (reverse (drop n xs)) ≡ length (reverse xs) - n = length-reverse (drop n xs) ∙ length-drop n xs ∙ ap (λ k. k - n) (sym (length-reverse xs)) in
+    sym (ap (drop (length (reverse xs) - n)) parts ∙ drop_at (reverse (drop n xs)) (reverse (take n xs)) (length (reverse xs) - n) long)
