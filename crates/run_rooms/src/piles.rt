@@ -1,7 +1,7 @@
 // Cells with room for more.
 ghost use Rattle.std.specs.Prelude.{◌≡◌, [], ◌∷◌, ◌++◌, length, take, IfOk, ◌+◌, ◌<◌, ◌≤◌, replicate};
 ghost use Rattle.formula.specs.declared.value.Cell.TheVariants as cell;
-ghost use Rattle.fort_model.specs.Storage.{load, store};
+ghost use Rattle.fort_model.specs.Storage.{contents, load, store};
 
 use run_held::Held;
 use std::alloc::{AllocError, Global};
@@ -72,6 +72,34 @@ impl Pile {
     {
         for _ in 0..count {
             self.push(Held::undefined());
+        }
+    }
+
+    /// What the cell so many behind a first one holds, where it is one of the first `base` cells;
+    /// else nothing.
+    #[tactic(auto, using(crate::proofs::Copies::early, crate::proofs::Copies::late))]
+    fn early(&self, first: usize, offset: usize, base: usize) -> Held
+        requires { base ≤ length self.now.items }
+        ensures { result ≡ load (take base self.now.items) (first + offset) }
+    {
+        let place = first.saturating_add(offset);
+        if place < base {
+            self.load(place)
+        } else {
+            Held::undefined()
+        }
+    }
+
+    /// Copies of so many neighbouring cells from a first one on, as they were when there were `base`
+    /// cells.
+    pub fn copied(&mut self, first: usize, size: usize, base: usize)
+        requires base { base ≤ length self.old.items }
+        requires room { length self.old.items + size ≤ self.old.room }
+        ensures { self.new ≡ record self.old { items = self.old.items ++ contents (take base self.old.items) first size } }
+    {
+        for offset in 0..size {
+            let content = self.early(first, offset, base);
+            self.push(content);
         }
     }
 
