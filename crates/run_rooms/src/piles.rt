@@ -32,6 +32,7 @@ impl Pile {
         Ok(Pile { items })
     }
 
+    /// How many cells there are.
     pub fn len(&self) -> usize
         ensures { result ≡ length self.now.items }
     {

@@ -1,5 +1,5 @@
 // Stacks with room for more.
-ghost use Rattle.std.specs.Prelude.{◌≡◌, [], ◌∷◌, length, IfOk, MatchOption, ◌<◌};
+ghost use Rattle.std.specs.Prelude.{◌≡◌, [], ◌∷◌, length, IfOk, MatchOption, slice_index_or, ◌<◌};
 ghost use Rattle.run_rooms.specs.Roomy.{first_or, behind, oldest};
 
 use std::alloc::{AllocError, Global};
@@ -32,6 +32,7 @@ impl<X: Copy + Drop> Stack<X> {
         Ok(Stack { items })
     }
 
+    /// How many items there are.
     pub fn len(&self) -> usize
         ensures { result ≡ length self.now.items }
     {
@@ -79,6 +80,19 @@ impl<X: Copy + Drop> Stack<X> {
         match self.items.last() {
             Some(item) => *item,
             None => other,
+        }
+    }
+
+    /// The item so many below the newest; the other one where there is none.
+    #[tactic(auto, using(crate::proofs::Kept::below, crate::proofs::Kept::none_below))]
+    pub fn below_or(&self, depth: usize, other: X) -> X
+        ensures { result ≡ slice_index_or self.now.items depth other }
+    {
+        let count = self.items.len();
+        if depth < count {
+            self.items[count - 1 - depth]
+        } else {
+            other
         }
     }
 
