@@ -1,6 +1,7 @@
 -- What is known of a program stage by stage.
 use Rattle.std.proofs.Common.{◌≡◌, List, length, map, refl, sym, ap, subst}
 use Rattle.std.specs.List.{All}
+use Rattle.formula.proofs.Added.{added-Grows}
 use Rattle.formula.specs.Pool.{Grows}
 use Rattle.formula.specs.declared.definition.Definition.{Definition}
 use Rattle.formula.specs.declared.node.Node.{Node}
@@ -93,6 +94,7 @@ module _ (d : Dialect) (deck : Deck) (pool : List Node) (ds : List Definition) (
         within = all.within paths.0 paths.1;
         functions = functions_same pool new grows ds notes.bodies;
         bodies = bodies_stay pool new grows ds notes.bodies;
+        added = added-Grows pool new ds grows notes.added;
         trees = all.trees paths.0 paths.1;
         inside = inside;
       }

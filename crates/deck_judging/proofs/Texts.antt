@@ -25,6 +25,7 @@ judged_in d bytes deck j is h = record {
   functions = h.functions;
   conditions = h.trees;
   definitions_inside = h.bodies;
+  definitions_added = h.added;
   conditions_inside = h.inside;
 }
 

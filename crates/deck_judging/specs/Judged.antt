@@ -1,6 +1,7 @@
 -- What is found of a text that is accepted.
 use Rattle.std.specs.Prelude.{ℕ, ◌≡◌, List, map}
 use Rattle.std.specs.List.{All}
+use Rattle.formula.specs.Adding.{AreAdded}
 use Rattle.formula.specs.Worth.{functions_of}
 use Rattle.fort_syntax.specs.declared.deck.Deck.{Deck}
 use Rattle.fort_syntax.specs.declared.dialect.Dialect.{Dialect}
@@ -13,7 +14,7 @@ use Rattle.judging.specs.Judgement.{IsAcceptedIn}
 use Rattle.deck_judging.specs.declared.found.Judged.{Judged}
 
 -- Bytes are accepted in a dialect; the definitions are those of their notes, and the conditions those of their program along all
--- its paths, all with terms of the pool.
+-- its paths, all with terms of the pool, to which the definitions were added one after another.
 pub record IsJudgedIn (d : Dialect) (bytes : List ℕ) (j : Judged) : Type 0 where
   pub deck : Deck
   pub r : Remarks
@@ -23,4 +24,5 @@ pub record IsJudgedIn (d : Dialect) (bytes : List ℕ) (j : Judged) : Type 0 whe
   pub functions : functions_of j.pool j.definitions ≡ r.definitions
   pub conditions : map (condition_tree j.pool) j.conditions ≡ conditions_of p paths
   pub definitions_inside : All (IsDefinitionIn j.pool) j.definitions
+  pub definitions_added : AreAdded j.pool j.definitions
   pub conditions_inside : All (IsConditionIn j.pool) j.conditions

@@ -1,6 +1,7 @@
 -- What is known of a deck behind each stage, and its first fault.
 use Rattle.std.specs.Prelude.{◌≡◌, ◌<◌, ◌⊎◌, ℕ, List, length, map, Some, Ok, slice_get}
 use Rattle.std.specs.List.{All}
+use Rattle.formula.specs.Adding.{AreAdded}
 use Rattle.formula.specs.Worth.{functions_of}
 use Rattle.formula.specs.declared.definition.Definition.{Definition}
 use Rattle.formula.specs.declared.node.Node.{Node}
@@ -36,11 +37,12 @@ AreShort units = (i : ℕ) (u : Routine) → slice_get units i ≡ Some u → le
 
 -- ---- notes
 
--- terms of a pool, definitions among them, are what the notes of a deck say
+-- terms of a pool, definitions that were added among them, are what the notes of a deck say
 pub record AreNotesOf (deck : Deck) (pool : List Node) (ds : List Definition) (specs : Specs) : Type 0 where
   pub remarks : remarks_of deck ≡ Ok (remarks_tree pool ds specs)
   pub inside : All (AreNotesIn (length pool)) specs.units
   pub bodies : All (IsDefinitionIn pool) ds
+  pub added : AreAdded pool ds
 
 -- ---- calls and smashed names
 
@@ -97,6 +99,7 @@ pub record AreConditionsOfDeck (dialect : Dialect) (deck : Deck) (pool : List No
   pub within : IsWithinLimits p paths
   pub functions : functions_of pool ds ≡ r.definitions
   pub bodies : All (IsDefinitionIn pool) ds
+  pub added : AreAdded pool ds
   pub trees : map (condition_tree pool) cs ≡ conditions_of p paths
   pub inside : All (IsConditionIn pool) cs
 

@@ -1,7 +1,8 @@
-//! The program `vcg`: the words behind its name, standard input and output, and the status.
+//! The program `vcg`: the words behind its name, standard input and output, its provers, and the status.
 #![tactic(auto)]
 
 use edge_io::{StdSink, StdSource};
+use prover_box::{Ground, Prover, Subsumed};
 use std::env;
 use std::io::{self, ErrorKind};
 use std::process::ExitCode;
@@ -25,13 +26,29 @@ fn words(rt: &HostRuntime) -> Result<Vec<String>, Status> {
     Ok(words)
 }
 
+/// The top call over standard input and output, with the provers of closed goals and of goals that
+/// stand among the hypotheses, in this order.
+fn call(rt: &HostRuntime, words: &[String]) -> Result<Status, Status> {
+    let alloc = rt.alloc();
+    let mut provers: Vec<Box<dyn Prover>> = Vec::new(alloc);
+    let ground = Box::new(alloc, Ground::new()).map_err(|_| Status::NoMemory)?;
+    provers.push(ground).map_err(|_| Status::NoMemory)?;
+    let subsumed = Box::new(alloc, Subsumed::new(alloc)).map_err(|_| Status::NoMemory)?;
+    provers.push(subsumed).map_err(|_| Status::NoMemory)?;
+    let mut source = StdSource::new(rt.stdin());
+    let mut sink = StdSink::new(rt.stdout());
+    Ok(vcg(alloc, words, &mut source, &mut sink, &mut provers))
+}
+
+/// The status with which the program ends.
+fn status(rt: &HostRuntime) -> Result<Status, Status> {
+    let words = words(rt)?;
+    call(rt, words.as_slice())
+}
+
 fn main(rt: HostRuntime) -> ExitCode {
-    let status = match words(&rt) {
-        Ok(words) => {
-            let mut source = StdSource::new(rt.stdin());
-            let mut sink = StdSink::new(rt.stdout());
-            vcg(rt.alloc(), words.as_slice(), &mut source, &mut sink)
-        }
+    let status = match status(&rt) {
+        Ok(status) => status,
         Err(status) => status,
     };
     ExitCode::from(status.number())

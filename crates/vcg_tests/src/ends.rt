@@ -1,5 +1,6 @@
 // Ends that fail at each call, up to the last one.
 use edge_io::{MemSink, MemSource, Sink, Source};
+use prover_box::Prover;
 use std::alloc::Global;
 use std::test::Fail;
 use vcg_top::{Status, vcg};
@@ -19,10 +20,21 @@ C$ OUTPUT (EQUAL I (ZPLUS (OLD I) 1))
     (b"      I = I + 1\n", Status::Refused),
 ];
 
-/// Calls the program with the word `vc`.
+/// Calls the program with the word `vc` and no prover.
 pub fn call(alloc: Global, source: &mut MemSource, sink: &mut MemSink) -> Result<Status, Fail> {
+    let mut provers = Vec::new(alloc);
+    call_with(alloc, source, sink, &mut provers)
+}
+
+/// Calls the program with the word `vc`.
+pub fn call_with(
+    alloc: Global,
+    source: &mut MemSource,
+    sink: &mut MemSink,
+    provers: &mut Vec<Box<dyn Prover>>,
+) -> Result<Status, Fail> {
     let words = vec![in alloc; String::from_str(alloc, "vc")?]?;
-    Ok(vcg(alloc, words.as_slice(), source, sink))
+    Ok(vcg(alloc, words.as_slice(), source, sink, provers))
 }
 
 /// A source that gives so many bytes a call, and fails at the listed calls.

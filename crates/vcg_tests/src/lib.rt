@@ -1,7 +1,13 @@
-//! Tests of the top call that no row shows: ends that fail, and a deck that is too long.
+//! Tests of the top call that no row shows: ends that fail, a deck that is too long, and provers of
+//! a test's own.
 #![tactic(auto)]
 
 #[cfg(test)]
 mod ends;
 #[cfg(test)]
+mod lent;
+#[cfg(test)]
 mod long_decks;
+mod objects;
+
+pub use objects::{Never, Quiet};

@@ -1,3 +1,5 @@
 pub mod Fronts
+pub mod Rests
+pub mod Marked
 pub mod Replies
 pub mod Taken

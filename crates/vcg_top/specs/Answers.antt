@@ -1,10 +1,8 @@
 -- What the top call answers.
-use Rattle.std.specs.Prelude.{ℕ, ◌≡◌, ◌&&◌, if◌then◌else◌, Option, Some, None, List, [], ◌∷◌, length, map, replicate, codes, string_bytes}
+use Rattle.std.specs.Prelude.{ℕ, ◌≡◌, ◌&&◌, if◌then◌else◌, Option, Some, None, List, [], ◌∷◌, map, codes, string_bytes}
 use Rattle.std.specs.Io.KnownBytes.{Appends}
 use Rattle.std.specs.declared.string.String.{String}
 use Rattle.formula.specs.Atoms.{same_bytes}
-use Rattle.formula.specs.Worth.{Function}
-use Rattle.fort_syntax.specs.Conditions.{ConditionTree}
 use Rattle.fort_syntax.specs.FaultLine.{fault_line}
 use Rattle.fort_syntax.specs.declared.deck.Deck.{Deck}
 use Rattle.fort_syntax.specs.declared.dialect.Dialect.{Dialect}
@@ -18,6 +16,8 @@ use Rattle.fort_model.specs.Conditions.{conditions_of}
 use Rattle.fort_model.specs.Paths.{Path}
 use Rattle.fort_model.specs.Program.{Program}
 use Rattle.judging.specs.Judgement.{IsAcceptedIn, IsFirstFaultIn}
+use Rattle.prover_box.specs.Answers.{Seen}
+use Rattle.vcg_top.specs.Marked.{AreMarksFor}
 
 -- ---- words
 
@@ -38,22 +38,17 @@ most_read = 1048577
 
 -- ---- texts
 
--- no prover was asked for any of so many conditions
-abbrev pub unmarked : ℕ → Marks
-unmarked count = record { letters = replicate count 45; asked = [] }
-
--- the text of definitions and conditions with no prover asked
-abbrev pub plain_text : List Function → List ConditionTree → List ℕ
-plain_text functions conditions = event_text functions conditions (unmarked (length conditions))
-
--- the text for bytes that are accepted: the definitions of their program, and its conditions along all its paths
-pub record IsDoneText (d : Dialect) (bytes text : List ℕ) : Type 0 where
+-- The text for bytes that are accepted: the definitions of their program, and its conditions along all its paths, with the
+-- marks that the provers lent gave them; these are as they were before, and as they are now.
+pub record IsDoneText (d : Dialect) (bytes : List ℕ) (before now : List Seen) (text : List ℕ) : Type 0 where
   pub deck : Deck
   pub r : Remarks
   pub p : Program
   pub paths : List (List Path)
+  pub marks : Marks
   pub accepted : IsAcceptedIn d bytes deck r p paths
-  pub is : text ≡ plain_text p.functions (conditions_of p paths)
+  pub marked : AreMarksFor p.functions (conditions_of p paths) before now marks
+  pub is : text ≡ event_text p.functions (conditions_of p paths) marks
 
 -- the text for other bytes: the line of their first fault
 pub record IsRefusedText (d : Dialect) (bytes text : List ℕ) : Type 0 where

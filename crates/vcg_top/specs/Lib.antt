@@ -1,3 +1,4 @@
+pub mod Marked
 pub mod Answers
 pub mod Found
 pub mod Soundness

@@ -1,34 +1,26 @@
 // What is written for the bytes of a deck.
-ghost use Rattle.std.specs.Prelude.{◌≡◌, ◌≤◌, ◌⊎◌, IfOk};
+ghost use Rattle.std.specs.Prelude.{◌≡◌, ◌≤◌, ◌⊎◌, map};
 ghost use Rattle.std.specs.Io.KnownBytes.{Appends};
 ghost use Rattle.std.specs.List.{All};
 ghost use Rattle.edge_io.specs.Causes.{Rose};
 ghost use Rattle.event_text.specs.Conditions.{IsConditionIn, IsDefinitionIn};
 ghost use Rattle.event_text.specs.Sending.{AppendsPart};
+ghost use Rattle.formula.specs.Adding.{AreAdded};
 ghost use Rattle.fort_syntax.specs.FaultLine.{fault_line};
 ghost use Rattle.fort_syntax.specs.declared.refusal.Fault.{Fault};
 ghost use Rattle.fort_syntax.specs.declared.refusal.Refusal.TheVariants.{Broken};
-ghost use Rattle.vcg_top.specs.Answers.{AppendsOf, AppendsPartOf, IsDoneText, IsRefusedText, unmarked as no_marks};
-ghost use Rattle.vcg_top.specs.Found.{text_of};
+ghost use Rattle.prover_box.specs.Answers.{AreKept};
+ghost use Rattle.vcg_top.specs.Answers.{AppendsOf, AppendsPartOf, IsDoneText, IsRefusedText};
+ghost use Rattle.vcg_top.specs.Found.{IsTextOf};
 ghost use Rattle.vcg_top.specs.declared.status.Status.TheVariants.{Done, Refused, WriteFault, NoMemory as Starved};
 
 use crate::Status;
 use deck_judging::{Judged, judged};
-use edge_io::{Keys, List, NoMemory, Sink};
-use event_text::{Marks, WritingStack, write_events, write_fault};
+use edge_io::{Keys, Sink};
+use event_text::{WritingStack, write_events, write_fault};
 use fort_syntax::{Dialect, Fault, Refusal};
+use prover_box::{Prover, close_all};
 use std::alloc::Global;
-
-/// No prover was asked for any of so many conditions.
-fn unmarked(alloc: Global, count: usize) -> Result<Marks, NoMemory>
-    ensures { IfOk result (λ marks. marks ≡ no_marks count) }
-{
-    let letters = vec![in alloc; b'-'; count]?;
-    Ok(Marks {
-        letters: List::from_vec(letters),
-        asked: List::from_vec(Vec::new(alloc)),
-    })
-}
 
 /// Writes the line of a fault. It takes no memory.
 fn refuse<K: Sink>(sink: &mut K, fault: Fault) -> Status
@@ -59,18 +51,31 @@ fn deny<K: Sink>(sink: &mut K, refusal: Refusal) -> Status
     }
 }
 
-/// Writes the text of definitions and conditions.
-fn tell<K: Sink>(alloc: Global, sink: &mut K, found: &Judged) -> Status
+/// Writes the text of definitions and conditions, with the marks that provers give.
+fn tell<K: Sink>(
+    alloc: Global,
+    provers: &mut Vec<Box<dyn Prover>>,
+    sink: &mut K,
+    found: &Judged,
+) -> Status
     requires definitions { All (IsDefinitionIn found.now.pool) found.now.definitions }
     requires conditions { All (IsConditionIn found.now.pool) found.now.conditions }
+    requires added { AreAdded found.now.pool found.now.definitions }
     ensures only { (result ≡ Done) ⊎ ((result ≡ WriteFault) ⊎ (result ≡ Starved)) }
-    ensures done { result ≡ Done → Appends (K.written sink.old) (K.written sink.new) (text_of found.now) }
-    ensures part { result ≡ WriteFault → AppendsPart (K.written sink.old) (K.written sink.new) (text_of found.now) }
+    ensures done { result ≡ Done → AppendsOf (IsTextOf found.now (map seen provers.old.items) (map seen provers.new.items)) (K.written sink.old) (K.written sink.new) }
+    ensures part { result ≡ WriteFault → AppendsPartOf (IsTextOf found.now (map seen provers.old.items) (map seen provers.new.items)) (K.written sink.old) (K.written sink.new) }
     ensures cause { result ≡ WriteFault → Rose (K.faults sink.old) (K.faults sink.new) }
     ensures nothing { result ≡ Starved → sink.new ≡ sink.old }
     ensures later { K.faults sink.old ≤ K.faults sink.new }
+    ensures kept { AreKept (map seen provers.old.items) (map seen provers.new.items) }
 {
-    let Ok(marks) = unmarked(alloc, found.conditions.as_slice().len()) else {
+    let Ok(marks) = close_all(
+        alloc,
+        provers,
+        &found.pool,
+        &found.definitions,
+        &found.conditions,
+    ) else {
         return Status::NoMemory;
     };
     let Ok(mut stack) = WritingStack::new(alloc, &found.pool) else {
@@ -89,18 +94,27 @@ fn tell<K: Sink>(alloc: Global, sink: &mut K, found: &Judged) -> Status
     Status::Done
 }
 
-/// Writes the definitions and conditions of a deck that is accepted, or the line of its first fault.
-pub(crate) fn answer<K: Sink>(alloc: Global, dialect: Dialect, sink: &mut K, bytes: &[u8]) -> Status
+/// Writes the definitions and conditions of a deck that is accepted, with the marks that provers give,
+/// or the line of its first fault.
+pub(crate) fn answer<K: Sink>(
+    alloc: Global,
+    dialect: Dialect,
+    provers: &mut Vec<Box<dyn Prover>>,
+    sink: &mut K,
+    bytes: &[u8],
+) -> Status
     ensures only { (result ≡ Done) ⊎ ((result ≡ Refused) ⊎ ((result ≡ WriteFault) ⊎ (result ≡ Starved))) }
-    ensures done { result ≡ Done → AppendsOf (IsDoneText dialect bytes.now) (K.written sink.old) (K.written sink.new) }
+    ensures done { result ≡ Done → AppendsOf (IsDoneText dialect bytes.now (map seen provers.old.items) (map seen provers.new.items)) (K.written sink.old) (K.written sink.new) }
     ensures refused { result ≡ Refused → AppendsOf (IsRefusedText dialect bytes.now) (K.written sink.old) (K.written sink.new) }
-    ensures part { result ≡ WriteFault → AppendsPartOf (λ text. IsDoneText dialect bytes.now text ⊎ IsRefusedText dialect bytes.now text) (K.written sink.old) (K.written sink.new) }
+    ensures part { result ≡ WriteFault → AppendsPartOf (λ text. IsDoneText dialect bytes.now (map seen provers.old.items) (map seen provers.new.items) text ⊎ IsRefusedText dialect bytes.now text) (K.written sink.old) (K.written sink.new) }
     ensures cause { result ≡ WriteFault → Rose (K.faults sink.old) (K.faults sink.new) }
     ensures nothing { result ≡ Starved → sink.new ≡ sink.old }
     ensures later { K.faults sink.old ≤ K.faults sink.new }
+    ensures unasked { result ≡ Refused → provers.new ≡ provers.old }
+    ensures kept { AreKept (map seen provers.old.items) (map seen provers.new.items) }
 {
     match judged(alloc, Keys::of(bytes), dialect, bytes) {
-        Ok(found) => tell(alloc, sink, &found),
+        Ok(found) => tell(alloc, provers, sink, &found),
         Err(refusal) => deny(sink, refusal),
     }
 }

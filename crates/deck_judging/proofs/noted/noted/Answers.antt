@@ -8,6 +8,7 @@ returns-in-Ok-clause-notes c = record {
   remarks = c.in-Ok.ensures.tells;
   inside = c.in-Ok.ensures.inside.units;
   bodies = c.in-Ok.ensures.bodies;
+  added = c.in-Ok.ensures.added;
 }
 
 pub returns-in-Err-clause-broken : goal.returns-in-Err-clause-broken
