@@ -1,4 +1,5 @@
 pub mod CallFaults
 pub mod Taken
 pub mod Scanned
+pub mod Cleared
 pub mod Stage

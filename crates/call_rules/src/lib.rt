@@ -5,6 +5,7 @@ mod heads;
 mod scanning;
 mod stage;
 mod statements;
+mod unit_set;
 
 pub use call_order::Ordered;
 pub use stage::call_stage;

@@ -34,12 +34,13 @@ fn unit_fault(
             card: unit.head,
         }));
     }
-    lines_fault(alloc, deck, book, unit.lines.as_slice())
+    lines_fault(alloc, taken.keys, deck, book, unit.lines.as_slice())
 }
 
-/// The names that the next unit may not have, and the first unit that calls itself.
+/// The names that the next unit may not have, the first unit that calls itself, and the keys of tables.
 #[derive(Drop)]
 struct Taken {
+    keys: Keys,
     earlier: NameSet,
     blocks: NameSet,
     recursive: Option<usize>,
@@ -77,6 +78,7 @@ pub(crate) fn call_fault(
         return Err(NoMemory);
     };
     let mut taken = Taken {
+        keys,
         earlier: NameSet::new(alloc, keys),
         blocks,
         recursive,

@@ -1,0 +1,5 @@
+pub mod Lowest
+pub mod Worked
+pub mod Stepped
+pub mod Ends
+pub mod Began
