@@ -16,3 +16,9 @@ abbrev pub conditions_at : Name → ℕ → ℕ → List TermId → List Met →
 conditions_at unit path k hyps [] = []
 conditions_at unit path k hyps (Check kind card goal ∷ ms) = condition_of unit path (suc k) hyps kind card goal ∷ conditions_at unit path (suc k) (hyps ++ goal ∷ []) ms
 conditions_at unit path k hyps (Take fact ∷ ms) = conditions_at unit path k (hyps ++ fact ∷ []) ms
+
+-- the number of the checks of what was met
+abbrev pub checks_in : List Met → ℕ
+checks_in [] = 0
+checks_in (Check kind card goal ∷ ms) = suc (checks_in ms)
+checks_in (Take fact ∷ ms) = checks_in ms

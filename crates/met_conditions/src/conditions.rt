@@ -1,6 +1,6 @@
 // The conditions of checks.
 ghost use Rattle.std.specs.Prelude.{◌≡◌, ◌++◌, ◌∷◌, ◌+◌, ◌<◌, ◌^◌, [], IfOk, OnOk};
-ghost use Rattle.met_conditions.specs.Numbered.{conditions_at, condition_of};
+ghost use Rattle.met_conditions.specs.Numbered.{checks_in, condition_of, conditions_at};
 
 use edge_io::{List, NoMemory};
 use formula::TermId;
@@ -71,13 +71,14 @@ fn add_check(
 }
 
 /// Adds the conditions of what a walk along a path met: one for each check, whose hypotheses are all
-/// terms met before it. A path of 2^32 - 1 checks refuses to grow.
+/// terms met before it. The checks are fewer than 2^32.
 pub fn add_conditions(
     alloc: Global,
     along: &Along,
     met: &[Met],
     conditions: &mut Vec<Condition>,
 ) -> Result<(), NoMemory>
+    requires few { checks_in met.now < 4294967296 }
     ensures { OnOk result (conditions.new.items ≡ conditions.old.items ++ conditions_at along.now.unit along.now.path 0 [] met.now) }
 {
     let mut checks: u32 = 0;
@@ -85,9 +86,6 @@ pub fn add_conditions(
     for event in met {
         match *event {
             Met::Check(kind, card, goal) => {
-                if checks == u32::MAX {
-                    return Err(NoMemory);
-                }
                 checks += 1;
                 let check = Checked {
                     number: checks,

@@ -1,4 +1,5 @@
 pub mod Added
 pub mod UnitWays
+pub mod Few
 pub mod Paths
 pub mod Stepwise

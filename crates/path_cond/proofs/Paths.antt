@@ -1,5 +1,5 @@
 -- The conditions of paths are added one path after another.
-use Rattle.std.proofs.Common.{◌≡◌, ℕ, zero, suc, Bool, false, List, [], ◌∷◌, ◌++◌, drop, Option, Some, None, is_some, slice_get, append_assoc, refl, sym, ◌∙◌, subst}
+use Rattle.std.proofs.Common.{◌≡◌, ◌<◌, ◌+◌, ℕ, zero, suc, Bool, false, List, [], ◌∷◌, ◌++◌, length, drop, Option, Some, None, is_some, slice_get, append_assoc, refl, sym, ◌∙◌, subst, arith}
 use Rattle.std.specs.Option.{IsSome}
 use Rattle.formula.specs.Pool.{Grows}
 use Rattle.formula.specs.declared.node.Node.{Node}
@@ -12,9 +12,10 @@ use Rattle.fort_model.specs.declared.graph.Graph.{Graph}
 use Rattle.fort_notes.specs.Assertions.{Assertion, Notes}
 use Rattle.fort_syntax.specs.declared.dialect.Dialect.{Dialect}
 use Rattle.fort_syntax.specs.declared.unit.Unit.{Unit as Routine}
-use Rattle.path_cond.specs.Found.{AddsPath, AddsPaths, IsDraft, IsGraphIn, StartsIn, conditions_of_way, conditions_of_ways, remaining, trees_of}
+use Rattle.path_cond.specs.Found.{AddsPath, AddsPaths, AreFewIn, HasFewChecks, IsDraft, IsGraphIn, StartsIn, conditions_of_way, conditions_of_ways, remaining, trees_of}
 use Rattle.path_cond.specs.declared.found.Drafts.{Drafts}
 use Rattle.path_cond.proofs.Added.{nothing_more}
+use Rattle.path_cond.proofs.Few.{checks_along}
 use Rattle.path_cond.proofs.UnitWays.{among_mapped}
 use Rattle.path_cut.specs.Ways.{Way, ways_of}
 use Rattle.path_plans.specs.declared.plan.Plan.{Plan}
@@ -33,6 +34,7 @@ pub record Passed (plan : Plan) (graph : Graph) (before now : Drafts) (n : ℕ) 
   pub grows : Grows before.pool now.pool
   pub kept : IsDraft now
   pub found : more ≡ is_some at
+  pub many : n + length (remaining at left) ≡ length (ways_of graph)
   pub among : (way : Way) → IsAmong way (remaining at left) → IsAmong way (ways_of graph)
   pub is : (p : Program) → IsReady before.pool plan.setting.now.scene.now p
       → trees_of now ++ conditions_of_ways plan (suc n) (remaining at left) p ≡ trees_of before ++ conditions_of_ways plan 1 (ways_of graph) p
@@ -50,6 +52,7 @@ none_passed plan graph before more at ways left draft all found e f =
       grows = Grows-refl before.pool;
       kept = draft;
       found = found ∙ (λ i. is_some (sym e i));
+      many = let long : length (remaining at left) ≡ length (ways_of graph) = λ i. length (same i) in omega (arith, long);
       among = λ way m. subst (λ (ws : List Way). IsAmong way ws) same m;
       is = λ p r i. trees_of before ++ conditions_of_ways plan 1 (same i) p;
     }
@@ -70,6 +73,11 @@ one_passed plan graph before now after n next more still at then way ways left h
       grows = Grows-trans before.pool now.pool after.pool h.grows adds.grows;
       kept = adds.kept;
       found = found ∙ (λ i. is_some (sym e i));
+      many =
+          let long : length (remaining at ways) ≡ suc (length ways) = λ i. length (was i) in
+          let left_long : length (remaining then left) ≡ length ways = λ i. length (same i) in
+          let passed = h.many in
+          omega (arith, long, left_long, passed, count);
       among = λ other m.
           h.among other (subst (λ (ws : List Way). IsAmong other ws) (sym was) (behind_first other way ways (subst (λ (ws : List Way). IsAmong other ws) same m)));
       is = λ p r.
@@ -149,3 +157,23 @@ start_of plan graph before now n more at way ways p0 r0 is h here p r =
     let among : IsAmong way (ways_of graph) = h.among way (subst (λ (o : Option Way). IsAmong way (remaining o ways)) (sym here) (0, refl)) in
     let path = ((ways_are_paths p.dialect u (notes_of p i) graph (is p back)).whole (path_of way)).1 (among_mapped (ways_of graph) way among) in
     start_there plan p way.start (path_of way).choices path
+
+-- ---- how many there are
+
+-- a further path has a number
+pub number_fits : (plan : Plan) (graph : Graph) (before now : Drafts) (n : ℕ) (more : Bool) (at : Option Way) (way : Way) (ways : List Way) (p : Program)
+    → IsReady before.pool plan.setting.now.scene.now p → AreFewIn before.pool plan graph → Passed plan graph before now n more at ways → at ≡ Some way → n + 1 < 4294967296
+number_fits plan graph before now n more at way ways p r few h here =
+    let long : length (remaining at ways) ≡ suc (length ways) = λ i. length (remaining (here i) ways) in
+    let passed = h.many in
+    let most = (few p r).paths in
+    omega (arith, long, passed, most)
+
+-- its checks have numbers
+pub checks_fit : (plan : Plan) (graph : Graph) (before now : Drafts) (n : ℕ) (more : Bool) (at : Option Way) (way : Way) (ways : List Way) (p0 : Program)
+    → IsReady before.pool plan.setting.now.scene.now p0 → IsGraphIn before.pool plan graph → AreFewIn before.pool plan graph → Passed plan graph before now n more at ways → at ≡ Some way
+    → HasFewChecks now.pool plan way
+checks_fit plan graph before now n more at way ways p0 r0 is few h here p r =
+    let back : IsReady before.pool plan.setting.now.scene.now p = ready_before before.pool now.pool h.grows plan.setting.now.scene.now p0 p r0 r in
+    let among : IsAmong way (ways_of graph) = h.among way (subst (λ (o : Option Way). IsAmong way (remaining o ways)) (sym here) (0, refl)) in
+    checks_along plan p graph way (is p back) (few p back) among

@@ -15,9 +15,10 @@ use Rattle.fort_model.specs.Program.{Program, notes_of}
 use Rattle.fort_model.specs.declared.graph.Graph.{Graph}
 use Rattle.fort_notes.specs.Assertions.{Notes, notes_tree}
 use Rattle.fort_syntax.specs.declared.unit.Unit.{Unit as Routine}
-use Rattle.path_cond.specs.Found.{AddsPaths, AddsUnit, IsDraft, IsGraphAt, IsGraphIn, trees_of}
+use Rattle.path_cond.specs.Found.{AddsPaths, AddsUnit, AreFew, AreFewAt, AreFewIn, IsDraft, IsGraphAt, IsGraphIn, trees_of}
 use Rattle.path_cond.specs.declared.found.Drafts.{Drafts}
 use Rattle.path_cond.proofs.Added.{nothing_more}
+use Rattle.path_cond.proofs.Few.{graphs_paths, unit_few}
 use Rattle.path_cond.proofs.Paths.{ready_before}
 use Rattle.path_cond.proofs.UnitWays.{unit_conditions}
 use Rattle.path_cut.specs.Ways.{ways_of}
@@ -26,8 +27,10 @@ use Rattle.path_scene.proofs.Staying.{ready_stays}
 use Rattle.path_scene.specs.Graphs.{AreGraphsOf, are_graphs_of}
 use Rattle.path_scene.specs.Scenes.{IsReady}
 use Rattle.path_scene.specs.declared.scene.Scene.{Scene}
+use Rattle.path_sizes.specs.Limits.{IsWithinLimits, nothing}
 use Rattle.path_starts.specs.Starts.{unit_of}
 use Rattle.walk_setting.specs.declared.setting.Setting.{Setting}
+use Rattle.way_laws.specs.PathsOf.{paths_of}
 
 -- ---- one unit
 
@@ -72,6 +75,12 @@ module _
       let is : IsGraphOf p.dialect (unit_of plan) (notes_of p n) graph = h p (unit_of plan) here (unit_there pool p here) in
       subst (λ (g : Graph). IsGraphOf p.dialect (unit_of plan) (notes_of p plan.setting.now.number) g) (sym told_is)
       (subst (λ (k : ℕ). IsGraphOf p.dialect (unit_of plan) (notes_of p k) graph) (sym number_is) is)
+
+  pub plan_few : (pool : List Node) → AreFewAt pool scene n graph → AreFewIn pool plan told
+  plan_few pool h p r =
+      let here : IsReady pool scene p = ready_here pool p r in
+      let is : AreFew p n (unit_of plan) graph = h p (unit_of plan) here (unit_there pool p here) in
+      subst (λ (g : Graph). AreFew p plan.setting.now.number (unit_of plan) g) (sym told_is) (subst (λ (k : ℕ). AreFew p k (unit_of plan) graph) (sym number_is) is)
 
   pub unit_added : (before after : Drafts) → IsGraphAt before.pool scene n graph → AddsPaths plan 1 (ways_of told) before after → AddsUnit scene n before after
   unit_added before after h adds = record {
@@ -122,6 +131,17 @@ graph_at old new scene p0 graphs n g grows r0 h lt is p u r at =
     let start : 0 + n ≡ n = omega arith in
     subst (λ (k : ℕ). IsGraphOf p.dialect u (notes_of p k) g) start
     (graph_there p 0 n p.units graphs u g (h p (ready_before old new grows scene p0 p r0 r)) at here)
+
+-- programs that a scene is ready for are within the limits
+abbrev pub AreWithinLimits : List Node → Scene → Type 0
+AreWithinLimits pool scene = (p : Program) → IsReady pool scene p → (paths : List (List Path)) → AreAllPaths p paths → IsWithinLimits p paths
+
+pub few_at : (old new : List Node) (scene : Scene) (p0 : Program) (graphs : List Graph) (n : ℕ) (g : Graph) → Grows old new → IsReady old scene p0 → AreSceneGraphs old scene graphs
+    → AreWithinLimits old scene → n < length graphs → g ≡ get_or graphs n g → AreFewAt new scene n g
+few_at old new scene p0 graphs n g grows r0 h within lt is p u r at =
+    let here : slice_get graphs n ≡ Some g = slice_get-get_or graphs n g lt ∙ ap Some (sym is) in
+    let back : IsReady old scene p = ready_before old new grows scene p0 p r0 r in
+    unit_few p n p.units graphs u g nothing at here (within p back (map paths_of graphs) (graphs_paths p 0 p.units graphs (h p back)))
 
 -- ---- one unit after another
 

@@ -34,7 +34,7 @@ among_mapped ways way m = (m.0, at ways m.0 m.1)
     at (w ∷ ws) (suc k) e = at ws k e
 
 -- along a way of the graph the walk goes
-one_way : (plan : Plan) (p : Program) (graph : Graph) (way : Way) → IsGraphOf p.dialect (unit_of plan) (notes_of p plan.setting.now.number) graph → IsAmong way (ways_of graph)
+pub one_way : (plan : Plan) (p : Program) (graph : Graph) (way : Way) → IsGraphOf p.dialect (unit_of plan) (notes_of p plan.setting.now.number) graph → IsAmong way (ways_of graph)
     → walk (seen_from plan.setting.now p) (path_of way) ≡ along (seen_from plan.setting.now p) way.start way.steps way.end
 one_way plan p graph way h m =
     let i = plan.setting.now.number in

@@ -3,7 +3,7 @@ ghost use Rattle.std.specs.Prelude.{◌≡◌, IfOk};
 ghost use Rattle.fort_model.specs.Graphs.{IsGraphOf};
 ghost use Rattle.fort_model.specs.Program.{Program};
 ghost use Rattle.fort_notes.specs.Assertions.{Notes};
-ghost use Rattle.path_cond.specs.Found.{AddsPath, AddsPaths, IsDraft, IsGraphIn, StartsIn};
+ghost use Rattle.path_cond.specs.Found.{AddsPath, AddsPaths, AreFewIn, HasFewChecks, IsDraft, IsGraphIn, StartsIn};
 ghost use Rattle.path_cut.specs.Cursor.{way_seen};
 ghost use Rattle.path_cut.specs.Ways.{ways_of};
 ghost use Rattle.path_plans.specs.Plans.{IsPlan};
@@ -31,6 +31,7 @@ fn add_path(
     requires graph { (notes : Notes) × IsGraphOf flow.now.setting.now.scene.now.dialect flow.now.setting.now.book.now.unit.now notes flow.now.graph.now }
     requires ready { (p : Program) × IsReady drafts.pool plan.now.setting.now.scene.now p }
     requires start { StartsIn drafts.pool plan.now path.now.start }
+    requires few { HasFewChecks drafts.pool plan.now (way_seen path.now) }
     requires drafts { IsDraft drafts }
     ensures { IfOk result (AddsPath plan.now (way_seen path.now) number drafts) }
 {
@@ -57,12 +58,13 @@ fn add_path(
     })
 }
 
-/// Adds the conditions of the paths through the graph of a unit, in order. 2^32 - 1 paths refuse to
-/// be more.
+/// Adds the conditions of the paths through the graph of a unit, in order. The paths are fewer than
+/// 2^32, and so are the checks along each.
 pub(crate) fn add_paths(drafts: Drafts, plan: &Plan, flow: &UnitFlow) -> Result<Drafts, NoMemory>
     requires plan { IsPlan plan.now }
     requires same { flow.now.setting.now ≡ plan.now.setting.now }
     requires graph { IsGraphIn drafts.pool plan.now flow.now.graph.now }
+    requires few { AreFewIn drafts.pool plan.now flow.now.graph.now }
     requires ready { (p : Program) × IsReady drafts.pool plan.now.setting.now.scene.now p }
     requires drafts { IsDraft drafts }
     ensures { IfOk result (AddsPaths plan.now 1 (ways_of flow.now.graph.now) drafts) }
@@ -76,13 +78,10 @@ pub(crate) fn add_paths(drafts: Drafts, plan: &Plan, flow: &UnitFlow) -> Result<
         return Err(NoMemory);
     };
     while more {
-        if number == u32::MAX {
-            return Err(NoMemory);
-        }
-        number += 1;
         let Some(path) = paths.view() else {
             unreachable!()
         };
+        number += 1;
         let Ok(after) = add_path(drafts, plan, flow, &path, number) else {
             return Err(NoMemory);
         };

@@ -1,7 +1,7 @@
 // The conditions of units.
 ghost use Rattle.std.specs.Prelude.{◌<◌, length, IfOk};
 ghost use Rattle.fort_model.specs.Program.{Program};
-ghost use Rattle.path_cond.specs.Found.{AddsUnit, IsDraft, IsGraphAt};
+ghost use Rattle.path_cond.specs.Found.{AddsUnit, AreFewAt, IsDraft, IsGraphAt};
 ghost use Rattle.path_scene.specs.Scenes.{IsReady};
 ghost use Rattle.unit_tables.specs.UnitTables.{AreUnitNumbers};
 
@@ -27,6 +27,7 @@ pub(crate) fn add_unit(
     requires numbers { AreUnitNumbers scene.now.books.now.units.now numbers.now }
     requires ready { (p : Program) × IsReady drafts.pool scene.now p }
     requires graph { IsGraphAt drafts.pool scene.now number graph.now }
+    requires few { AreFewAt drafts.pool scene.now number graph.now }
     requires drafts { IsDraft drafts }
     ensures { IfOk result (AddsUnit scene.now number drafts) }
 {

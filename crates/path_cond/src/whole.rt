@@ -8,6 +8,7 @@ ghost use Rattle.fort_model.specs.Paths.{Path};
 ghost use Rattle.fort_model.specs.Program.{Program};
 ghost use Rattle.path_scene.specs.Graphs.{AreGraphsOf};
 ghost use Rattle.path_scene.specs.Scenes.{IsReady};
+ghost use Rattle.path_sizes.specs.Limits.{IsWithinLimits};
 
 use crate::found::{Conditions, Drafts};
 use crate::units::add_unit;
@@ -18,8 +19,8 @@ use path_scene::Scene;
 use std::alloc::Global;
 use unit_tables::UnitNumbers;
 
-/// The conditions of a program, unit after unit, path after path, check after check. No answer
-/// depends on the keys.
+/// The conditions of a program that is within the limits, unit after unit, path after path, check
+/// after check. No answer depends on the keys.
 pub fn conditions(
     alloc: Global,
     keys: Keys,
@@ -29,6 +30,7 @@ pub fn conditions(
 ) -> Result<Conditions, NoMemory>
     requires ready { (p : Program) × IsReady pool scene.now p }
     requires graphs { (p : Program) → IsReady pool scene.now p → AreGraphsOf p graphs.now }
+    requires within { (p : Program) → IsReady pool scene.now p → (paths : List (List Path)) → AreAllPaths p paths → IsWithinLimits p paths }
     ensures grows { IfOk result (λ c. Grows pool c.pool) }
     ensures trees { IfOk result (λ c. (p : Program) → IsReady pool scene.now p → (paths : List (List Path)) → AreAllPaths p paths → map (condition_tree c.pool) c.conditions ≡ conditions_of p paths) }
     ensures inside { IfOk result (λ c. All (IsConditionIn c.pool) c.conditions) }

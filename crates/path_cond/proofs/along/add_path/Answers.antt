@@ -1,11 +1,24 @@
 use Rattle.std.proofs.Common.{◌++◌, [], ◌∙◌}
 use Rattle.met_conditions.specs.Numbered.{conditions_at}
 use Rattle.path_cond.proofs.Added.{adds_met}
+use Rattle.path_cond.proofs.Few.{few_met}
 use Rattle.path_cut.specs.Cursor.{way_seen}
 use Rattle.path_starts.specs.Starts.{unit_of}
 use Rattle.walk_setting.specs.Settings.{seen_from}
 use Rattle.way_walks.specs.Along.{along}
 use Rattle.path_cond.proofs.along.add_path.Goals as goal
+
+pub add_conditions-requires : goal.add_conditions-requires
+add_conditions-requires c =
+    let plan = c.args.plan.now in
+    let way = way_seen c.args.path.now in
+    let p = c.requires.ready.0 in
+    let r = c.requires.ready.1 in
+    record {
+      few =
+          few_met c.in-Ok.walk.pool c.deref.result.now c.in-Ok.walk.met.items (along (seen_from plan.setting.now p) way.start way.steps way.end) c.deref.ensures.value
+          (c.in-Ok.ensures.along p r (c.requires.start p r)) (c.requires.few p r);
+    }
 
 pub returns : goal.returns
 returns c =

@@ -1,6 +1,6 @@
 use Rattle.std.proofs.Common.{ap, map, ◌∙◌, arith}
 use Rattle.event_text.specs.Conditions.{condition_tree}
-use Rattle.path_cond.proofs.Stepwise.{all_counted, as_many, graph_at, none_counted, one_counted}
+use Rattle.path_cond.proofs.Stepwise.{all_counted, as_many, few_at, graph_at, none_counted, one_counted}
 use Rattle.path_scene.proofs.Staying.{ready_stays}
 use Rattle.path_cond.proofs.whole.conditions.Goals as goal
 
@@ -20,6 +20,11 @@ pub add_unit-requires-clause-graph : goal.add_unit-requires-clause-graph
 add_unit-requires-clause-graph c =
     graph_at c.args.pool c.loop-number.drafts.pool c.args.scene.now c.requires.ready.0 c.args.graphs.now c.loop-number.number c.index-graphs-number.result c.loop-number.invariant.grows
     c.requires.ready.1 c.requires.graphs (omega arith) c.index-graphs-number.is
+
+pub add_unit-requires-clause-few : goal.add_unit-requires-clause-few
+add_unit-requires-clause-few c =
+    few_at c.args.pool c.loop-number.drafts.pool c.args.scene.now c.requires.ready.0 c.args.graphs.now c.loop-number.number c.index-graphs-number.result c.loop-number.invariant.grows
+    c.requires.ready.1 c.requires.graphs c.requires.within (omega arith) c.index-graphs-number.is
 
 pub loop-number-preserved : goal.loop-number-preserved
 loop-number-preserved c =
