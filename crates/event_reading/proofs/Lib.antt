@@ -1,0 +1,13 @@
+pub mod Afters
+pub mod Calls
+pub mod DefinitionLines
+pub mod DefinitionRead
+pub mod KnownNames
+pub mod Matching
+pub mod Parts
+pub mod Rests
+pub mod Rounds
+pub mod Runs
+pub mod Short
+pub mod Steps
+pub mod Values
