@@ -46,5 +46,6 @@ counted_not_three k ks pool (a ∷ b ∷ []) t h e = ap (counted_of k t) e
 counted_not_three k ks pool (a ∷ b ∷ c ∷ []) t h e = absurd (h a b c refl)
 counted_not_three k ks pool (a ∷ b ∷ c ∷ d ∷ ids) t h e = ap (counted_of k t) e
 
-pub counted_first : (params : List (List ℕ)) (k : List ℕ) (ks : List (List ℕ)) (t : Tree) (body : FunctionBody) → params ≡ k ∷ ks → body ≡ counted (k ∷ ks) t → body ≡ counted params t
-counted_first params k ks t body e h = h ∙ ap (λ l. counted l t) (sym e)
+pub counted_other : (params : List (List ℕ)) (pool : List Node) (ids : List TermId) (t : Tree) → ((a b c : TermId) → ids ≢ a ∷ b ∷ c ∷ []) → Some (map (tree_of pool) ids) ≡ call_of If t → plain t ≡ counted params t
+counted_other [] pool ids t h e = refl
+counted_other (k ∷ ks) pool ids t h e = counted_not_three k ks pool ids t h e

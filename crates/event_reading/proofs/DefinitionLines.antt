@@ -22,7 +22,7 @@ use Rattle.event_text.specs.EventText.{body_text, definition_line, spaced}
 use Rattle.event_text.specs.Readable.{body_term, in_full, is_parameter, IsReadableBody, IsReadableDefinition}
 use Rattle.event_text.specs.TermText.{name_at, row_text, term_text}
 use Rattle.event_text.proofs.FoundNames.{AreNew, are_found, next_as_last}
-use Rattle.event_text.proofs.OneDefinition.{HasFirst, body_text_is, body_told, has_first, own, recurs}
+use Rattle.event_text.proofs.OneDefinition.{body_text_is, body_told, has_first, own, recurs}
 use Rattle.event_text.proofs.Splits.{one_front, right_six}
 use Rattle.event_text.proofs.Tests.{first_of_both, second_of_both}
 use Rattle.event_text.proofs.Told.{Reads, reads_heads}
@@ -92,9 +92,9 @@ parameters_some n ps t r e = by (begins (codes ")") t) refl e
           is = one.is ∙ ap (λ l. p.0 ++ l) m.is ∙ sym (append_assoc p.0 (flat_map blank_first m.added) (41 ∷ r)) ∙ ap (λ l. spaced l ++ 41 ∷ r) (sym m.all);
         }
 
-    by : (b : Bool) → begins (codes ")") t ≡ b → (if b then Some (pair {List (List ℕ)} [] (drop 1 t)) else (parameter_at t >>= λ p. more_parameters n (p.0 ∷ []) p.1)) ≡ Some (ps, r) → Parameters ps t r
+    by : (b : Bool) → begins (codes ")") t ≡ b → (if b then Some (pair {A = List (List ℕ)} [] (drop 1 t)) else (parameter_at t >>= λ p. more_parameters n (p.0 ∷ []) p.1)) ≡ Some (ps, r) → Parameters ps t r
     by true h k =
-        let two = same_pair {List (List ℕ)} [] ps (drop 1 t) r k in
+        let two = same_pair {A = List (List ℕ)} [] ps (drop 1 t) r k in
         let all = two.0 in
         let rest = two.1 in
         record { good = ap (list_all is_parameter) (sym all); is = begun (codes ")") t h ∙ ap (λ l. 41 ∷ l) rest ∙ ap (λ l. spaced l ++ 41 ∷ r) all }

@@ -20,7 +20,7 @@ use Rattle.event_text.specs.EventText.{body_text, definition_line, spaced}
 use Rattle.event_text.specs.Readable.{body_term, in_full, is_parameter, IsReadableBody, IsReadableDefinition}
 use Rattle.event_text.specs.TermText.{term_text}
 use Rattle.event_text.proofs.FoundNames.{AreNew, are_found, next_as_last}
-use Rattle.event_text.proofs.OneDefinition.{HasFirst, body_text_is, body_told, has_first, name_bytes, own, recurs}
+use Rattle.event_text.proofs.OneDefinition.{body_text_is, body_told, has_first, name_bytes, own, recurs}
 use Rattle.event_text.proofs.SpelledTerms.{IsTold}
 use Rattle.event_text.proofs.Splits.{StopsAt, right_six}
 use Rattle.event_text.proofs.Tests.{first_of_both, second_of_both}

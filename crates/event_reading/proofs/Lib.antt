@@ -1,13 +1,17 @@
 pub mod Afters
 pub mod Calls
+pub mod ConditionLines
 pub mod DefinitionLines
 pub mod DefinitionRead
 pub mod KnownNames
 pub mod Matching
+pub mod NewNames
 pub mod Parts
+pub mod Races
 pub mod Rests
 pub mod Rounds
 pub mod Runs
 pub mod Short
 pub mod Steps
 pub mod Values
+pub mod Wholes

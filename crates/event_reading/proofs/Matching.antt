@@ -6,7 +6,7 @@ use Rattle.std.proofs.lemmas.Cmp.{nat_list_eq_equiv}
 use Rattle.formula.specs.Atoms.{same_bytes}
 use Rattle.event_text.proofs.Splits.{one_front}
 use Rattle.event_reading.specs.declared.comparing.Comparing.{Comparing}
-use Rattle.event_reading.specs.Matches.{Matches, Nears}
+use Rattle.event_reading.specs.Matches.{Matches, Nears, is_nothing}
 
 
 pub matches : {a b c : Comparing} {xs ys : List ℕ} → Matches a b xs → Matches b c ys → Matches a c (xs ++ ys)
@@ -58,24 +58,20 @@ longer (x ∷ xs) ys y e = longer xs ys y (tail e)
     tail p = cc
 
 -- all was passed: the text is the whole just where all was the same and nothing is left
-pub whole_same : (a b : Comparing) (whole : List ℕ) (empty : Bool) → a.same ≡ true → Nears a b whole [] → (empty ≡ true → b.rest.now ≡ []) → (empty ≡ false → b.rest.now ≡ [] → ⊥) → (b.same && empty) ≡ same_bytes whole a.rest.now
-whole_same a b whole empty on n full rest = by b.same empty refl refl
+pub whole_same : (a b : Comparing) (whole : List ℕ) → a.same ≡ true → Nears a b whole [] → (b.same && is_nothing b.rest.now) ≡ same_bytes whole a.rest.now
+whole_same a b whole on n = by b.same b.rest.now refl refl
   where
     text : b.same ≡ true → a.rest.now ≡ whole ++ b.rest.now
     text s = (n.put.kept s).1 ∙ ap (λ l. l ++ b.rest.now) (sym (append-nil n.front) ∙ n.is)
 
-    nothing : (xs : List ℕ) → (xs ≡ [] → ⊥) → whole ≡ whole ++ xs → ⊥
-    nothing [] f e = f refl
-    nothing (x ∷ xs) f e = longer whole xs x e
+    test : (t : Bool) → same_bytes whole a.rest.now ≡ t → (whole ≡ a.rest.now → ⊥) → false ≡ t
+    test true e f = absurd (f (same_text whole a.rest.now (sym e)))
+    test false e f = refl
 
     differ : (whole ≡ a.rest.now → ⊥) → false ≡ same_bytes whole a.rest.now
-    differ f = test (same_bytes whole a.rest.now) refl
-      where
-        test : (t : Bool) → same_bytes whole a.rest.now ≡ t → false ≡ t
-        test true e = absurd (f (same_text whole a.rest.now (sym e)))
-        test false e = refl
+    differ f = test (same_bytes whole a.rest.now) refl f
 
-    by : (s e : Bool) → b.same ≡ s → empty ≡ e → (s && e) ≡ same_bytes whole a.rest.now
-    by true true p q = sym (ap (same_bytes whole) (text p ∙ ap (λ l. whole ++ l) (full q) ∙ append-nil whole) ∙ nat_list_eq_equiv.refl whole)
-    by true false p q = differ (λ e. nothing b.rest.now (rest q) (e ∙ text p))
-    by false e p q = differ (λ w. n.put.lost p on [] (sym w ∙ sym n.is))
+    by : (s : Bool) (r : List ℕ) → b.same ≡ s → b.rest.now ≡ r → (s && is_nothing r) ≡ same_bytes whole a.rest.now
+    by true [] p q = sym (ap (same_bytes whole) (text p ∙ ap (λ l. whole ++ l) q ∙ append-nil whole) ∙ nat_list_eq_equiv.refl whole)
+    by true (x ∷ r) p q = differ (λ e. longer whole r x (e ∙ text p ∙ ap (λ l. whole ++ l) q))
+    by false r p q = differ (λ w. n.put.lost p on [] (sym w ∙ sym n.is))

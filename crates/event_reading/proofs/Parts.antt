@@ -1,5 +1,6 @@
 -- Parts of terms that are calls, and the bodies that count.
-use Rattle.std.proofs.Common.{◌≡◌, ℕ, ℤ, pos, negsuc, zero, suc, Bool, true, false, if◌then◌else◌, Option, Some, None, List, [], ◌∷◌, ◌++◌, length, refl, sym, ap, ◌∙◌, subst}
+use Rattle.std.proofs.Common.{◌≡◌, ℕ, pos, Bool, true, false, if◌then◌else◌, Option, Some, None, List, [], ◌∷◌, ◌++◌, length, refl, sym, ap, ◌∙◌, subst}
+use Rattle.std.proofs.lemmas.Bool.Decides.{Decides-int_eq}
 use Rattle.std.proofs.lemmas.Cmp.{nat_list_eq_equiv}
 use Rattle.std.specs.Cmp.Lexicographic.{same_text}
 use Rattle.std.specs.Ordering.{int_eq}
@@ -80,12 +81,7 @@ symbol_is k (old s) h = absurd cc
 symbol_is k (apply g row) h = absurd cc
 
 zero_is : (t : Tree) → is_zero t ≡ true → t ≡ num (pos 0)
-zero_is (num z) h = ap num (same_number z h)
-  where
-    same_number : (z : ℤ) → int_eq z (pos 0) ≡ true → z ≡ pos 0
-    same_number (pos zero) p = refl
-    same_number (pos (suc n)) p = absurd cc
-    same_number (negsuc n) p = absurd cc
+zero_is (num z) h = ap num ((Decides-int_eq z (pos 0)).0 h)
 zero_is (symbol s) h = absurd cc
 zero_is (truth b) h = absurd cc
 zero_is (old s) h = absurd cc

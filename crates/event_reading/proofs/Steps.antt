@@ -47,7 +47,10 @@ abbrev pub pair : {A : Type 0} → A → List ℕ → A × List ℕ
 pair a r = (a, r)
 
 pub same_pair : {A : Type 0} (a b : A) (r s : List ℕ) → Some (pair a r) ≡ Some (pair b s) → (a ≡ b) × (r ≡ s)
-same_pair a b r s e = (cc, cc)
+same_pair {A} a b r s e = let p = unwrapped (pair a r) (pair b s) e in (ap (λ (x : A × List ℕ). x.0) p, ap (λ (x : A × List ℕ). x.1) p)
+  where
+    unwrapped : (x y : A × List ℕ) → Some x ≡ Some y → x ≡ y
+    unwrapped x y f = cc
 
 -- ---- bytes of a kind
 

@@ -1,5 +1,6 @@
 pub mod Answers
 pub mod Events
+pub mod Fronts
 pub mod Lines
 pub mod Matches
 pub mod Names

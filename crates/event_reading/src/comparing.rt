@@ -1,6 +1,7 @@
 // A text that is compared, piece by piece.
+ghost use Rattle.std.specs.Prelude.{◌≡◌, ◌&&◌, decimal};
 ghost use Rattle.std.specs.Fmt.{signed_decimal};
-ghost use Rattle.event_reading.specs.Matches.{Matches};
+ghost use Rattle.event_reading.specs.Matches.{Matches, is_nothing};
 
 use crate::tokens::after;
 use itoa::Buffer;
@@ -25,6 +26,28 @@ impl<'a> Comparing<'a> {
             Some(rest) => self.rest = rest,
             None => self.same = false,
         }
+    }
+
+    /// Whether all pieces stood there, and nothing is left.
+    pub fn is_done(&self) -> bool
+        ensures { result ≡ (self.now.same && is_nothing self.now.rest.now) }
+    {
+        if !self.same {
+            return false;
+        }
+        match self.rest {
+            [] => true,
+            _ => false,
+        }
+    }
+
+    /// Passes a number in decimal digits.
+    pub fn put_number(&mut self, n: u64)
+        ensures { Matches self.old self.new (decimal n) }
+    {
+        let mut buffer = Buffer::new();
+        let text = buffer.format(n);
+        self.put(text.as_bytes());
     }
 
     /// Passes a signed number: its decimal digits, behind `-` where it is below 0.

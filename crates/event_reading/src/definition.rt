@@ -1,5 +1,5 @@
 // Definitions.
-ghost use Rattle.std.specs.Prelude.{◌≡◌, ◌∷◌, [], ◌++◌, Some, None, List, ℕ, IfOk, IfErr, OnOk, OnErr};
+ghost use Rattle.std.specs.Prelude.{◌≡◌, ◌≢◌, ◌∷◌, [], ◌++◌, Some, None, List, ℕ, IfOk, IfErr, OnOk, OnErr};
 ghost use Rattle.formula.specs.Adding.{AreAdded};
 ghost use Rattle.formula.specs.Headings.{heading_with, headings_of};
 ghost use Rattle.formula.specs.Pool.{Grows, IsIn, tree_of};
@@ -108,6 +108,16 @@ fn body_at<'a>(
     Ok((id, rest))
 }
 
+// Why a definition was not added.
+fn lack_of(fault: DefFault) -> Lack
+    ensures { result ≡ Lack.Spelling → fault ≢ DefFault.NoMemory }
+{
+    match fault {
+        DefFault::NoMemory => Lack::Memory,
+        _ => Lack::Spelling,
+    }
+}
+
 #[tactic(auto, unfolding(crate::specs::Lines::definition_at))]
 /// Adds the definition that begins a text, and answers the text behind it. Where the text begins
 /// with none, or there is no memory, the definitions are as before.
@@ -135,7 +145,6 @@ pub fn definition_at<'a>(
     let body = counted(pool, params.as_slice(), id);
     match definitions.add(pool, name, params, body) {
         Ok(()) => Ok(rest),
-        Err(DefFault::NoMemory) => Err(Lack::Memory),
-        Err(_) => Err(Lack::Spelling),
+        Err(fault) => Err(lack_of(fault)),
     }
 }

@@ -9,9 +9,11 @@ mod events;
 mod known;
 mod lack;
 mod prover;
+mod reading;
 mod shapes;
 mod term;
 mod tokens;
 mod writing;
 
 pub use events::{Events, ReadRefusal};
+pub use reading::read_events;

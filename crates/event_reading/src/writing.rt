@@ -138,5 +138,5 @@ pub fn is_term_text(
     while let Some(bracket) = stack.pop() {
         go_on(&mut out, pool, known, &mut stack, bracket)?;
     }
-    Ok(out.same && out.rest.is_empty())
+    Ok(out.is_done())
 }
