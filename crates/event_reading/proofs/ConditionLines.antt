@@ -34,7 +34,7 @@ use Rattle.event_reading.proofs.Steps.{byte_read, byte_some, kind_read, kind_som
 
 -- ---- the implication
 
-some_pair : {A B : Type 0} (a c : A) (b d : B) → Some (a, b) ≡ Some (c, d) → (a ≡ c) × (b ≡ d)
+some_pair : {A B : Type 0} (a c : A) (b d : B) → ◌≡◌ {A = Option (A × B)} (Some (a, b)) (Some (c, d)) → (a ≡ c) × (b ≡ d)
 some_pair {A} {B} a c b d e = let p = unwrapped (a, b) (c, d) e in (ap (λ (x : A × B). x.0) p, ap (λ (x : A × B). x.1) p)
   where
     unwrapped : (x y : A × B) → Some x ≡ Some y → x ≡ y
@@ -158,11 +158,8 @@ name_part hs c x good =
     let third = decimal c.check ++ (codes " NIL " ++ x) in
     let second = decimal c.path ++ (codes "-" ++ third) in
     rw (
-      after_read (codes "(PROVE-LEMMA ") (c.unit ++ (codes "-" ++ second)),
       name_read c.unit (codes "-" ++ second) good.unit refl,
-      after_read (codes "-") second,
       number_read 4294967295 c.path (codes "-" ++ third) (omega (arith, good.path)) (omega (arith, good.path)) refl,
-      after_read (codes "-") third,
       number_read 4294967295 c.check (codes " NIL " ++ x) (omega (arith, good.check)) (omega (arith, good.check)) refl,
     ) refl
 
@@ -174,11 +171,8 @@ note_part hs c m x good mark =
     let first = decimal c.card ++ (codes " " ++ second) in
     rw (
       kind_read c.kind (codes " CARD " ++ first) refl,
-      after_read (codes " CARD ") first,
       number_read 4294967295 c.card (codes " " ++ second) (omega (arith, good.card)) (omega (arith, good.card)) refl,
-      after_read (codes " ") second,
       byte_read is_mark m (codes "\n" ++ x) mark,
-      after_read (codes "\n") x,
     ) refl
 
 implied : (hs : List Heading) (r : Reads (head_named hs None) (heading_names hs) hs) (c : ConditionTree) (x : List ℕ) → IsReadableCondition hs c
@@ -187,7 +181,7 @@ unfolding implication_at
 implied hs r c x good =
     rw (
       term_read (heading_names hs) hs None (condition_term c) (codes ") ; " ++ x) (condition_told (head_named hs None) (heading_names hs) hs r c good) refl,
-      implication_again c.hyps c.goal,
+      row_trees_again c.hyps,
     ) refl
 
 pub condition_read : (hs : List Heading) (r : Reads (head_named hs None) (heading_names hs) hs) (c : ConditionTree) (m : ℕ) (x : List ℕ) → IsReadableCondition hs c → is_mark m ≡ true
@@ -198,7 +192,7 @@ condition_read hs r c m x good mark =
     let note = kind_word c.kind ++ (codes " CARD " ++ (decimal c.card ++ (codes " " ++ (m ∷ codes "\n" ++ x)))) in
     let term = term_text names (condition_term c) ++ (codes ") ; " ++ note) in
     ap (condition_at hs) (line_parts names c m x)
-    ∙ rw (name_part hs c term good, after_read (codes " NIL ") term, implied hs r c note good, after_read (codes ") ; ") note, note_part hs c m x good mark) refl
+    ∙ rw (name_part hs c term good, implied hs r c note good, note_part hs c m x good mark) refl
 
 -- ---- what is read stands there
 
@@ -331,11 +325,8 @@ asked_read a x good =
     let first = a.0 ∷ (codes " " ++ second) in
     ap asked_at (asked_parts a x)
     ∙ rw (
-      after_read (codes "; ASKED ") first,
       byte_read is_letter a.0 (codes " " ++ second) good.0,
-      after_read (codes " ") second,
       number_read 18446744073709551615 a.1 (codes "\n" ++ x) (omega (arith, good.1)) good.1 refl,
-      after_read (codes "\n") x,
     ) refl
 
 pub record AskedThere (t : List ℕ) (a : ℕ × ℕ) (r : List ℕ) : Type 0 where

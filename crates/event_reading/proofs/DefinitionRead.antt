@@ -96,9 +96,7 @@ unfolding heading_at
 heading_read name ps r h k =
     let behind = spaced ps ++ 41 ∷ r in
     rw (
-      after_read (codes "(DEFN ") (name ++ (codes " (" ++ behind)),
       function_name_read name (codes " (" ++ behind) h refl,
-      after_read (codes " (") behind,
       parameters_read (length behind) ps r (few ps r k) k,
     ) refl
 
@@ -120,13 +118,13 @@ body_read hs d r new good =
     let next : AreFound (head_named hs (Some (own d))) names hd = λ k h at. (let x = found k h at in (x.0, next_as_last hs (own d) _ ∙ x.1)) in
     let told : IsTold (head_named hs (Some (own d))) names u =
     body_told (head_named hs (Some (own d))) names hd (reads_heads hs (Some (own d)) names hd next) d.params d.body good.params (has_first _ d.params d.body (recurs hs d.name d.params d.body good.fits)) good.body in
-    rw (
-      after_read (codes " ") (term_text names u ++ (codes ")\n" ++ r)),
-      term_read names hs (Some (own d)) u (codes ")\n" ++ r) told refl,
-      after_read (codes ")\n") r,
-    ) refl
+    rw (term_read names hs (Some (own d)) u (codes ")\n" ++ r) told refl) refl
 
 -- ---- faults
+
+other : (b first : Bool) → not b ≡ true → (if b then first else true) ≡ true
+other true first h = absurd cc
+other false first h = refl
 
 module _ (k : ℕ) (params : List (List ℕ)) where
   mutual
@@ -148,10 +146,6 @@ module _ (k : ℕ) (params : List (List ℕ)) where
         let here = uses_down t (first_of_both (uses_pass (is_other k) t) _ h) in
         let rest = row_down row (second_of_both (uses_pass (is_other k) t) _ h) in
         rw (here, rest) refl
-
-    other : (b first : Bool) → not b ≡ true → (if b then first else true) ≡ true
-    other true first h = absurd cc
-    other false first h = refl
 
 -- the list of faults with other tests, which pass where the first do
 swap : (a b c d e f x y z w : Bool) (p q r s t u : DefFault) → (b ≡ true → x ≡ true) → (c ≡ true → y ≡ true) → (d ≡ true → z ≡ true) → (e ≡ true → w ≡ true)

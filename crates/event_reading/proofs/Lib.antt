@@ -3,6 +3,7 @@ pub mod Calls
 pub mod ConditionLines
 pub mod DefinitionLines
 pub mod DefinitionRead
+pub mod Growing
 pub mod KnownNames
 pub mod Matching
 pub mod NewNames

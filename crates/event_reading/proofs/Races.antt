@@ -19,6 +19,7 @@ use Rattle.event_reading.specs.Names.{heading_names}
 use Rattle.event_reading.proofs.ConditionLines.{asked_read, condition_read}
 use Rattle.event_reading.proofs.DefinitionRead.{as_read, definition_read}
 use Rattle.event_reading.proofs.NewNames.{names_move, new_next}
+use Rattle.event_reading.proofs.Steps.{pair, same_pair}
 
 -- x stands behind the whole first list, and y behind the second
 pub record Behind (first : List ℕ) (x y : List ℕ) : Type 0 where
@@ -113,8 +114,5 @@ race_asked (a ∷ qs) (b ∷ bs) x y p q none e =
     let both = sym first ∙ ap asked_at (sym (append_assoc (asked_line a) (flat_map asked_line qs) x) ∙ e ∙ append_assoc (asked_line b) (flat_map asked_line bs) y) ∙ second in
     race_asked qs bs x y (all_rest IsAsked a qs p) (all_rest IsAsked b bs q) none (rests a b rest others both)
   where
-    rests : (u v : ℕ × ℕ) (s t : List ℕ) → Some (u, s) ≡ Some (v, t) → s ≡ t
-    rests u v s t f = let p = unwrapped (u, s) (v, t) f in ap (λ (x : (ℕ × ℕ) × List ℕ). x.1) p
-
-    unwrapped : (x y : (ℕ × ℕ) × List ℕ) → Some x ≡ Some y → x ≡ y
-    unwrapped x y f = cc
+    rests : (u v : ℕ × ℕ) (s t : List ℕ) → Some (pair u s) ≡ Some (pair v t) → s ≡ t
+    rests u v s t f = (same_pair u v s t f).1

@@ -2,7 +2,7 @@
 use Rattle.std.proofs.Common.{◌≡◌, ◌⊎◌, inl, inr, ℕ, ◌+◌, ◌-◌, ◌≤◌, ◌<◌, ◌^◌, Bool, true, false, Option, None, List, [], ◌∷◌, ◌++◌, length, map, take, drop, codes, refl, sym, ap, ◌∙◌, subst, arith, append_assoc, append-nil, length-append}
 use Rattle.std.proofs.Math.Seq.{take-append_seam}
 use Rattle.std.proofs.lemmas.Fmt.{decimal_nonempty, digits_decimal}
-use Rattle.std.proofs.lemmas.List.{take-append-drop}
+use Rattle.std.proofs.lemmas.List.{length-take, take-append-drop}
 use Rattle.std.specs.Fmt.{decimal}
 use Rattle.std.specs.List.{All, flat_map, list_all, zip}
 use Rattle.std.specs.Prelude.{◌==◌}
@@ -60,6 +60,31 @@ data Line : List ℕ → Type 0 where
   condition : (z : List ℕ) → Line (codes "(P" ++ z)
   asked : (z : List ℕ) → Line (codes "; A" ++ z)
 
+figures_first : (n : ℕ) (x z ds : List ℕ) → ds ≡ decimal n → list_all is_digit ds ≡ true → 0 < length ds → ds ++ x ≡ 65 ∷ z → ⊥
+figures_first n x z [] d all some e = absurd (omega arith)
+figures_first n x z (b ∷ ds) d all some e =
+    let same : b ≡ 65 = head_same b 65 (ds ++ x) z e in
+    let bad : true ≡ false = sym (first_of_both (is_digit b) (list_all is_digit ds) all) ∙ ap is_digit same in
+    absurd cc
+
+no_bracket : (x z : List ℕ) → 40 ∷ z ≡ 59 ∷ x → ⊥
+no_bracket x z e = clash (λ b. b == 40) 40 z (59 ∷ x) refl (sym e) refl
+
+no_letter : (x z : List ℕ) → 40 ∷ 80 ∷ x ≡ 40 ∷ 68 ∷ z → ⊥
+no_letter x z e = clash (λ b. b == 68) 68 z (80 ∷ x) refl (tail_same 40 40 _ _ e) refl
+
+no_start : (x later : List ℕ) (b : ℕ) → (b == 59) ≡ false → 59 ∷ x ≡ b ∷ later → ⊥
+no_start x later b h e =
+    let same : 59 ≡ b = head_same 59 b x later e in
+    let bad : true ≡ false = ap (λ k. k == 59) same ∙ h in
+    absurd cc
+
+-- the closing line begins no other line
+closing_no_line : (n : ℕ) (rest : List ℕ) → n < 2 ^ 64 → Line rest → rest ≡ closing_line n → ⊥
+closing_no_line n _ h (definition z) e = no_bracket _ _ e
+closing_no_line n _ h (condition z) e = no_bracket _ _ e
+closing_no_line n _ h (asked z) e = figures_first n (codes " CONDITIONS\n") z (decimal n) refl (digits_decimal numerals n h) (decimal_nonempty n h) (one_front (codes "; ") _ _ (sym e))
+
 module _ (ds : List Function) (cs : List ConditionTree) (ls : List ℕ) (qs : List (ℕ × ℕ)) (text x y z : List ℕ)
   (d : AreDefinitions text ds x) (d_none : definition_at (headings_with ds) x ≡ None)
   (c : AreConditions (headings_with ds) x cs ls y) (c_none : condition_at (headings_with ds) y ≡ None)
@@ -100,7 +125,7 @@ module _ (ds : List Function) (cs : List ConditionTree) (ls : List ℕ) (qs : Li
   no_asked : (bs : List (ℕ × ℕ)) (rest later : List ℕ) (b : ℕ) → (b == 59) ≡ false → flat_map asked_line bs ++ rest ≡ b ∷ later → rest ≡ b ∷ later
   no_asked [] rest later b h e = e
   no_asked (a ∷ bs) rest later b h e =
-      absurd (let same : 59 ≡ b = head_same 59 b _ later e in let bad : true ≡ false = ap (λ k. k == 59) same ∙ h in cc)
+      absurd (no_start _ later b h e)
 
   against_conditions : (bs : List ConditionTree) (ms : List ℕ) (os : List (ℕ × ℕ)) (rest : List ℕ) → All (IsReadableCondition (headings_with ds)) bs → length ms ≡ length bs → list_all is_mark ms ≡ true → All IsAsked os
       → x ≡ flat_map (marked (heading_names (headings_with ds))) (zip bs ms) ++ (flat_map asked_line os ++ rest) → Ends (length bs) rest ⊎ Sooner rest
@@ -121,7 +146,7 @@ module _ (ds : List Function) (cs : List ConditionTree) (ls : List ℕ) (qs : Li
   no_conditions [] names ms os rest later e = no_asked os rest (68 ∷ later) 40 refl e
   no_conditions (b ∷ bs) names [] os rest later e = no_asked os rest (68 ∷ later) 40 refl e
   no_conditions (b ∷ bs) names (m ∷ ms) os rest later e =
-      absurd (let same : 80 ≡ 68 = head_same 80 68 _ later (tail_same 40 40 _ (68 ∷ later) e) in cc)
+      absurd (no_letter _ later e)
 
   against : (es : List Function) (bs : List ConditionTree) (marks : Marks) (rest : List ℕ) → IsReadable es bs marks → text ≡ lines es bs marks ++ rest → Ends (length bs) rest ⊎ Sooner rest
   against es bs marks rest good e = by (race_definitions [] ds es x others tt d.readable good.definitions d_none (sym (start ds x (d.is [])) ∙ whole))
@@ -153,5 +178,54 @@ module _ (ds : List Function) (cs : List ConditionTree) (ls : List ℕ) (qs : Li
           let g = b.long in
           inr (record { long = omega arith; line = subst Line (sym end) (definition b.later) })
 
-  marks_read : Marks
+  abbrev marks_read : Marks
   marks_read = record { letters = ls; asked = qs }
+
+  readable : length cs < 2 ^ 64 → IsReadable ds cs marks_read
+  readable few = record { definitions = d.readable; conditions = c.readable; few = few; count = c.count; letters = c.letters; asked = q.asked }
+
+  text_front : text ≡ lines ds cs marks_read ++ z
+  text_front =
+      d.is [] ∙ ap (λ names. flat_map (definition_line names) ds ++ x) (append-nil (names_of ds))
+      ∙ ap (λ l. flat_map (definition_line (names_of ds)) ds ++ l) (c.is ∙ ap (λ names. flat_map (marked names) (zip cs ls) ++ y) (names_of_headings ds) ∙ ap (λ l. flat_map (marked (names_of ds)) (zip cs ls) ++ l) q.is
+      ∙ sym (append_assoc (flat_map (marked (names_of ds)) (zip cs ls)) (flat_map asked_line qs) z))
+      ∙ sym (append_assoc (flat_map (definition_line (names_of ds)) ds) (flat_map (marked (names_of ds)) (zip cs ls) ++ flat_map asked_line qs) z)
+
+  -- the closing line stands behind all
+  pub whole_text : closing_line (length cs) ≡ z → event_text ds cs (record { letters = ls; asked = qs }) ≡ text
+  whole_text e = text_is ds cs marks_read ∙ ap (λ l. lines ds cs marks_read ++ l) e ∙ sym text_front
+
+  pub whole_readable : length cs < 2 ^ 64 → IsReadable ds cs (record { letters = ls; asked = qs })
+  whole_readable few = readable few
+
+  -- something else stands there
+  pub no_text : (closing_line (length cs) ≡ z → ⊥) → IsNoText text
+  no_text other es bs marks good e = by (against es bs marks (closing_line (length bs)) good (e ∙ text_is es bs marks))
+    where
+      by : Ends (length bs) (closing_line (length bs)) ⊎ Sooner (closing_line (length bs)) → ⊥
+      by (inl h) = other (ap closing_line h.as_many ∙ h.same)
+      by (inr h) = closing_no_line (length bs) (closing_line (length bs)) good.few h.line refl
+
+  pub longest_front : length cs < 2 ^ 64 → IsLongestFront text (length text - length z)
+  longest_front few =
+      let long : length text ≡ length (lines ds cs marks_read) + length z = ap length text_front ∙ length-append (lines ds cs marks_read) z in
+      let place : length text - length z ≡ length (lines ds cs marks_read) = omega arith in
+      let front : take (length text - length z) text ≡ lines ds cs marks_read = (λ i. take (place i) (text_front i)) ∙ take-append_seam (lines ds cs marks_read) z in
+      record {
+        within = omega arith;
+        front = (ds, cs, marks_read, readable few, ap (λ l. l ++ closing_line (length cs)) front ∙ sym (text_is ds cs marks_read));
+        longest = λ k le h.
+            no_longer k le
+            (against h.0 h.1 h.2 (drop k text) h.3
+            (sym (take-append-drop k text) ∙ ap (λ l. l ++ drop k text) (same_end (take k text) (lines h.0 h.1 h.2) (closing_line (length h.1)) (h.4 ∙ text_is h.0 h.1 h.2))));
+      }
+    where
+      left : (k : ℕ) → k ≤ length text → length z ≤ length (drop k text) → k ≤ length text - length z
+      left k le h =
+          let parts : length (take k text) + length (drop k text) ≡ length text = sym (length-append (take k text) (drop k text)) ∙ ap length (take-append-drop k text) in
+          let front : length (take k text) ≡ k = simp length-take (omega arith) in
+          omega arith
+
+      no_longer : {n : ℕ} (k : ℕ) → k ≤ length text → Ends n (drop k text) ⊎ Sooner (drop k text) → k ≤ length text - length z
+      no_longer k le (inl h) = left k le (let e : length (drop k text) ≡ length z = ap length h.same in omega arith)
+      no_longer k le (inr h) = left k le h.long
