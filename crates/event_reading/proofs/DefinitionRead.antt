@@ -18,7 +18,7 @@ use Rattle.formula.proofs.Added.{failed, passed}
 use Rattle.fort_syntax.specs.Misspelled.{begins}
 use Rattle.event_text.specs.EventText.{body_text, definition_line, spaced}
 use Rattle.event_text.specs.Readable.{body_term, in_full, is_parameter, IsReadableBody, IsReadableDefinition}
-use Rattle.event_text.specs.TermText.{term_text}
+use Rattle.event_text.specs.TermText.{name_at, term_text}
 use Rattle.event_text.proofs.FoundNames.{AreNew, are_found, next_as_last}
 use Rattle.event_text.proofs.OneDefinition.{body_text_is, body_told, has_first, name_bytes, own, recurs}
 use Rattle.event_text.proofs.SpelledTerms.{IsTold}
@@ -115,7 +115,7 @@ body_read hs d r new good =
     let names = heading_names hd in
     let u = body_term d.params d.body in
     let found : AreFound (head_named hd None) names hd = subst (λ l. AreFound (head_named hd None) l hd) (append-nil names) (are_found hd [] new) in
-    let next : AreFound (head_named hs (Some (own d))) names hd = λ k h at. (let x = found k h at in (x.0, next_as_last hs (own d) _ ∙ x.1)) in
+    let next : AreFound (head_named hs (Some (own d))) names hd = λ k h at. (let x = found k h at in (x.0, next_as_last hs (own d) (name_at names k) ∙ x.1)) in
     let told : IsTold (head_named hs (Some (own d))) names u =
     body_told (head_named hs (Some (own d))) names hd (reads_heads hs (Some (own d)) names hd next) d.params d.body good.params (has_first _ d.params d.body (recurs hs d.name d.params d.body good.fits)) good.body in
     rw (term_read names hs (Some (own d)) u (codes ")\n" ++ r) told refl) refl
@@ -189,7 +189,7 @@ fits_parts earlier name k ks base step =
     (names_parts (k ∷ ks) k base step)
 
 fits_again : (earlier : List Heading) (name : List ℕ) (ps : List (List ℕ)) (body : FunctionBody) → adding_fault earlier name ps body ≡ None → adding_fault earlier name ps (counted ps (body_term ps body)) ≡ None
-fits_again earlier name [] (counting base step) h = absurd (has_first _ [] (counting base step) (recurs earlier name [] (counting base step) h))
+fits_again earlier name [] (counting base step) h = absurd (has_first (suc (length earlier)) [] (counting base step) (recurs earlier name [] (counting base step) h))
 fits_again earlier name (k ∷ ks) (counting base step) h = ap (adding_fault earlier name (k ∷ ks)) (counted_again k ks base step) ∙ h
 fits_again earlier name ps (plain t) h = by (counted ps t) (is_counted ps t)
   where
