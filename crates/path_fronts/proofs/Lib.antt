@@ -1,0 +1,5 @@
+pub mod Carrying
+pub mod Cutting
+pub mod Firsts
+pub mod Leading
+pub mod Marks
