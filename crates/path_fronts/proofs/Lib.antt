@@ -1,3 +1,4 @@
+pub mod Beginning
 pub mod Carrying
 pub mod Cutting
 pub mod Firsts
