@@ -14,4 +14,4 @@ returns-clause-at c s steps bound ready h =
       marks = c.pop.new.self;
       start = f.start;
     } in
-    cut_back s steps bound f back mark c.in-Some.ensures (record { pool = refl; names = c.back.ensures; met = c.truncate.ensures; calls = refl }) refl refl ready h
+    cut_back s steps bound f back mark c.in-Some.ensures (record { pool = refl; names = c.back.ensures; met = c.truncate.ensures.items; calls = refl }) refl refl ready h
