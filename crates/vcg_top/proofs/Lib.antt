@@ -1,4 +1,5 @@
 pub mod Fronts
+pub mod Letters
 pub mod Rests
 pub mod Marked
 pub mod Replies

@@ -15,7 +15,8 @@ use Rattle.prover_box.specs.Answers.{Seen, AreAsked, AreKept, AreMarked, told, u
 use Rattle.prover_box.specs.Laws.{AllTell, AreMarksByTests, AreUnclosedValid, FirstRose, IsMarkByTests, PassesTold}
 use Rattle.prover_box.proofs.Asked.{asked_marked}
 use Rattle.prover_box.proofs.Enough.{kept_by_all, marked_by_tests, rise}
-use Rattle.vcg_top.specs.Marked.{AreMarkedValid, AreMarksBy, AreMarksFor, IsMarkBy, PassesToldBy}
+use Rattle.vcg_top.specs.Marked.{AreSmall, AreMarkedValid, AreMarksBy, AreMarksFor, IsMarkBy, PassesToldBy}
+use Rattle.vcg_top.proofs.Letters.{may_stand}
 use Rattle.vcg_top.proofs.Rests.{asked_for_rest}
 
 -- ---- of a pool, and of trees
@@ -65,9 +66,9 @@ unclosed_alone fs (b ∷ before) marks cs e by = absurd (let no : ⊥ = cc e in 
 
 -- ---- what provers gave
 
-pub are_marks : (pool : List Node) (ds : List Definition) (cs : List Condition) (before now : List Seen) (m : Marks) → AreAsked pool ds before cs now m.letters → m.asked ≡ map told now
+pub are_marks : (pool : List Node) (ds : List Definition) (cs : List Condition) (before now : List Seen) (m : Marks) → AreAsked pool ds before cs now m.letters → m.asked ≡ map told now → AreSmall m.asked
     → AreMarksFor (functions_of pool ds) (map (condition_tree pool) cs) before now m
-are_marks pool ds cs before now m h counts =
+are_marks pool ds cs before now m h counts small =
     let rises = rise pool ds before cs now m.letters h in
     let kept = kept_by_all pool ds before cs now m.letters h in
     let tests : AllTell before → AreMarksBy (functions_of pool ds) before m.letters (map (condition_tree pool) cs) =
@@ -75,6 +76,7 @@ are_marks pool ds cs before now m h counts =
     record {
       asked = record { pool = pool; definitions = ds; conditions = cs; functions = refl; trees = refl; asked = h };
       valid = marked_trees pool ds m.letters cs (asked_marked pool ds before cs now m.letters h);
+      may_stand = may_stand pool ds cs before now m h counts small;
       counts = counts;
       kept = kept;
       first = subst (λ (k : ℕ). FirstRose k before now) (sym (length-map cs (condition_tree pool))) rises.0;

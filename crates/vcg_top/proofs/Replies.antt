@@ -18,6 +18,7 @@ use Rattle.judging.specs.Judgement.{IsAcceptedIn, IsFirstFaultIn}
 use Rattle.judging.proofs.NoneBoth.{accepted_in_have_no_fault}
 use Rattle.judging.proofs.OneJudgement.{accepted_in_are_sound}
 use Rattle.prover_box.specs.Answers.{Seen}
+use Rattle.readable_laws.proofs.OfTexts.{conditions_in_are_readable, text_tells_conditions}
 use Rattle.deck_judging.specs.Judged.{IsJudgedIn}
 use Rattle.deck_judging.specs.declared.found.Judged.{Judged}
 use Rattle.vcg_top.specs.declared.status.Status.{Status}
@@ -40,7 +41,7 @@ pub found_text : (d : Dialect) (bytes : List ℕ) (j : Judged) (before now : Lis
 found_text d bytes j before now text h t =
     let functions : functions_of j.pool j.definitions ≡ h.p.functions = h.functions ∙ sym (program_functions d bytes h.deck h.r h.p h.paths h.accepted) in
     let trees = map (condition_tree j.pool) j.conditions in
-    let marked = are_marks j.pool j.definitions j.conditions before now t.marks t.asked t.counts in
+    let marked = are_marks j.pool j.definitions j.conditions before now t.marks t.asked t.counts t.small in
     record {
       deck = h.deck;
       r = h.r;
@@ -73,6 +74,8 @@ sound_text d bytes before now text h =
       exact = sound.0;
       correct = sound.1;
       marked = h.marked;
+      readable = conditions_in_are_readable d bytes h.deck h.r h.p h.paths h.accepted h.marks h.marked.may_stand;
+      alike = λ es cs others readable spells. text_tells_conditions d bytes h.deck h.r h.p h.paths h.accepted h.marks h.marked.may_stand es cs others readable (sym h.is ∙ spells);
       enough = λ open_ones. sound.1 (unclosed_enough h.p.functions h.marks.letters (conditions_of h.p h.paths) h.marked.valid open_ones);
     }
 

@@ -1,5 +1,6 @@
 -- The marks of conditions, and what they and the counts of provers tell.
-use Rattle.std.specs.Prelude.{ℕ, ◌≡◌, ◌≢◌, ◌⊎◌, Option, Some, None, List, [], ◌∷◌, length, map, replicate, ⊤}
+use Rattle.std.specs.Prelude.{ℕ, ◌≡◌, ◌≢◌, ◌<◌, ◌⊎◌, ◌^◌, Option, Some, None, List, [], ◌∷◌, length, map, replicate, ⊤}
+use Rattle.std.specs.List.{All}
 use Rattle.formula.specs.declared.definition.Definition.{Definition}
 use Rattle.formula.specs.declared.node.Node.{Node}
 use Rattle.formula.specs.Worth.{Function, functions_of, IsValid}
@@ -10,6 +11,7 @@ use Rattle.event_text.specs.declared.marks.Marks.{Marks}
 use Rattle.prover_box.specs.Answers.{Seen, AreAsked, AreKept, shown, told, unclosed}
 use Rattle.prover_box.specs.Laws.{AllTell, EachRose, FirstRose, raised, unclosed_count}
 use Rattle.prover_box.specs.Tests.{passes_test}
+use Rattle.readable_laws.specs.Laws.{AreMarksFor as MayStand}
 
 -- ---- marks
 
@@ -19,6 +21,10 @@ AreMarkedValid fs [] [] = ⊤
 AreMarkedValid fs [] (c ∷ cs) = ⊥
 AreMarkedValid fs (mark ∷ marks) [] = ⊥
 AreMarkedValid fs (mark ∷ marks) (c ∷ cs) = (mark ≢ unclosed → IsValid fs c.hyps c.goal) × AreMarkedValid fs marks cs
+
+-- the counts that are told have 64 bits at most
+abbrev pub AreSmall : List (ℕ × ℕ) → Type 0
+AreSmall asked = All (λ a. a.1 < 2 ^ 64) asked
 
 -- ---- marks by tests
 
@@ -70,9 +76,11 @@ pub record WereAsked (fs : List Function) (cs : List ConditionTree) (before now 
 -- letters and the counts that are told are those that the provers have now; they kept their letters and tests; the first was asked
 -- for each condition, and each at least for those with the mark `-`. Where all tell their tests, each mark is that of the tests, and
 -- each prover was asked for the conditions that none before it closed. Where there is no prover, each mark is `-` and nothing is told.
+-- The marks may stand behind the conditions: their text can be read back.
 pub record AreMarksFor (fs : List Function) (cs : List ConditionTree) (before now : List Seen) (marks : Marks) : Type 0 where
   pub asked : WereAsked fs cs before now marks.letters
   pub valid : AreMarkedValid fs marks.letters cs
+  pub may_stand : MayStand cs marks
   pub counts : marks.asked ≡ map told now
   pub kept : AreKept before now
   pub first : FirstRose (length cs) before now

@@ -1,5 +1,5 @@
 // What is written for the bytes of a deck.
-ghost use Rattle.std.specs.Prelude.{◌≡◌, ◌≤◌, ◌⊎◌, map};
+ghost use Rattle.std.specs.Prelude.{◌≡◌, ◌<◌, ◌^◌, ◌≤◌, ◌⊎◌, map};
 ghost use Rattle.std.specs.Io.KnownBytes.{Appends};
 ghost use Rattle.std.specs.List.{All};
 ghost use Rattle.edge_io.specs.Causes.{Rose};
@@ -12,6 +12,7 @@ ghost use Rattle.fort_syntax.specs.declared.refusal.Refusal.TheVariants.{Broken}
 ghost use Rattle.prover_box.specs.Answers.{AreKept};
 ghost use Rattle.vcg_top.specs.Answers.{AppendsOf, AppendsPartOf, IsDoneText, IsRefusedText};
 ghost use Rattle.vcg_top.specs.Found.{IsTextOf};
+ghost use Rattle.vcg_top.specs.Marked.{AreSmall};
 ghost use Rattle.vcg_top.specs.declared.status.Status.TheVariants.{Done, Refused, WriteFault, NoMemory as Starved};
 
 use crate::Status;
@@ -51,6 +52,20 @@ fn deny<K: Sink>(sink: &mut K, refusal: Refusal) -> Status
     }
 }
 
+/// A count has 64 bits. It does nothing.
+fn small(count: u64)
+    ensures { count < 2 ^ 64 }
+{}
+
+/// What is told of provers has counts of 64 bits.
+fn counted(asked: &[(u8, u64)])
+    ensures { AreSmall asked.now }
+{
+    for i in 0..asked.len() {
+        small(asked[i].1);
+    }
+}
+
 /// Writes the text of definitions and conditions, with the marks that provers give.
 fn tell<K: Sink>(
     alloc: Global,
@@ -78,6 +93,7 @@ fn tell<K: Sink>(
     ) else {
         return Status::NoMemory;
     };
+    counted(marks.asked.as_slice());
     let Ok(mut stack) = WritingStack::new(alloc, &found.pool) else {
         return Status::NoMemory;
     };
