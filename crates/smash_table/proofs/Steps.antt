@@ -1,49 +1,51 @@
 -- Names added one after the other, and what a call is told to smash.
-use Rattle.std.proofs.Common.{◌≡◌, ℕ, suc, ◌+◌, ◌<◌, Bool, true, false, cond, List, [], ◌∷◌, ◌++◌, length, get_or, drop, drop-cons, map, Option, Some, None, slice_get, refl, sym, ap, ◌∙◌, arith}
+use Rattle.std.proofs.Common.{◌≡◌, ℕ, suc, ◌+◌, ◌<◌, List, ◌∷◌, length, get_or, drop, drop-cons, Option, Some, slice_get, refl, sym, ap, ◌∙◌, arith}
 use Rattle.std.specs.Prelude.{flat_map}
-use Rattle.std.specs.List.{filter}
 use Rattle.std.proofs.lemmas.Option.{slice_get_read}
-use Rattle.fort_syntax.specs.Names.{items_of}
+use Rattle.formula.specs.Atoms.{is_among}
+use Rattle.fort_syntax.specs.declared.expr.Expr.{Expr}
 use Rattle.fort_syntax.specs.declared.name.Name.{Name}
-use Rattle.fort_syntax.specs.declared.stmt.Group.{Group}
-use Rattle.fort_syntax.specs.declared.unit.Line.{Line}
+use Rattle.fort_syntax.specs.declared.stmt.Stmt.{Stmt}
 use Rattle.fort_syntax.specs.declared.unit.Unit.{Unit as Routine}
-use Rattle.fort_model.specs.Calls.{CallSite, callee_of}
-use Rattle.fort_model.specs.Program.{Program, names_if_any}
+use Rattle.fort_model.specs.CallRules.{bare_names}
+use Rattle.fort_model.specs.Calls.{CallSite, sites_of, callee_of}
+use Rattle.fort_model.specs.Program.{Program, names_if_any, smashed_names}
 use Rattle.fort_model.specs.Smashes.{set_by}
-use Rattle.fort_model.specs.Calls.{sites_of}
 use Rattle.name_tables.specs.Sets.{with_names}
 use Rattle.smash_laws.specs.Ordered.{with_table}
 use Rattle.smash_sets.proofs.Passed.{more_of_both}
-use Rattle.smash_table.specs.Smashed.{call_names, names_by, names_of_callee, site_names, stmt_names}
+use Rattle.smash_table.specs.Smashed.{call_names, names_by, names_of_callee, shared_by, shared_row, shared_with, site_names, stmt_names}
 
--- a filter keeps or leaves out the first of some names
-pub one_kept : (test : Name → Bool) (set : List Name) (x : Name) (xs : List Name)
-    → with_names set (filter test (x ∷ xs)) ≡ with_names (with_names set (cond (test x) (x ∷ []) [])) (filter test xs)
-one_kept test set x xs = by_test (test x)
-  where
-    by_test : (b : Bool) → with_names set (cond b (x ∷ filter test xs) (filter test xs)) ≡ with_names (with_names set (cond b (x ∷ []) [])) (filter test xs)
-    by_test true = refl
-    by_test false = refl
+-- what a call smashes whose unit has a number, or that is of no unit
+pub site_is : (units : List Routine) (rows : List (List Name)) (u : Routine) (site : CallSite) (o : Option ℕ)
+    → o ≡ callee_of units site → names_of_callee (with_table units rows) u site.actuals o ≡ site_names (with_table units rows) u site
+site_is units rows u site o is = ap (names_of_callee (with_table units rows) u site.actuals) is
 
--- a filter of two lists
-pub both_kept : (test : Name → Bool) (set xs ys : List Name) → with_names set (filter test (xs ++ ys)) ≡ with_names (with_names set (filter test xs)) (filter test ys)
-both_kept test set [] ys = refl
-both_kept test set (x ∷ xs) ys =
-    one_kept test set x (xs ++ ys)
-    ∙ (both_kept test (with_names set (cond (test x) (x ∷ []) [])) xs ys ∙ ap (λ (s : List Name). with_names s (filter test ys)) (sym (one_kept test set x xs)))
+-- what the unit of a number shares, and what a call of it smashes
+module _ (units : List Routine) (rows : List (List Name)) (u : Routine) (j : ℕ) (g : Routine) (row : List Name)
+    (is_g : slice_get units j ≡ Some g) (inside : j < length rows) (is_row : row ≡ get_or rows j row) where
+  row_at : smashed_names (with_table units rows) j ≡ row
+  row_at = ap names_if_any (slice_get_read rows (length rows) j row refl inside is_row)
 
--- a call of a unit that is there
-pub site_is : (units : List Routine) (rows : List (List Name)) (u : Routine) (site : CallSite) (j : ℕ) (g : Routine) (row : List Name)
-    → callee_of units site ≡ Some j → slice_get units j ≡ Some g → j < length rows → row ≡ get_or rows j row
-    → site_names (with_table units rows) u site ≡ call_names u g row site.actuals
-site_is units rows u site j g row is_j is_g inside is_row =
-    ap (names_of_callee (with_table units rows) u site.actuals) is_j
-    ∙ (ap (names_by u (names_if_any (slice_get rows j)) site.actuals) is_g
-    ∙ ap (λ (o : Option (List Name)). call_names u g (names_if_any o) site.actuals) (slice_get_read rows (length rows) j row refl inside is_row))
+  shared_is : shared_by (with_table units rows) u j ≡ shared_row u g row
+  shared_is = ap (λ (o : Option Routine). shared_with u (smashed_names (with_table units rows) j) o) is_g ∙ ap (shared_row u g) row_at
 
-pub site_none : (units : List Routine) (rows : List (List Name)) (u : Routine) (site : CallSite) → callee_of units site ≡ None → site_names (with_table units rows) u site ≡ []
-site_none units rows u site is = ap (names_of_callee (with_table units rows) u site.actuals) is
+  -- the names that the callee smashes are gone through
+  pub shared_added : (set after names : List Name) → after ≡ with_names set (shared_row u g names) → names ≡ row → after ≡ with_names set (shared_by (with_table units rows) u j)
+  shared_added set after names is is_row =
+      is ∙ (ap (λ (ns : List Name). with_names set (shared_row u g ns)) is_row ∙ sym (ap (with_names set) shared_is))
+
+  call_is : (actuals : List Expr) → names_of_callee (with_table units rows) u actuals (Some j) ≡ call_names u g row actuals
+  call_is actuals =
+      ap (names_by u (smashed_names (with_table units rows) j) actuals) is_g ∙ ap (λ (smashed : List Name). call_names u g smashed actuals) row_at
+
+  -- the bare actuals, and then what both share
+  pub call_added : (set first ds : List Name) (actuals : List Expr) → first ≡ with_names set (bare_names (λ d. is_among d row) ds actuals) → ds ≡ g.dummies
+      → with_names first (shared_by (with_table units rows) u j) ≡ with_names set (names_of_callee (with_table units rows) u actuals (Some j))
+  call_added set first ds actuals is is_ds =
+      ap (with_names first) shared_is
+      ∙ (ap (λ (ns : List Name). with_names ns (shared_row u g row)) (is ∙ ap (λ (xs : List Name). with_names set (bare_names (λ d. is_among d row) xs actuals)) is_ds)
+      ∙ (sym (more_of_both set (bare_names (λ d. is_among d row) g.dummies actuals) (shared_row u g row)) ∙ ap (with_names set) (sym (call_is actuals))))
 
 -- the first of what is left of a list
 pub first_left : {A : Type 0} (xs : List A) (n : ℕ) (a : A) → n < length xs → a ≡ get_or xs n a → drop n xs ≡ a ∷ drop (n + 1) xs
@@ -60,19 +62,9 @@ given_more {A = A} give set after whole xs n a inside is added so_far =
     ap (λ (s : List Name). with_names s (flat_map give (drop (n + 1) xs))) added
     ∙ (sym (more_of_both set (give a) (flat_map give (drop (n + 1) xs))) ∙ (sym (ap (λ (ys : List A). with_names set (flat_map give ys)) (first_left xs n a inside is)) ∙ so_far))
 
--- those of the items of a group that pass a test are added
-pub group_more : (test : Name → Bool) (set after whole : List Name) (groups : List Group) (n : ℕ) (group : Group)
-    → n < length groups → group ≡ get_or groups n group → after ≡ with_names set (filter test (map (λ item. item.name) group.items))
-    → with_names set (filter test (items_of (drop n groups))) ≡ whole → with_names after (filter test (items_of (drop (n + 1) groups))) ≡ whole
-group_more test set after whole groups n group inside is added so_far =
-    ap (λ (s : List Name). with_names s (filter test (items_of (drop (n + 1) groups)))) added
-    ∙ (sym (both_kept test set (map (λ item. item.name) group.items) (items_of (drop (n + 1) groups)))
-    ∙ (sym (ap (λ (gs : List Group). with_names set (filter test (items_of gs))) (first_left groups n group inside is)) ∙ so_far))
-
--- a statement is seen to
-pub line_more : (p : Program) (u : Routine) (set first second whole : List Name) (lines : List Line) (n : ℕ) (line : Line)
-    → n < length lines → line ≡ get_or lines n line → first ≡ with_names set (set_by line.stmt) → second ≡ with_names first (flat_map (site_names p u) (sites_of u line.stmt))
-    → with_names set (flat_map (λ line. stmt_names p u line.stmt) (drop n lines)) ≡ whole → with_names second (flat_map (λ line. stmt_names p u line.stmt) (drop (n + 1) lines)) ≡ whole
-line_more p u set first second whole lines n line inside is a b so_far =
-    given_more (λ (line : Line). stmt_names p u line.stmt) set second whole lines n line inside is
-    (b ∙ (ap (λ (s : List Name). with_names s (flat_map (site_names p u) (sites_of u line.stmt))) a ∙ sym (more_of_both set (set_by line.stmt) (flat_map (site_names p u) (sites_of u line.stmt))))) so_far
+-- a statement is seen to: what it sets, and then what its calls smash
+pub stmt_added : (p : Program) (u : Routine) (set first : List Name) (s : Stmt) (sites : List CallSite) → first ≡ with_names set (set_by s) → sites ≡ sites_of u s
+    → with_names first (flat_map (site_names p u) sites) ≡ with_names set (stmt_names p u s)
+stmt_added p u set first s sites is is_sites =
+    ap (λ (xs : List CallSite). with_names first (flat_map (site_names p u) xs)) is_sites
+    ∙ (ap (λ (ns : List Name). with_names ns (flat_map (site_names p u) (sites_of u s))) is ∙ sym (more_of_both set (set_by s) (flat_map (site_names p u) (sites_of u s))))

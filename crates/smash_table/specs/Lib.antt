@@ -1,1 +1,3 @@
 pub mod Smashed
+pub mod Callers
+pub mod Seen

@@ -16,9 +16,21 @@ use Rattle.fort_model.specs.Smashes.{set_by}
 abbrev pub shared_in : Routine → Routine → List Name → List Name
 shared_in u g smashed = filter (λ x. has_common g x && is_among x smashed) (commons u)
 
+-- the same ones, in the order of what the called unit smashes
+abbrev pub shared_row : Routine → Routine → List Name → List Name
+shared_row u g smashed = filter (λ x. has_common g x && has_common u x) smashed
+
+abbrev pub shared_with : Routine → List Name → Option Routine → List Name
+shared_with u smashed None = []
+shared_with u smashed (Some g) = shared_row u g smashed
+
+-- the COMMON entities of a unit that the unit of a number smashes, by a table
+abbrev pub shared_by : Program → Routine → ℕ → List Name
+shared_by p u j = shared_with u (smashed_names p j) (slice_get p.units j)
+
 -- what a call of g in u smashes, where g smashes these
 abbrev pub call_names : Routine → Routine → List Name → List Expr → List Name
-call_names u g smashed actuals = bare_names (λ d. is_among d smashed) g.dummies actuals ++ shared_in u g smashed
+call_names u g smashed actuals = bare_names (λ d. is_among d smashed) g.dummies actuals ++ shared_row u g smashed
 
 abbrev pub names_by : Routine → List Name → List Expr → Option Routine → List Name
 names_by u smashed actuals None = []

@@ -1,16 +1,14 @@
-// What a call smashes.
-ghost use Rattle.std.specs.Prelude.{◌≡◌, ◌&&◌, [], ◌∷◌, cond, map, OnOk};
-ghost use Rattle.std.specs.List.{filter};
-ghost use Rattle.formula.specs.Atoms.{is_among};
-ghost use Rattle.fort_syntax.specs.Names.{has_common, is_in_common, items_of};
+// Names that a call smashes.
+ghost use Rattle.std.specs.Prelude.{◌≡◌, ◌&&◌, [], ◌∷◌, cond, OnOk};
+ghost use Rattle.fort_syntax.specs.Names.{has_common, is_in_common};
 ghost use Rattle.name_tables.specs.Sets.{with_names};
-ghost use Rattle.smash_table.specs.Smashed.{call_names};
+ghost use Rattle.smash_table.specs.Smashed.{shared_row};
 
 use call_sites::Book;
 use edge_io::NoMemory;
-use fort_syntax::{Expr, Group, Item, Name, Role};
+use fort_syntax::{Name, Role};
 use name_tables::NameSet;
-use smash_sets::{add, add_actuals};
+use smash_sets::add;
 
 /// Adds a name to a set, where it is wanted.
 pub(crate) fn add_where(set: &mut NameSet, wanted: bool, name: &Name) -> Result<(), NoMemory>
@@ -40,59 +38,24 @@ pub fn has_common(book: &Book, name: &Name) -> bool
     }
 }
 
-/// Whether a name is a COMMON entity of a unit which smashes it.
-fn is_smashed_common(book: &Book, smashed: &NameSet, name: &Name) -> bool
-    ensures { result ≡ (has_common book.now.unit.now name.now && is_among name.now smashed.now) }
+/// Whether a name is a COMMON entity of both units of a call.
+fn is_shared(caller: &Book, callee: &Book, name: &Name) -> bool
+    ensures { result ≡ (has_common callee.now.unit.now name.now && has_common caller.now.unit.now name.now) }
 {
-    has_common(book, name) && smashed.has(name)
+    has_common(callee, name) && has_common(caller, name)
 }
 
-/// Adds those of some items that are COMMON entities of a called unit which smashes them.
-fn add_items(
-    set: &mut NameSet,
-    callee: &Book,
-    smashed: &NameSet,
-    items: &[Item],
-) -> Result<(), NoMemory>
-    ensures { OnOk result (set.new ≡ with_names set.old (filter (λ x. has_common callee.now.unit.now x && is_among x smashed.now) (map (λ item. item.name) items.now))) }
-{
-    for item in items {
-        add_where(
-            set,
-            is_smashed_common(callee, smashed, &item.name),
-            &item.name,
-        )?;
-    }
-    Ok(())
-}
-
-/// Adds those of the items of some groups.
-fn add_groups(
-    set: &mut NameSet,
-    callee: &Book,
-    smashed: &NameSet,
-    groups: &[Group],
-) -> Result<(), NoMemory>
-    ensures { OnOk result (set.new ≡ with_names set.old (filter (λ x. has_common callee.now.unit.now x && is_among x smashed.now) (items_of groups.now))) }
-{
-    for group in groups {
-        add_items(set, callee, smashed, group.items.as_slice())?;
-    }
-    Ok(())
-}
-
-/// Adds what a call smashes of its caller's names: the bare names that smashed dummies get, and the COMMON entities of both
-/// units that the called one smashes.
-pub(crate) fn add_call(
+/// Adds those of the names that a called unit smashes which are COMMON entities of both units.
+pub(crate) fn add_shared(
     set: &mut NameSet,
     caller: &Book,
     callee: &Book,
-    smashed: &NameSet,
-    actuals: &[Expr],
+    names: &[Name],
 ) -> Result<(), NoMemory>
-    ensures { OnOk result (set.new ≡ with_names set.old (call_names caller.now.unit.now callee.now.unit.now smashed.now actuals.now)) }
+    ensures { OnOk result (set.new ≡ with_names set.old (shared_row caller.now.unit.now callee.now.unit.now names.now)) }
 {
-    let dummies = callee.unit.dummies.as_slice();
-    add_actuals(set, smashed, dummies, actuals)?;
-    add_groups(set, callee, smashed, caller.unit.blocks.as_slice())
+    for name in names {
+        add_where(set, is_shared(caller, callee, name), name)?;
+    }
+    Ok(())
 }

@@ -4,7 +4,9 @@
 mod calls;
 mod rows;
 mod sites;
+mod unit_set;
 mod units;
 
 pub use calls::has_common;
+pub use unit_set::UnitSet;
 pub use units::smash_table;
