@@ -1,4 +1,4 @@
 pub mod Keeping
-pub mod Told
+pub mod Clearing
 pub mod Reaching
 pub mod Passing

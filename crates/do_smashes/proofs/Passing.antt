@@ -1,23 +1,20 @@
 -- Some name of a list passes a test, one part of the list after the other.
-use Rattle.std.proofs.Common.{◌≡◌, ℕ, suc, ◌+◌, ◌<◌, Bool, false, cond, ◌&&◌, ◌||◌, List, ◌∷◌, length, drop, drop-cons, get_or, Option, Some, slice_get, sym, ap, ◌∙◌, arith}
-use Rattle.std.specs.List.{list_any, filter}
+use Rattle.std.proofs.Common.{◌≡◌, ℕ, suc, ◌+◌, ◌<◌, Bool, false, cond, ◌||◌, List, ◌∷◌, length, drop, drop-cons, get_or, Option, Some, slice_get, refl, sym, ap, ◌∙◌, arith}
+use Rattle.std.specs.List.{list_any}
 use Rattle.std.proofs.lemmas.List.Folds.{list_any-append}
 use Rattle.formula.specs.Atoms.{is_among}
-use Rattle.fort_syntax.specs.Names.{has_common, commons, items_of}
 use Rattle.fort_syntax.specs.declared.expr.Expr.{Expr}
 use Rattle.fort_syntax.specs.declared.name.Name.{Name}
 use Rattle.fort_syntax.specs.declared.refusal.Fault.{Fault}
 use Rattle.fort_syntax.specs.declared.rule.Rule.{Rule}
-use Rattle.fort_syntax.specs.declared.stmt.Group.{Group}
 use Rattle.fort_syntax.specs.declared.stmt.Stmt.{Stmt}
 use Rattle.fort_syntax.specs.declared.unit.Line.{Line}
 use Rattle.fort_syntax.specs.declared.unit.Unit.{Unit as Routine}
 use Rattle.fort_model.specs.CallRules.{bare_names}
-use Rattle.fort_model.specs.Calls.{CallSite, callee_of}
 use Rattle.fort_model.specs.Program.{Program}
 use Rattle.fort_model.specs.Rules.{breaks_do}
 use Rattle.smash_laws.specs.Ordered.{with_table}
-use Rattle.smash_table.specs.Smashed.{call_names, names_by, names_of_callee, site_names}
+use Rattle.smash_table.specs.Smashed.{names_by, names_of_callee, shared_by, shared_row, shared_with}
 use Rattle.unit_faults.specs.Sooner.{first_at, fault_at}
 use Rattle.do_smashes.specs.Hits.{row_of}
 use Rattle.do_smashes.proofs.Keeping.{read_in}
@@ -31,26 +28,24 @@ first_left {A = A} xs n a inside is = drop-cons xs n a inside ∙ (ap (λ (x : A
 
 -- ---- calls
 
--- a call of a unit that is there
-pub site_is : (units : List Routine) (rows : List (List Name)) (u : Routine) (site : CallSite) (j : ℕ) (g : Routine)
-    → callee_of units site ≡ Some j → slice_get units j ≡ Some g → site_names (with_table units rows) u site ≡ call_names u g (row_of rows j) site.actuals
-site_is units rows u site j g is_j is_g =
-    ap (names_of_callee (with_table units rows) u site.actuals) is_j ∙ ap (names_by u (row_of rows j) site.actuals) is_g
+module _ (test : Name → Bool) (units : List Routine) (rows : List (List Name)) (u : Routine) (j : ℕ) (g : Routine) (is_g : slice_get units j ≡ Some g) where
+  -- what a called unit shares
+  pub shared_hit : (found : List (List Name)) → found ≡ rows → list_any test (shared_row u g (row_of found j)) ≡ list_any test (shared_by (with_table units rows) u j)
+  shared_hit found same =
+      ap (λ (rs : List (List Name)). list_any test (shared_row u g (row_of rs j))) same
+      ∙ sym (ap (λ (o : Option Routine). list_any test (shared_with u (row_of rows j) o)) is_g)
 
--- what a call passes, and what it shares
-pub site_hit : (test : Name → Bool) (units : List Routine) (rows : List (List Name)) (u : Routine) (site : CallSite) (j : ℕ) (g : Routine) (passed shared : Bool)
-    (ds : List Name) (es : List Expr) (groups : List Group) → callee_of units site ≡ Some j → slice_get units j ≡ Some g → ds ≡ g.dummies → es ≡ site.actuals → groups ≡ u.blocks
-    → passed ≡ list_any test (bare_names (λ d. is_among d (row_of rows j)) ds es)
-    → shared ≡ list_any test (filter (λ x. has_common g x && is_among x (row_of rows j)) (items_of groups))
-    → (passed || shared) ≡ list_any test (site_names (with_table units rows) u site)
-site_hit test units rows u site j g passed shared ds es groups is_j is_g is_ds is_es is_groups is_passed is_shared =
-    ap (λ (b : Bool). b || shared)
-    (is_passed ∙ ap (λ (xs : List Name). list_any test (bare_names (λ d. is_among d (row_of rows j)) xs es)) is_ds
-    ∙ ap (λ (xs : List Expr). list_any test (bare_names (λ d. is_among d (row_of rows j)) g.dummies xs)) is_es)
-    ∙ ap (λ (b : Bool). list_any test (bare_names (λ d. is_among d (row_of rows j)) g.dummies site.actuals) || b)
-    (is_shared ∙ ap (λ (gs : List Group). list_any test (filter (λ x. has_common g x && is_among x (row_of rows j)) (items_of gs))) is_groups)
-    ∙ sym (list_any-append test (bare_names (λ d. is_among d (row_of rows j)) g.dummies site.actuals) (filter (λ x. has_common g x && is_among x (row_of rows j)) (commons u)))
-    ∙ sym (ap (list_any test) (site_is units rows u site j g is_j is_g))
+  -- what a call passes, and what it shares
+  pub call_hit : (found : List (List Name)) (passed shared : Bool) (ds : List Name) (es : List Expr) → found ≡ rows → ds ≡ g.dummies
+      → passed ≡ list_any test (bare_names (λ d. is_among d (row_of found j)) ds es) → shared ≡ list_any test (shared_by (with_table units rows) u j)
+      → (passed || shared) ≡ list_any test (names_of_callee (with_table units rows) u es (Some j))
+  call_hit found passed shared ds es same is_ds is_passed is_shared =
+      ap (λ (b : Bool). b || shared)
+      (is_passed ∙ (ap (λ (rs : List (List Name)). list_any test (bare_names (λ d. is_among d (row_of rs j)) ds es)) same
+      ∙ ap (λ (xs : List Name). list_any test (bare_names (λ d. is_among d (row_of rows j)) xs es)) is_ds))
+      ∙ (ap (λ (b : Bool). list_any test (bare_names (λ d. is_among d (row_of rows j)) g.dummies es) || b) (is_shared ∙ sym (shared_hit rows refl))
+      ∙ (sym (list_any-append test (bare_names (λ d. is_among d (row_of rows j)) g.dummies es) (shared_row u g (row_of rows j)))
+      ∙ sym (ap (λ (o : Option Routine). list_any test (names_by u (row_of rows j) es o)) is_g)))
 
 -- ---- statements
 

@@ -6,6 +6,8 @@ use Rattle.std.proofs.lemmas.Bool.{cases_lt}
 use Rattle.std.proofs.lemmas.Bool.Decides.{nat_tests}
 use Rattle.std.proofs.Math.Logic.{⊎_elim}
 use Rattle.formula.specs.Atoms.{is_among}
+use Rattle.fort_syntax.specs.WellFormed.{IsWellFormedUnit}
+use Rattle.fort_syntax.specs.declared.dialect.Dialect.{Dialect}
 use Rattle.fort_syntax.specs.declared.name.Name.{Name}
 use Rattle.fort_syntax.specs.declared.stmt.Stmt.{Stmt}
 use Rattle.fort_syntax.specs.declared.stmt.Stmt.TheVariants.{Do}
@@ -24,7 +26,7 @@ use Rattle.fort_laws.proofs.Small.{both_parts, both_hold, some_passes}
 use Rattle.smash_laws.proofs.Tests.{any_passes}
 use Rattle.smash_table.specs.Smashed.{stmt_names}
 use Rattle.do_smashes.specs.Guards.{is_kept, further, kept_by, AreKept}
-use Rattle.do_smashes.proofs.Told.{stmt_told}
+use Rattle.smash_table.proofs.Told.{stmt_told}
 
 -- ---- what stands in lists
 
@@ -173,7 +175,7 @@ module _ (u : Routine) where
 
 -- ---- the two tests
 
-module _ (p : Program) (u : Routine) (at : ℕ) (s : Stmt) (table : List (Name × ℕ)) (kept : AreKept u at table) where
+module _ (dialect : Dialect) (p : Program) (u : Routine) (well : IsWellFormedUnit dialect u) (at : ℕ) (s : Stmt) (table : List (Name × ℕ)) (kept : AreKept u at table) where
   abbrev before : List DoRange
   before = dos_from u 0 (take at u.lines)
 
@@ -192,7 +194,7 @@ module _ (p : Program) (u : Routine) (at : ℕ) (s : Stmt) (table : List (Name �
           any_passes (smashes_do p u at s) (dos u) k.loop (stands_in u 0 at u.lines k.loop k.among)
           (both_hold (nat_le k.loop.range.first at && nat_le at k.loop.range.last) (list_any (stmt_smashes p u s) k.loop.names)
           (both_hold (nat_le k.loop.range.first at) (nat_le at k.loop.range.last) (is_le k.loop.range.first at (omega (arith, le))) k.reaches)
-          (any_passes (stmt_smashes p u s) k.loop.names x (named_among k.loop.names x k.has) (sym (stmt_told p u s x) ∙ among_named (stmt_names p u s) x m)))
+          (any_passes (stmt_smashes p u s) k.loop.names x (named_among k.loop.names x k.has) (sym (stmt_told dialect u well p s x) ∙ among_named (stmt_names p u s) x m)))
 
       never : nat_lt at 0 ≡ true → ⊥
       never e = (let lt : at < 0 = lt_means at 0 e in omega (arith, lt))
@@ -206,7 +208,7 @@ module _ (p : Program) (u : Routine) (at : ℕ) (s : Stmt) (table : List (Name �
     where
       of_name : (d : DoRange) → IsAmong d before → nat_le at d.range.last ≡ true → (y : Name) × IsAmong y d.names × (stmt_smashes p u s y ≡ true) → hit ≡ true
       of_name d m r y =
-          any_passes (is_kept table at) (stmt_names p u s) y.0 (named_among (stmt_names p u s) y.0 (stmt_told p u s y.0 ∙ y.2))
+          any_passes (is_kept table at) (stmt_names p u s) y.0 (named_among (stmt_names p u s) y.0 (stmt_told dialect u well p s y.0 ∙ y.2))
           (ap (nat_lt at) (kept y.0) ∙ reaches before y.0 0 at (record { loop = d; among = m; has = among_named d.names y.0 y.1; reaches = r }))
 
       by : (d : DoRange) × IsAmong d (dos u) × (smashes_do p u at s d ≡ true) → hit ≡ true

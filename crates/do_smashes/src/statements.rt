@@ -1,17 +1,21 @@
 // What statements smash of what is kept.
-ghost use Rattle.std.specs.Prelude.{◌≡◌, IfOk};
+ghost use Rattle.std.specs.Prelude.{◌≡◌, [], cond, IfOk, OnOk};
 ghost use Rattle.std.specs.List.{list_any};
+ghost use Rattle.fort_syntax.specs.WellFormed.{IsWellFormedUnit};
+ghost use Rattle.fort_syntax.specs.declared.dialect.Dialect.{Dialect};
 ghost use Rattle.fort_model.specs.Rules.{breaks_do};
 ghost use Rattle.fort_model.specs.Smashes.{set_name, set_by};
 ghost use Rattle.smash_table.specs.Smashed.{stmt_names};
+ghost use Rattle.do_smashes.specs.Clear.{AreClear, is_do};
 ghost use Rattle.do_smashes.specs.Guards.{is_kept, AreKept};
 ghost use Rattle.do_smashes.specs.Hits.{unit_of, program_of};
 
 use crate::calls::{Caller, Kept, hits_sites};
 use crate::loops::uses_itself;
 use call_sites::sites_of_stmt;
-use edge_io::NoMemory;
+use edge_io::{Keys, NoMemory};
 use fort_syntax::{Expr, Stmt};
+use smash_table::UnitSet;
 use std::alloc::Global;
 
 /// Whether the left side of an assignment sets a kept name.
@@ -38,8 +42,16 @@ fn sets_kept(kept: &Kept, stmt: &Stmt) -> bool
 }
 
 /// Whether a statement smashes a kept name.
-fn hits_stmt(alloc: Global, kept: &Kept, caller: &Caller, stmt: &Stmt) -> Result<bool, NoMemory>
-    ensures { IfOk result (λ hit. hit ≡ list_any (is_kept kept.now.guards.now kept.now.at) (stmt_names (program_of caller.now) (unit_of caller.now) stmt.now)) }
+fn hits_stmt(
+    alloc: Global,
+    kept: &Kept,
+    caller: &Caller,
+    clear: &mut UnitSet,
+    stmt: &Stmt,
+) -> Result<bool, NoMemory>
+    requires { AreClear (program_of caller.now) (unit_of caller.now) kept.now.guards.now kept.now.at clear.old }
+    ensures hit { IfOk result (λ hit. hit ≡ list_any (is_kept kept.now.guards.now kept.now.at) (stmt_names (program_of caller.now) (unit_of caller.now) stmt.now)) }
+    ensures clear { OnOk result (AreClear (program_of caller.now) (unit_of caller.now) kept.now.guards.now kept.now.at clear.new) }
 {
     if sets_kept(kept, stmt) {
         return Ok(true);
@@ -47,24 +59,41 @@ fn hits_stmt(alloc: Global, kept: &Kept, caller: &Caller, stmt: &Stmt) -> Result
     let Ok(sites) = sites_of_stmt(alloc, caller.book, stmt) else {
         return Err(NoMemory);
     };
-    Ok(hits_sites(kept, caller, sites.as_slice()))
+    let Ok(hit) = hits_sites(kept, caller, clear, sites.as_slice()) else {
+        return Err(NoMemory);
+    };
+    Ok(hit)
 }
 
-/// Whether the statement at a point breaks rule 29, where those names are kept that the DOs before it keep.
+/// Whether the statement at a point breaks rule 29, where those names are kept that the DOs before it keep, and some units are
+/// known to smash none of them in COMMON.
 pub(crate) fn breaks_do(
     alloc: Global,
     kept: &Kept,
     caller: &Caller,
+    clear: &mut UnitSet,
     stmt: &Stmt,
 ) -> Result<bool, NoMemory>
-    requires { AreKept (unit_of caller.now) kept.now.at kept.now.guards.now }
-    ensures { IfOk result (λ broken. broken ≡ breaks_do (program_of caller.now) (unit_of caller.now) kept.now.at stmt.now) }
+    requires well { (d : Dialect) × IsWellFormedUnit d (unit_of caller.now) }
+    requires kept { AreKept (unit_of caller.now) kept.now.at kept.now.guards.now }
+    requires clear { AreClear (program_of caller.now) (unit_of caller.now) kept.now.guards.now kept.now.at clear.old }
+    ensures broken { IfOk result (λ broken. broken ≡ breaks_do (program_of caller.now) (unit_of caller.now) kept.now.at stmt.now) }
+    ensures clear { OnOk result (AreClear (program_of caller.now) (unit_of caller.now) kept.now.guards.now kept.now.at clear.new) }
 {
     if uses_itself(stmt) {
         return Ok(true);
     }
-    let Ok(hit) = hits_stmt(alloc, kept, caller, stmt) else {
+    let Ok(hit) = hits_stmt(alloc, kept, caller, clear, stmt) else {
         return Err(NoMemory);
     };
     Ok(hit)
+}
+
+/// Behind a DO more is kept, so that no unit is known any more to smash nothing of it.
+pub(crate) fn forget(alloc: Global, keys: Keys, clear: &mut UnitSet, stmt: &Stmt)
+    ensures { clear.new ≡ cond (is_do stmt.now) [] clear.old }
+{
+    if let Stmt::Do(_, _, _, _, _) = stmt {
+        *clear = UnitSet::new(alloc, keys);
+    }
 }

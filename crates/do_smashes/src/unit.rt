@@ -1,5 +1,7 @@
 // The statements of a unit, one after the other.
 ghost use Rattle.std.specs.Prelude.{◌≡◌, IfOk};
+ghost use Rattle.fort_syntax.specs.WellFormed.{IsWellFormedUnit};
+ghost use Rattle.fort_syntax.specs.declared.dialect.Dialect.{Dialect};
 ghost use Rattle.fort_syntax.specs.declared.rule.Rule.TheVariants.{DoSmashed};
 ghost use Rattle.fort_model.specs.Program.{Program};
 ghost use Rattle.fort_model.specs.Rules.{breaks_do};
@@ -10,11 +12,12 @@ ghost use Rattle.do_smashes.specs.Hits.{unit_of, program_of};
 use crate::calls::{Caller, Kept};
 use crate::guards::Guards;
 use crate::loops::keep_do;
-use crate::statements::breaks_do;
+use crate::statements::{breaks_do, forget};
 use call_sites::{Book, DeckBook};
 use edge_io::{Keys, NoMemory};
 use fort_syntax::{Fault, Rule};
 use name_tables::NameSet;
+use smash_table::UnitSet;
 use std::alloc::Global;
 use unit_points::Labels;
 
@@ -25,18 +28,20 @@ fn first_smash(
     caller: &Caller,
     labels: &Labels,
 ) -> Result<Option<Fault>, NoMemory>
-    requires { AreLabelsOf (unit_of caller.now).lines labels.now }
+    requires labels { AreLabelsOf (unit_of caller.now).lines labels.now }
+    requires well { (d : Dialect) × IsWellFormedUnit d (unit_of caller.now) }
     ensures { IfOk result (λ fault. fault ≡ first_at DoSmashed (breaks_do (program_of caller.now) (unit_of caller.now)) 0 (unit_of caller.now).lines) }
 {
     let unit = caller.book.unit;
     let lines = unit.lines.as_slice();
     let mut guards = Guards::new(alloc, keys);
+    let mut clear = UnitSet::new(alloc, keys);
     for at in 0..lines.len() {
         let kept = Kept {
             guards: &guards,
             at,
         };
-        let Ok(broken) = breaks_do(alloc, &kept, caller, &lines[at].stmt) else {
+        let Ok(broken) = breaks_do(alloc, &kept, caller, &mut clear, &lines[at].stmt) else {
             return Err(NoMemory);
         };
         if broken {
@@ -45,6 +50,7 @@ fn first_smash(
                 card: lines[at].card,
             }));
         }
+        forget(alloc, keys, &mut clear, &lines[at].stmt);
         let Ok(()) = keep_do(&mut guards, unit, labels, at, &lines[at].stmt) else {
             return Err(NoMemory);
         };
@@ -54,7 +60,8 @@ fn first_smash(
 
 /// The first fault of a unit by rule 29, or None where it keeps it: a statement in the range of a DO smashes a name of that DO,
 /// its variable or one of its parameters; or a DO has its variable as a parameter. The rows have the names that each unit of the
-/// deck smashes. It takes time for each statement, each actual, and each COMMON entity at each call; no answer depends on the keys.
+/// deck smashes. It takes time for each statement and each actual, and for what a called unit smashes, this once between two DOs.
+/// No answer depends on the keys.
 pub fn smashed_in_do(
     alloc: Global,
     keys: Keys,
@@ -62,6 +69,7 @@ pub fn smashed_in_do(
     rows: &[NameSet],
     caller: &Book,
 ) -> Result<Option<Fault>, NoMemory>
+    requires { (d : Dialect) × IsWellFormedUnit d caller.now.unit.now }
     ensures { IfOk result (λ fault. (p : Program) → p.units ≡ deck.now.units.now → p.smashes ≡ rows.now → fault ≡ first_at DoSmashed (breaks_do p caller.now.unit.now) 0 caller.now.unit.now.lines) }
 {
     let labels = Labels::new(alloc, caller.unit.lines.as_slice())?;

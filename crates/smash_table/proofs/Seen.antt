@@ -27,7 +27,7 @@ swap true false c = refl
 swap false b c = refl
 
 -- what is known behind one more number is that number, or was known before
-known_more : (j i : ℕ) (ns : List ℕ) → is_known j (ns ++ i ∷ []) ≡ (nat_eq j i || is_known j ns)
+pub known_more : (j i : ℕ) (ns : List ℕ) → is_known j (ns ++ i ∷ []) ≡ (nat_eq j i || is_known j ns)
 known_more j i [] = refl
 known_more j i (n ∷ ns) = ap (λ b. nat_eq j n || b) (known_more j i ns) ∙ swap (nat_eq j n) (nat_eq j i) (is_known j ns)
 
