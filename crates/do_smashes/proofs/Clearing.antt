@@ -1,5 +1,5 @@
 -- Called units that smash no kept name in COMMON: one more, and behind a statement.
-use Rattle.std.proofs.Common.{◌≡◌, ℕ, suc, ◌+◌, Bool, true, false, cond, List, [], ◌∷◌, ◌++◌, refl, sym, ap, ◌∙◌, arith}
+use Rattle.std.proofs.Common.{◌≡◌, ℕ, ◌+◌, Bool, true, false, cond, List, [], ◌∷◌, ◌++◌, refl, sym, ap, subst, ◌∙◌, arith}
 use Rattle.std.specs.Prelude.{◌||◌, nat_eq, nat_lt}
 use Rattle.std.specs.List.{list_any}
 use Rattle.std.proofs.lemmas.Bool.{eqb-true}
@@ -59,7 +59,11 @@ module _ (p : Program) (u : Routine) where
   }
 
   -- behind a statement
-  pub clear_behind : (s : Stmt) (table after : List (Name × ℕ)) (at : ℕ) (ns : List ℕ) → AreClear p u table at ns
+  clear_behind : (s : Stmt) (table after : List (Name × ℕ)) (at : ℕ) (ns : List ℕ) → AreClear p u table at ns
       → ((x : Name) → kept_to after x ≡ kept_by (do_of u at s) x (kept_to table x)) → AreClear p u after (at + 1) (cond (is_do s) [] ns)
   clear_behind (Do label x first last step) table after at ns h told = none_clear after (at + 1)
   clear_behind s table after at ns h told = later table after at ns h told
+
+  pub clear_behind_forgotten : (s : Stmt) (table after : List (Name × ℕ)) (at : ℕ) (ns left : List ℕ) → AreClear p u table at ns
+      → ((x : Name) → kept_to after x ≡ kept_by (do_of u at s) x (kept_to table x)) → left ≡ cond (is_do s) [] ns → AreClear p u after (at + 1) left
+  clear_behind_forgotten s table after at ns left h told is = subst (AreClear p u after (at + 1)) (sym is) (clear_behind s table after at ns h told)

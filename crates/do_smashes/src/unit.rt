@@ -37,21 +37,22 @@ fn first_smash(
     let mut guards = Guards::new(alloc, keys);
     let mut clear = UnitSet::new(alloc, keys);
     for at in 0..lines.len() {
+        let line = &lines[at];
         let kept = Kept {
             guards: &guards,
             at,
         };
-        let Ok(broken) = breaks_do(alloc, &kept, caller, &mut clear, &lines[at].stmt) else {
+        let Ok(broken) = breaks_do(alloc, &kept, caller, &mut clear, &line.stmt) else {
             return Err(NoMemory);
         };
         if broken {
             return Ok(Some(Fault {
                 rule: Rule::DoSmashed,
-                card: lines[at].card,
+                card: line.card,
             }));
         }
-        forget(alloc, keys, &mut clear, &lines[at].stmt);
-        let Ok(()) = keep_do(&mut guards, unit, labels, at, &lines[at].stmt) else {
+        forget(alloc, keys, &mut clear, &line.stmt);
+        let Ok(()) = keep_do(&mut guards, unit, labels, at, &line.stmt) else {
             return Err(NoMemory);
         };
     }

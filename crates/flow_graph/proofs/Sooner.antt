@@ -26,6 +26,12 @@ pub one_unit : (pool : List Node) (scene : Scene) (p : Program) (n : ℕ) (v u :
 one_unit pool scene p n v u ready here there =
     same_unit v u (sym here ∙ ap (λ (us : List Routine). slice_get us n) ready.is_scene.units ∙ there)
 
+-- and it is well formed
+pub well_here : (pool : List Node) (scene : Scene) (p : Program) (n : ℕ) (v : Routine) → IsReady pool scene p → slice_get scene.books.now.units.now n ≡ Some v
+    → (d : Dialect) × IsWellFormedUnit d v
+well_here pool scene p n v ready here =
+    (p.dialect, ready_unit pool scene p n v ready (sym (ap (λ (us : List Routine). slice_get us n) ready.is_scene.units) ∙ here))
+
 -- what a statement told of the table tells of the program
 abbrev TellsSmashed : Scene → Routine → Option Fault → Type 0
 TellsSmashed scene v fault =

@@ -21,6 +21,7 @@ pub(crate) fn early_fault(
     number: usize,
 ) -> Result<Option<Fault>, NoMemory>
     requires unit { number < length scene.now.books.now.units.now }
+    requires ready { (pool : List Node) × (p : Program) × IsReady pool scene.now p }
     ensures { IfOk result (TellsEarly scene.now number) }
 {
     let book = scene.books.book(number);
