@@ -1,18 +1,19 @@
 -- What the four parts of a reading say together, over the pool that they leave.
-use Rattle.std.proofs.Common.{◌≡◌, ℕ, ◌-◌, ◌≤◌, ◌<◌, ◌^◌, true, false, None, List, length, map, sym, ap, ◌∙◌, subst}
+use Rattle.std.proofs.Common.{[], ◌∷◌, ◌≡◌, ℕ, ◌-◌, ◌≤◌, ◌<◌, ◌^◌, true, false, None, List, length, map, sym, ap, ◌∙◌, subst}
 use Rattle.std.proofs.lemmas.List.{length-map}
 use Rattle.std.specs.Cmp.Lexicographic.{same_text}
 use Rattle.std.specs.List.{All}
 use Rattle.formula.specs.declared.definition.Definition.{Definition}
 use Rattle.formula.specs.declared.node.Node.{Node}
 use Rattle.formula.specs.Atoms.{same_bytes}
+use Rattle.formula.specs.Adding.{AreBodiesIn}
 use Rattle.formula.specs.Headings.{headings_of}
 use Rattle.formula.specs.Pool.{Grows}
 use Rattle.formula.specs.Worth.{Function, function_of}
-use Rattle.formula.proofs.Added.{added-Grows}
+use Rattle.formula.proofs.Added.{added_sound, added-Grows}
 use Rattle.fort_syntax.specs.declared.condition.Condition.{Condition}
 use Rattle.event_text.specs.declared.marks.Marks.{Marks}
-use Rattle.event_text.specs.Conditions.{condition_tree}
+use Rattle.event_text.specs.Conditions.{condition_tree, IsDefinitionIn}
 use Rattle.event_text.specs.EventText.{closing_line, event_text}
 use Rattle.event_text.specs.Readable.{headings_with, IsReadable}
 use Rattle.event_reading.specs.Events.{IsLongestFront, IsNoText, IsRead}
@@ -20,8 +21,12 @@ use Rattle.event_reading.specs.Fronts.{AreConditions, IsCounting}
 use Rattle.event_reading.specs.Lines.{condition_at, definition_at}
 use Rattle.event_reading.specs.Reads.{ReadsAsked, ReadsConditions, ReadsDefinitions}
 use Rattle.event_reading.proofs.Afters.{same_true}
-use Rattle.event_reading.proofs.Growing.{functions_same, headings_same}
+use Rattle.event_reading.proofs.Growing.{all_more, all_none, functions_same, headings_same}
 use Rattle.event_reading.proofs.Wholes.{longest_front, no_text, text_longer, whole_readable, whole_text}
+
+bodies_inside : (pool : List Node) (ds : List Definition) → AreBodiesIn pool ds → All (IsDefinitionIn pool) ds
+bodies_inside pool [] h = all_none (IsDefinitionIn pool)
+bodies_inside pool (d ∷ ds) h = all_more (IsDefinitionIn pool) d ds h.0 (bodies_inside pool ds h.1)
 
 -- `p` is the pool when the definitions were read, and `q` that in the end
 module _ (p q : List Node) (ds : List Definition) (cs : List Condition) (ls : List ℕ) (qs : List (ℕ × ℕ)) (text x y z : List ℕ)
@@ -66,5 +71,7 @@ module _ (p q : List Node) (ds : List Definition) (cs : List Condition) (ls : Li
         text = ap (λ l. event_text l (map (condition_tree q) cs) marks) fs_same ∙ written;
         definitions = added-Grows p q ds g d.added;
         counting = subst (All IsCounting) (sym fs_same) d.lines.counting;
-        conditions = c.inside;
+        definitions_inside = bodies_inside q ds (added_sound q ds (added-Grows p q ds g d.added)).0;
+        conditions_inside = c.inside;
+        letters = c.lines.count ∙ same_count;
       }

@@ -57,7 +57,7 @@ conditions_same old new (c ∷ cs) g h =
     let rest = conditions_same old new cs g (all_rest (IsConditionIn old) c cs h) in
     λ i. record { unit = c.unit; path = c.path; check = c.check; kind = c.kind; card = c.card; hyps = hyps i; goal = goal i } ∷ rest i
 
-all_more : {X : Type 0} (P : X → Type 0) (x : X) (xs : List X) → P x → All P xs → All P (x ∷ xs)
+pub all_more : {X : Type 0} (P : X → Type 0) (x : X) (xs : List X) → P x → All P xs → All P (x ∷ xs)
 all_more P x xs p h zero d less = p
 all_more P x xs p h (suc k) d less = h k d (omega arith)
 

@@ -6,7 +6,7 @@ use Rattle.formula.specs.Adding.{AreAdded}
 use Rattle.formula.specs.Worth.{Function, function_of}
 use Rattle.fort_syntax.specs.Conditions.{ConditionTree}
 use Rattle.event_text.specs.declared.marks.Marks.{Marks}
-use Rattle.event_text.specs.Conditions.{condition_tree, IsConditionIn}
+use Rattle.event_text.specs.Conditions.{condition_tree, IsConditionIn, IsDefinitionIn}
 use Rattle.event_text.specs.EventText.{closing_line, event_text}
 use Rattle.event_text.specs.Readable.{IsReadable}
 use Rattle.event_reading.specs.declared.events.Events.{Events}
@@ -34,7 +34,9 @@ pub record IsRead (bytes : List ℕ) (pool : List Node) (e : Events) : Type 0 wh
   pub text : event_text (map (function_of pool) e.definitions) (map (condition_tree pool) e.conditions) e.marks ≡ bytes
   pub definitions : AreAdded pool e.definitions
   pub counting : All IsCounting (map (function_of pool) e.definitions)
-  pub conditions : All (IsConditionIn pool) e.conditions
+  pub definitions_inside : All (IsDefinitionIn pool) e.definitions
+  pub conditions_inside : All (IsConditionIn pool) e.conditions
+  pub letters : length e.marks.letters ≡ length e.conditions
 
 -- why nothing was read
 abbrev pub IsRefused : List ℕ → EventFault → Type 0
