@@ -3,4 +3,4 @@
 
 mod laws;
 
-pub use laws::{firsts_go_before, firsts_are_shared};
+pub use laws::{firsts_are_shared, firsts_go_before};
