@@ -1,5 +1,5 @@
 -- The way that a cursor shows.
-use Rattle.std.proofs.Common.{◌≡◌, ℕ, List, Option, Some, None, sym, ap}
+use Rattle.std.proofs.Common.{◌≡◌, ℕ, List, Option, Some, None, ap}
 use Rattle.path_cut.specs.Courses.{ended_by}
 use Rattle.path_cut.specs.Cursor.{way_at}
 use Rattle.path_cut.specs.Ways.{Way}

@@ -28,7 +28,7 @@ use Rattle.path_fronts.proofs.Stepped.{arrived_events, events_along}
 use Rattle.path_fronts.specs.Steps.{HasStart, behind}
 use Rattle.walk_setting.specs.Settings.{seen_from}
 use Rattle.walk_state.specs.Moments.{Did, Follows, Moment, at_first, moment}
-use Rattle.way_walks.specs.Along.{Gone, along, gone, stops}
+use Rattle.way_walks.specs.Along.{along, gone, stops}
 
 abbrev pub front_of : Begun → Option Clock → List Mark → ℕ → Front
 front_of b clock marks start = record { walk = b.walk; clock = clock; marks = marks; start = start }

@@ -115,17 +115,18 @@ front_marked s steps k card f names kept h reaches has =
       marked = λ p r.
           let sight = seen_from s p in
           let m = moment f.walk in
-          subst (λ (told : List (Named Tree)). AreMarks sight (set_out_at sight f.start) steps told m.events (mark_at f k card ∷ f.marks)) (sym kept.before)
-          (record {
-            at = m;
-            more = [];
-            names = refl;
-            met = append_nothing m.events;
-            count = events_count f.walk.pool f.walk.met.items;
-            answers = refl;
-            leads = reaches p r;
-          },
-          h.marked p r);
+          subst (λ (told : List (Named Tree)). AreMarks sight (set_out_at sight f.start) steps told m.events (mark_at f k card ∷ f.marks)) (sym kept.before) (
+            record {
+              at = m;
+              more = [];
+              names = refl;
+              met = append_nothing m.events;
+              count = events_count f.walk.pool f.walk.met.items;
+              answers = refl;
+              leads = reaches p r;
+            },
+            h.marked p r,
+          );
     }
 
 pub reaches_marked : (s : Setting) (steps : List Step) (k card : ℕ) (f : Front) (names : Names) (mark : Mark) → IsKept f.walk.pool f.walk.names names → Reaches s steps k card f

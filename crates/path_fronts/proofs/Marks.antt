@@ -1,5 +1,5 @@
 -- Marks, where another way has the same first steps and where a walk goes on.
-use Rattle.std.proofs.Common.{◌≡◌, ℕ, suc, ◌<◌, ◌≤◌, List, [], ◌∷◌, ◌++◌, take, append_assoc, refl, sym, ap, ◌∙◌, subst, arith}
+use Rattle.std.proofs.Common.{◌≡◌, ℕ, suc, ◌<◌, ◌≤◌, List, [], ◌∷◌, ◌++◌, take, append_assoc, sym, ◌∙◌, subst, arith}
 use Rattle.formula.specs.Tree.{Tree}
 use Rattle.fort_model.specs.Events.{Event}
 use Rattle.fort_model.specs.Seen.{Named}
@@ -7,7 +7,6 @@ use Rattle.fort_model.specs.WalkCalls.{Sight}
 use Rattle.path_cut.specs.declared.step.Step.{Step}
 use Rattle.shared_fronts.proofs.Firsts.{get_same, same_firsts, take_fewer}
 use Rattle.path_fronts.specs.Fronts.{AreMarks, ArePlaces, Leads}
-use Rattle.shared_fronts.specs.Firsts.{firsts}
 use Rattle.path_fronts.specs.declared.front.Mark.{Mark}
 use Rattle.walk_state.specs.Moments.{Moment}
 

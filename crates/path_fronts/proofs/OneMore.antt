@@ -5,7 +5,7 @@ use Rattle.fort_model.specs.WalkStmt.{performed}
 use Rattle.fort_syntax.specs.declared.unit.Line.{Line}
 use Rattle.path_cut.specs.declared.step.Step.{Step}
 use Rattle.path_cut.specs.declared.step.Step.TheVariants.{At, Choice}
-use Rattle.path_fronts.proofs.Carrying.{GoesOn, front_on, ready_before, with_walk}
+use Rattle.path_fronts.proofs.Carrying.{front_on, ready_before, with_walk}
 use Rattle.path_fronts.proofs.Leading.{leads_at, leads_choice}
 use Rattle.path_fronts.proofs.Marks.{marks_moved, places_moved}
 use Rattle.path_fronts.specs.Fronts.{IsAt, IsFront, Leads, Reaches, set_out_at}

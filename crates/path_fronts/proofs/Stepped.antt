@@ -3,14 +3,14 @@ use Rattle.std.proofs.lemmas.Grind.{common_steps}
 use Rattle.std.proofs.Common.{◌≡◌, ℕ, zero, suc, ◌-◌, get_or, take, ◌<◌, ◌≤◌, Option, Some, None, List, [], ◌∷◌, ◌++◌, length, drop, slice_get, append_assoc, refl, sym, ap, ◌∙◌, arith}
 use Rattle.formula.specs.Tree.{Tree}
 use Rattle.fort_model.specs.Conditions.{sight}
-use Rattle.fort_model.specs.Events.{Event, takes}
+use Rattle.fort_model.specs.Events.{takes}
 use Rattle.fort_model.specs.Program.{Program}
 use Rattle.fort_model.specs.Senses.{of_terms}
 use Rattle.fort_model.specs.WalkCalls.{Sight}
 use Rattle.fort_syntax.specs.declared.unit.Line.{Line}
 use Rattle.fort_syntax.specs.declared.unit.Unit.{Unit as Routine}
 use Rattle.path_cut.specs.declared.step.Step.{Step}
-use Rattle.path_cut.specs.declared.step.Step.TheVariants.{At, Choice}
+use Rattle.path_cut.specs.declared.step.Step.TheVariants.{At}
 use Rattle.path_fronts.specs.Steps.{HasStart, behind}
 use Rattle.walk_state.specs.Moments.{Did, Moment, at_first}
 use Rattle.std.specs.Option.{IsSome}

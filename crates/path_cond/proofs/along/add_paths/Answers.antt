@@ -1,7 +1,8 @@
 use Rattle.std.proofs.Common.{◌≡◌, ◌+◌, suc, List, length, take, Some, option_map, sym, ap, ◌∙◌, subst, arith}
-use Rattle.path_cond.proofs.Paths.{checks_fit, graph_known, number_fits, one_passed, start_of}
+use Rattle.path_cond.proofs.Paths.{Passed, checks_fit, graph_known, none_passed, number_fits, one_passed, start_of}
 use Rattle.path_cond.proofs.Seen.{steps_seen}
 use Rattle.path_cond.specs.Found.{drafts_of}
+use Rattle.path_cond.specs.declared.found.Drafts.{Drafts}
 use Rattle.path_cut.specs.Cursor.{way_at, way_seen, ways_left}
 use Rattle.path_cut.specs.declared.step.Step.{Step}
 use Rattle.path_fronts.specs.Fronts.{IsFront}
@@ -14,6 +15,23 @@ overflow_add-number c =
     let fits = number_fits c.args.plan.now c.args.flow.now.graph.now c.args.drafts (drafts_of c.loop-more.walked) c.loop-more.number c.loop-more.more (way_at c.loop-more.paths) (way_seen c.in-Some.path)
     (ways_left c.loop-more.paths) c.requires.ready.0 c.requires.ready.1 c.requires.few c.loop-more.invariant.passed here in
     omega (arith, fits)
+
+pub loop-more-init : goal.loop-more-init
+loop-more-init c =
+    let plan = c.args.plan.now in
+    let graph = c.args.flow.now.graph.now in
+    let more = c.in-Ok-advance.more in
+    let paths = c.advance.new.self in
+    record {
+      passed = subst (λ (d : Drafts). Passed plan graph c.args.drafts d 0 more (way_at paths) (ways_left paths)) (sym c.new-walked.ensures.same)
+          (none_passed plan graph c.args.drafts more (way_at paths) (ways_left c.in-Ok.paths) (ways_left paths) c.requires.drafts c.in-Ok.ensures c.in-Ok-advance.ensures.found
+          c.in-Ok-advance.ensures.way c.in-Ok-advance.ensures.left);
+      front = (
+        c.in-Ok.paths.course.steps.items,
+        c.in-Ok-advance.ensures.shared.front,
+        c.new-walked.ensures.front plan.setting.now c.in-Ok.paths.course.steps.items (length c.in-Ok.paths.course.steps.items),
+      );
+    }
 
 pub add_path-requires-clause-graph : goal.add_path-requires-clause-graph
 add_path-requires-clause-graph c =
@@ -43,7 +61,7 @@ add_path-requires-clause-front c =
     let front = c.loop-more.invariant.front in (
       front.0,
       (λ i. take (c.in-Some.ensures.shared i) (sym (steps_seen c.loop-more.paths (way_seen c.in-Some.path) here) i))
-      ∙ (front.1 ∙ (λ i. take (sym c.in-Some.ensures.shared i) front.0)),
+          ∙ (front.1 ∙ (λ i. take (sym c.in-Some.ensures.shared i) front.0)),
       front.2,
     )
 

@@ -14,7 +14,7 @@ use Rattle.path_fronts.specs.Steps.{HasStart}
 use Rattle.walk_setting.proofs.Ready.{ready_on}
 use Rattle.walk_setting.specs.Settings.{seen_from}
 use Rattle.walk_state.proofs.Parts.{follows_then, grew}
-use Rattle.walk_state.specs.Moments.{Moment, moment}
+use Rattle.walk_state.specs.Moments.{moment}
 use Rattle.walk_state.specs.declared.walk.Walk.{Walk}
 use Rattle.way_walks.specs.Along.{along, gone, stops}
 use Rattle.path_fronts.proofs.following.finish.Goals as goal

@@ -1,4 +1,4 @@
-use Rattle.std.proofs.Common.{◌≡◌, ◌+◌, ◌≤◌, ◌∙◌, suc, List, drop, length, slice_get, None, refl, subst, sym, arith}
+use Rattle.std.proofs.Common.{◌≡◌, ◌+◌, ◌≤◌, ◌∙◌, suc, List, drop, length, slice_get, None, subst, sym, arith}
 use Rattle.formula.proofs.Grown.{Grows-trans}
 use Rattle.formula.specs.Pool.{Grows}
 use Rattle.formula.specs.declared.node.Node.{Node}
@@ -76,7 +76,7 @@ loop-at-preserved c =
     let next : k + 1 ≡ suc k = omega arith in
     let at = got steps k _ (At point) c.loop-at-test.true c.in-At.is in
     let r = ready_on c.args.front.now.walk.pool c.loop-at.front.walk.pool s.scene.now inv.grows c.requires.ready in
-    let ready = (r.0, subst (λ (nodes : List Node). IsReady nodes s.scene.now r.0) (sym c.in-Ok.ensures.pool) r.1) in
+    let ready : (p : Program) × IsReady f.walk.pool s.scene.now p = (r.0, subst (λ (nodes : List Node). IsReady nodes s.scene.now r.0) (sym c.in-Ok.ensures.pool) r.1) in
     let stands = behind_one s steps k (k + 1) c.loop-at.last point line f w next at c.line.ensures ready
     (c.in-Ok.ensures.front s steps inv.front inv.is (point, at)) (c.in-Ok.ensures.at s steps inv.front inv.is) c.in-Ok-perform_at.ensures.on
     (λ p r.

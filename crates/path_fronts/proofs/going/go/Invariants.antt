@@ -1,4 +1,4 @@
-use Rattle.std.proofs.Common.{◌≡◌, ◌≤◌, length}
+use Rattle.std.proofs.Common.{◌≡◌}
 use Rattle.formula.specs.Pool.{Grows}
 use Rattle.path_fronts.specs.Fronts.{IsFront, Reaches}
 use Rattle.path_fronts.proofs.going.go.Given as goal

@@ -16,5 +16,5 @@ returns-clause-front c s steps h reaches has =
       start = f.start;
     }) in
     subst (λ (marks : List Mark). IsFront s steps (suc c.args.place) (with marks))
-    (sym (c.in-Ok-push.ensures.ok ∙ (λ i. record { place = c.args.place; met = c.len.ensures i; calls = w.calls; card = c.args.card } ∷ f.marks)))
+    (sym (c.in-Ok-push.ensures.ok ∙ (λ i. record { place = c.args.place; met = (c.len.ensures ∙ f.walk.met.ok.0) i; calls = w.calls; card = c.args.card } ∷ f.marks)))
     (front_marked s steps c.args.place c.args.card f c.keep.new.self (c.in-Ok.ensures.kept w.pool h.well.names) h reaches has)
