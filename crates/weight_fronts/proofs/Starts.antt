@@ -4,6 +4,7 @@ use Rattle.fort_notes.specs.Assertions.{Assertion}
 use Rattle.fort_model.specs.Seen.{Named}
 use Rattle.fort_model.specs.WalkCalls.{Sight}
 use Rattle.path_cut.specs.declared.step.Step.{Step}
+use Rattle.path_sizes.specs.Weights.{all_one}
 use Rattle.weight_caps.specs.Loads.{nothing_yet, with_added}
 use Rattle.weight_caps.specs.declared.loads.Load.{Load}
 use Rattle.weight_fronts.specs.Fronts.{AreMarks, IsFront, IsNowhere, IsThere, Stands, clock_at, clock_from, load_at, load_from}
@@ -39,7 +40,7 @@ module _ (w : Sight ℕ) (f : Front) (marks : f.marks ≡ []) where
       stands steps start load names (from ∙ sym zeroth) (subst (IsThere w) (sym zeroth) tt) (clock ∙ (λ i. clock_from w (sym zeroth i))) (is ∙ (λ i. load_from w (sym zeroth i)))
 
   pub at_assert : (steps : List Step) (start k n : ℕ) (a : Assertion) (load : Load) → f.names ≡ nothing_told → f.start ≡ start → start ≡ suc k → Some a ≡ slice_get (c.notes_here w).asserts k → f.clock ≡ Some n
-      → n ≡ all (c.told w (λ x. 1) a.clock) → load ≡ load_at w (Some a) → Stands w steps start 0 f load
+      → n ≡ all (c.told w all_one a.clock) → load ≡ load_at w (Some a) → Stands w steps start 0 f load
   at_assert steps start k n a load names from next at clock m is =
       stands steps start load names from (subst (IsThere w) (sym next) (a, sym at))
       (clock ∙ ((λ i. Some (m i)) ∙ ((λ i. clock_at w (at i)) ∙ (λ i. clock_from w (sym next i)))))

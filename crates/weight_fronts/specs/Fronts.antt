@@ -71,9 +71,9 @@ pub record IsFront (w : Sight ℕ) (steps : List Step) (bound : ℕ) (f : Front)
   pub marks : AreMarks w f.start steps bound (marked f.names) f.marks
 
 -- a front and a load stand behind the statements that begin within the first steps
-pub record IsAt (w : Sight ℕ) (steps : List Step) (place : ℕ) (f : Front) (load : Load) : Type 0 where
+pub record IsAt (w : Sight ℕ) (steps : List Step) (place : ℕ) (f : Front) (met : Load) : Type 0 where
   pub names : held f.names ≡ (reached w f.start (firsts place steps)).value
-  pub load : load ≡ (reached w f.start (firsts place steps)).load
+  pub load : met ≡ (reached w f.start (firsts place steps)).load
 
 -- a front went back to before the statement of a mark
 pub record IsBackAt (w : Sight ℕ) (steps : List Step) (mark : Mark) (f : Front) : Type 0 where
@@ -82,13 +82,13 @@ pub record IsBackAt (w : Sight ℕ) (steps : List Step) (mark : Mark) (f : Front
   pub has : HasAt steps mark.place
 
 -- a front stands on a way from a start, before the step at a place
-pub record Stands (w : Sight ℕ) (steps : List Step) (start place : ℕ) (f : Front) (load : Load) : Type 0 where
-  pub start : f.start ≡ start
+pub record Stands (w : Sight ℕ) (steps : List Step) (from place : ℕ) (f : Front) (met : Load) : Type 0 where
+  pub start : f.start ≡ from
   pub within : place ≤ length steps
   pub front : IsFront w steps place f
-  pub at : IsAt w steps place f load
+  pub at : IsAt w steps place f met
 
 -- a way from a start that there is not comes to nothing, whatever it is
-pub record IsNowhere (w : Sight ℕ) (start : ℕ) (f : Front) (load : Load) : Type 0 where
+pub record IsNowhere (w : Sight ℕ) (start : ℕ) (f : Front) (met : Load) : Type 0 where
   pub front : (steps : List Step) (bound : ℕ) → IsFront w steps bound f
-  pub load : (steps : List Step) (end : ℕ) → load ≡ (from_start w start steps end nothing_yet).load
+  pub load : (steps : List Step) (end : ℕ) → met ≡ (from_start w start steps end nothing_yet).load
