@@ -1,5 +1,5 @@
 -- Marks: they are set, they stay, a front goes back to them, and another way has them.
-use Rattle.std.proofs.Common.{◌≡◌, ℕ, suc, ◌<◌, ◌≤◌, List, [], ◌∷◌, length, slice_get, refl, sym, ap, ◌∙◌, subst, arith}
+use Rattle.std.proofs.Common.{◌≡◌, ℕ, suc, ◌<◌, ◌≤◌, List, [], ◌∷◌, refl, sym, ◌∙◌, subst, arith}
 use Rattle.fort_model.specs.Seen.{Named}
 use Rattle.fort_model.specs.WalkCalls.{Sight}
 use Rattle.path_cut.specs.declared.step.Step.{Step}
@@ -10,7 +10,7 @@ use Rattle.weight_caps.specs.declared.loads.Load.{Load}
 use Rattle.weight_fronts.specs.Fronts.{AreMarks, IsAt, IsBackAt, IsFront, IsMark, IsThere, Stands, clock_from, load_of_mark, reached}
 use Rattle.weight_fronts.specs.declared.front.Front.{Front}
 use Rattle.weight_fronts.specs.declared.front.Mark.{Mark}
-use Rattle.weight_terms.specs.Held.{GoesBack, Weights, held, marked}
+use Rattle.weight_terms.specs.Held.{GoesBack, held, marked}
 
 module _ (w : Sight ℕ) where
   below : (start : ℕ) (steps : List Step) (bound n : ℕ) (told : List (Named ℕ)) (marks : List Mark) → bound ≤ n → AreMarks w start steps bound told marks → AreMarks w start steps n told marks
@@ -57,21 +57,23 @@ module _ (w : Sight ℕ) where
       → GoesBack f.names g.names → g.start ≡ f.start → g.clock ≡ f.clock → IsFront w steps bound f → (mark.place < bound) × IsBackAt w steps mark g
   back_from steps bound f g mark [] is h back start clock k = absurd h
   back_from steps bound f g mark (now ∷ told) is h back start clock k =
-      let there = back now told is in
-      (h.0, record {
-        front = record {
-          there = subst (IsThere w) (sym start) k.there;
-          clock = clock ∙ (k.clock ∙ (λ i. clock_from w (sym start i)));
-          marks =
-              subst (λ (s : ℕ). AreMarks w s steps mark.place (marked g.names) g.marks) (sym start)
-              (subst (λ (l : List (Named ℕ)). AreMarks w f.start steps mark.place l g.marks) (sym there.marks) h.2);
-        };
-        at = record {
-          names = there.weights ∙ (h.1.names ∙ (λ i. (reached w (sym start i) (firsts mark.place steps)).value));
-          load = h.1.load ∙ (λ i. (reached w (sym start i) (firsts mark.place steps)).load);
-        };
-        has = h.1.has;
-      })
+      let there = back now told is in (
+        h.0,
+        record {
+          front = record {
+            there = subst (IsThere w) (sym start) k.there;
+            clock = clock ∙ (k.clock ∙ (λ i. clock_from w (sym start i)));
+            marks =
+                subst (λ (s : ℕ). AreMarks w s steps mark.place (marked g.names) g.marks) (sym start)
+                (subst (λ (l : List (Named ℕ)). AreMarks w f.start steps mark.place l g.marks) (sym there.marks) h.2);
+          };
+          at = record {
+            names = there.weights ∙ (h.1.names ∙ (λ i. (reached w (sym start i) (firsts mark.place steps)).value));
+            load = h.1.load ∙ (λ i. (reached w (sym start i) (firsts mark.place steps)).load);
+          };
+          has = h.1.has;
+        },
+      )
 
   -- a front went back to its last mark
   pub went_back : (steps : List Step) (bound : ℕ) (f g : Front) (mark : Mark) → f.marks ≡ mark ∷ g.marks → GoesBack f.names g.names → g.start ≡ f.start → g.clock ≡ f.clock
@@ -100,12 +102,15 @@ module _ (w : Sight ℕ) where
       let lt : mark.place < bound = h.0 in
       let less : mark.place < n = omega (arith, lt, le) in
       let fewer : mark.place ≤ n = omega (arith, less) in
-      let e = shared_firsts mark.place n before steps less same h.1.has in
-      (lt, record {
-        names = h.1.names ∙ (λ i. (reached w start (e i)).value);
-        load = h.1.load ∙ (λ i. (reached w start (e i)).load);
-        has = has_moved n mark.place before steps less same h.1.has;
-      }, marks_moved start n mark.place before steps told marks fewer same h.2)
+      let e = shared_firsts mark.place n before steps less same h.1.has in (
+        lt,
+        record {
+          names = h.1.names ∙ (λ i. (reached w start (e i)).value);
+          load = h.1.load ∙ (λ i. (reached w start (e i)).load);
+          has = has_moved n mark.place before steps less same h.1.has;
+        },
+        marks_moved start n mark.place before steps told marks fewer same h.2,
+      )
 
   pub moved : (n start : ℕ) (before steps : List Step) (mark : Mark) (f : Front) (load : Load) → mark.place < n → SharesSteps n before steps → f.start ≡ start → load ≡ load_of_mark mark → IsBackAt w before mark f → Stands w steps start mark.place f load
   moved n start before steps mark f load lt same from is h =

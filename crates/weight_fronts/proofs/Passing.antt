@@ -7,7 +7,7 @@ use Rattle.path_cut.specs.declared.step.Step.{Step}
 use Rattle.path_cut.specs.declared.step.Step.TheVariants.{At, Choice}
 use Rattle.path_sizes.specs.Weights.{all_one}
 use Rattle.shared_fronts.proofs.Firsts.{firsts_at, firsts_choice, got}
-use Rattle.shared_fronts.specs.Firsts.{HasAt, firsts}
+use Rattle.shared_fronts.specs.Firsts.{firsts}
 use Rattle.way_laws.specs.PathsOf.{turns}
 use Rattle.way_walks.specs.Along.{stops}
 use Rattle.weight_caps.specs.Loads.{nothing_yet}

@@ -1,7 +1,6 @@
 -- How a way begins.
-use Rattle.std.proofs.Common.{◌≡◌, ℕ, zero, suc, ◌≤◌, List, [], length, Option, Some, None, slice_get, refl, sym, ap, ◌∙◌, subst, arith}
+use Rattle.std.proofs.Common.{◌≡◌, ℕ, suc, List, [], Some, None, slice_get, sym, ap, ◌∙◌, subst, arith}
 use Rattle.fort_notes.specs.Assertions.{Assertion}
-use Rattle.fort_model.specs.Seen.{Named}
 use Rattle.fort_model.specs.WalkCalls.{Sight}
 use Rattle.path_cut.specs.declared.step.Step.{Step}
 use Rattle.path_sizes.specs.Weights.{all_one}
@@ -10,9 +9,9 @@ use Rattle.weight_caps.specs.declared.loads.Load.{Load}
 use Rattle.weight_fronts.specs.Fronts.{AreMarks, IsFront, IsNowhere, IsThere, Stands, clock_at, clock_from, load_at, load_from}
 use Rattle.weight_fronts.specs.declared.front.Front.{Front}
 use Rattle.weight_fronts.specs.declared.front.Mark.{Mark}
-use Rattle.weight_tallies.specs.Tallied.{all, both}
+use Rattle.weight_tallies.specs.Tallied.{all}
 use Rattle.weight_tallies.specs.Tallies as c
-use Rattle.weight_terms.specs.Held.{Weights, held, marked, nothing_told}
+use Rattle.weight_terms.specs.Held.{held, marked, nothing_told}
 
 -- a front that has no mark
 module _ (w : Sight ℕ) (f : Front) (marks : f.marks ≡ []) where

@@ -44,12 +44,7 @@ fn parts(behind: &[Step]) -> bool {
 }
 
 /// Sets a mark before the statement of the step at a place, where paths may part there.
-fn mark_fork(
-    front: &mut Front,
-    load: &Load,
-    place: usize,
-    behind: &[Step],
-) -> Result<(), NoMemory>
+fn mark_fork(front: &mut Front, load: &Load, place: usize, behind: &[Step]) -> Result<(), NoMemory>
     ensures start { OnOk result (front.new.start ≡ front.old.start) }
     ensures clock { OnOk result (front.new.clock ≡ front.old.clock) }
     ensures at { OnOk result ((w : Sight ℕ) (steps : List OneStep) → IsAt w steps place front.old load.now → IsAt w steps place front.new load.now) }

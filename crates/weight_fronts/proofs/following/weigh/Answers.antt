@@ -1,4 +1,4 @@
-use Rattle.std.proofs.Common.{◌≡◌, ◌≤◌, ℕ, length, Option, subst, ◌∙◌, arith}
+use Rattle.std.proofs.Common.{◌≤◌, ℕ, length, Option, subst, ◌∙◌, arith}
 use Rattle.std.specs.Prelude.{IfNone, IfSome}
 use Rattle.weight_calls.specs.Subjects.{sight_of}
 use Rattle.weight_fronts.specs.Fronts.{IsNowhere, Stands}
