@@ -1,5 +1,5 @@
 -- Tables of conditions by name.
-use Rattle.std.specs.Prelude.{ℕ, suc, ◌≡◌, ◌++◌, Bool, cond, List, [], ◌∷◌, Option, Some, None, slice_get, codes, decimal}
+use Rattle.std.specs.Prelude.{ℕ, suc, ◌≡◌, ◌++◌, cond, List, [], ◌∷◌, Option, Some, None, slice_get, codes, decimal}
 use Rattle.std.specs.Map.{lookup}
 use Rattle.formula.specs.Atoms.{same_bytes}
 use Rattle.fort_syntax.specs.declared.condition.Condition.{Condition}
@@ -25,6 +25,11 @@ first_place w (c ∷ cs) i = cond (same_bytes (name_of c) w) (Some i) (first_pla
 abbrev pub first_named : List ℕ → List Condition → Option Condition
 first_named w [] = None
 first_named w (c ∷ cs) = cond (same_bytes (name_of c) w) (Some c) (first_named w cs)
+
+-- the condition at a place
+abbrev pub condition_at : List Condition → Option ℕ → Option Condition
+condition_at cs None = None
+condition_at cs (Some i) = slice_get cs i
 
 -- a table tells of each name the place of the first condition with it
 abbrev pub ArePlacesOf : List Condition → List (List ℕ × ℕ) → Type 0

@@ -1,6 +1,6 @@
 // Conditions by name.
-ghost use Rattle.std.specs.Prelude.{◌≡◌, ◌++◌, [], option_copied, IfOk, OnOk};
-ghost use Rattle.try_lines.specs.Lemmas.{ArePlacesOf, Tells, first_named, name_of, told};
+ghost use Rattle.std.specs.Prelude.{◌≡◌, ◌++◌, ◌<◌, [], length, option_copied, IfOk, IfSome, OnOk};
+ghost use Rattle.try_lines.specs.Lemmas.{ArePlacesOf, Tells, condition_at, first_named, name_of, told};
 
 use edge_io::{Keys, List, NoMemory};
 use fort_notes::TryCard;
@@ -93,10 +93,18 @@ impl Places {
         Ok(places)
     }
 
-    fn place(&self, name: &List<u8>) -> Option<usize>
+    fn told(&self, name: &List<u8>) -> Option<usize>
         ensures { result ≡ told self.now name.now }
     {
         self.map.get(name).copied()
+    }
+
+    fn place(&self, conditions: &[Condition], name: &List<u8>) -> Option<usize>
+        requires { ArePlacesOf conditions.now self.now }
+        ensures within { IfSome result (λ i. i < length conditions.now) }
+        ensures entry { condition_at conditions.now result ≡ first_named name.now conditions.now }
+    {
+        self.told(name)
     }
 
     /// The first of the conditions with a name.
@@ -108,7 +116,7 @@ impl Places {
         requires { ArePlacesOf conditions.now self.now }
         ensures { option_copied result ≡ first_named name.now conditions.now }
     {
-        match self.place(name) {
+        match self.place(conditions, name) {
             Some(place) => conditions.get(place),
             None => None,
         }

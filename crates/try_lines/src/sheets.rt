@@ -46,8 +46,9 @@ pub(crate) fn sheet_of(
 {
     let mut sheet = Sheet::new(alloc, keys);
     for i in 0..entries.len() {
-        let value = copied(alloc, &entries[i].1)?;
-        set(&mut sheet, entries[i].0, value)?;
+        let entry = &entries[i];
+        let value = copied(alloc, &entry.1)?;
+        set(&mut sheet, entry.0, value)?;
     }
     Ok(sheet)
 }
