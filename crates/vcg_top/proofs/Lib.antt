@@ -4,3 +4,4 @@ pub mod Rests
 pub mod Marked
 pub mod Replies
 pub mod Taken
+pub mod Numbers

@@ -1,7 +1,10 @@
 -- What is written for an input.
-use Rattle.std.proofs.Common.{◌≡◌, ◌⊎◌, inl, inr, ℕ, List, map, take, refl, sym, ap, ◌∙◌, subst}
+use Rattle.std.proofs.Common.{◌≡◌, ◌⊎◌, inl, inr, ℕ, List, length, map, take, drop, refl, sym, ap, ◌∙◌, subst, None, Some}
+use Rattle.std.proofs.lemmas.List.{length-map}
+use Rattle.std.specs.Io.KnownBytes.{Appends}
 use Rattle.std.specs.declared.option.Option.{Option}
-use Rattle.std.specs.declared.option.Option.TheVariants.{Some}
+use Rattle.deck_made.specs.Made.{made_deck}
+use Rattle.edge_io.specs.Causes.{Rose}
 use Rattle.formula.specs.Worth.{Function, functions_of}
 use Rattle.fort_syntax.specs.Conditions.{ConditionTree}
 use Rattle.fort_syntax.specs.FaultLine.{fault_line}
@@ -9,8 +12,11 @@ use Rattle.fort_syntax.specs.declared.deck.Deck.{Deck}
 use Rattle.fort_syntax.specs.declared.dialect.Dialect.{Dialect}
 use Rattle.fort_syntax.specs.declared.refusal.Fault.{Fault}
 use Rattle.fort_notes.specs.Remarks.{Remarks}
+use Rattle.fort_notes.specs.declared.cases.TryCard.{TryCard}
 use Rattle.event_text.specs.Conditions.{condition_tree}
 use Rattle.event_text.specs.EventText.{event_text}
+use Rattle.event_text.specs.Sending.{AppendsPart}
+use Rattle.event_text.specs.declared.marks.Marks.{Marks}
 use Rattle.fort_model.specs.Conditions.{conditions_of}
 use Rattle.fort_model.specs.Paths.{Path}
 use Rattle.fort_model.specs.Program.{Program}
@@ -19,12 +25,20 @@ use Rattle.judging.proofs.NoneBoth.{accepted_in_have_no_fault}
 use Rattle.judging.proofs.OneJudgement.{accepted_in_are_sound}
 use Rattle.prover_box.specs.Answers.{Seen}
 use Rattle.readable_laws.proofs.OfTexts.{conditions_in_are_readable, text_tells_conditions}
+use Rattle.reply_lines.specs.Lines.{accepted_line, made_line}
+use Rattle.reply_lines.specs.declared.lines.Sizes.{Sizes}
+use Rattle.try_lines.specs.Tries.{try_text}
 use Rattle.deck_judging.specs.Judged.{IsJudgedIn}
 use Rattle.deck_judging.specs.declared.found.Judged.{Judged}
+use Rattle.vcg_top.specs.declared.command.Command.{Command}
+use Rattle.vcg_top.specs.declared.command.Command.TheVariants.{Deck as OfDeck, Made}
+use Rattle.vcg_top.specs.declared.command.Task.{Task}
+use Rattle.vcg_top.specs.declared.command.Task.TheVariants.{Vc, Check, Try}
 use Rattle.vcg_top.specs.declared.status.Status.{Status}
-use Rattle.vcg_top.specs.declared.status.Status.TheVariants.{Done, Refused, WriteFault, NoMemory as Starved}
-use Rattle.vcg_top.specs.Answers.{AppendsOf, AppendsPartOf, IsDoneText, IsRefusedText, most_read}
-use Rattle.vcg_top.specs.Found.{IsTextOf}
+use Rattle.vcg_top.specs.declared.status.Status.TheVariants.{Done, Refused, ReadFault, WriteFault, NoMemory as Starved}
+use Rattle.vcg_top.specs.Answers.{AppendsOf, AppendsPartOf, IsCheckText, IsDoneText, IsEither, IsMadeText, IsRefusedText, IsReply, IsTryText, count_of_marked, sizes_of}
+use Rattle.vcg_top.specs.Commands.{IsDeckOf, IsMadeNumber, IsReadWell, IsTakenOf, dialect_of, most_read}
+use Rattle.vcg_top.specs.Found.{AreMarksOf, IsMadeOf, IsReplyOf, IsTextOf, sizes_found}
 use Rattle.vcg_top.specs.Marked.{AreMarksFor}
 use Rattle.vcg_top.specs.Soundness.{IsSoundText}
 use Rattle.vcg_top.proofs.Fronts.{accepted_of_front, fault_of_front}
@@ -36,28 +50,84 @@ use Rattle.vcg_top.proofs.Marked.{are_marks, unclosed_enough}
 program_functions : (d : Dialect) (bytes : List ℕ) (deck : Deck) (r : Remarks) (p : Program) (paths : List (List Path)) → IsAcceptedIn d bytes deck r p paths → p.functions ≡ r.definitions
 program_functions d bytes deck r p paths h = ap (λ (q : Program). q.functions) h.accepted.is_program.program
 
--- the text of what is found of bytes
-pub found_text : (d : Dialect) (bytes : List ℕ) (j : Judged) (before now : List Seen) (text : List ℕ) → IsJudgedIn d bytes j → IsTextOf j before now text → IsDoneText d bytes before now text
-found_text d bytes j before now text h t =
-    let functions : functions_of j.pool j.definitions ≡ h.p.functions = h.functions ∙ sym (program_functions d bytes h.deck h.r h.p h.paths h.accepted) in
-    let trees = map (condition_tree j.pool) j.conditions in
-    let marked = are_marks j.pool j.definitions j.conditions before now t.marks t.asked t.counts t.small in
-    record {
-      deck = h.deck;
-      r = h.r;
-      p = h.p;
-      paths = h.paths;
-      marks = t.marks;
-      accepted = h.accepted;
-      marked =
-          subst (λ (cs : List ConditionTree). AreMarksFor h.p.functions cs before now t.marks) h.conditions
-          (subst (λ (fs : List Function). AreMarksFor fs trees before now t.marks) functions marked);
-      is = t.is ∙ ap (λ (fs : List Function). event_text fs trees t.marks) functions ∙ ap (λ (cs : List ConditionTree). event_text h.p.functions cs t.marks) h.conditions;
-    }
+module _ (d : Dialect) (bytes : List ℕ) (j : Judged) (h : IsJudgedIn d bytes j) where
+  functions_are : functions_of j.pool j.definitions ≡ h.p.functions
+  functions_are = h.functions ∙ sym (program_functions d bytes h.deck h.r h.p h.paths h.accepted)
 
--- the line of the first fault
-pub fault_text : (d : Dialect) (bytes : List ℕ) (f : Fault) → IsFirstFaultIn d bytes f → IsRefusedText d bytes (fault_line f)
-fault_text d bytes f h = record { fault = f; first = h; is = refl }
+  sizes_are : sizes_found j ≡ sizes_of h.p h.paths
+  sizes_are =
+      let conditions : length j.conditions ≡ length (conditions_of h.p h.paths) = sym (length-map j.conditions (condition_tree j.pool)) ∙ ap (λ (cs : List ConditionTree). length cs) h.conditions in
+      λ i. record { units = h.units i; paths = h.paths_counted i; conditions = conditions i }
+
+  marks_are : (before now : List Seen) (m : Marks) → AreMarksOf j before now m → AreMarksFor h.p.functions (conditions_of h.p h.paths) before now m
+  marks_are before now m g =
+      subst (λ (cs : List ConditionTree). AreMarksFor h.p.functions cs before now m) h.conditions
+      (subst (λ (fs : List Function). AreMarksFor fs (map (condition_tree j.pool) j.conditions) before now m) functions_are
+      (are_marks j.pool j.definitions j.conditions before now m g.asked g.counts g.small))
+
+  done_found : (before now : List Seen) (text : List ℕ) → IsTextOf j before now text → IsDoneText d bytes before now text
+  done_found before now text t = record {
+    deck = h.deck;
+    r = h.r;
+    p = h.p;
+    paths = h.paths;
+    marks = t.marks;
+    accepted = h.accepted;
+    marked = marks_are before now t.marks t.given;
+    is = t.is ∙ ap (λ (fs : List Function). event_text fs (map (condition_tree j.pool) j.conditions) t.marks) functions_are
+        ∙ ap (λ (cs : List ConditionTree). event_text h.p.functions cs t.marks) h.conditions;
+  }
+
+  check_found : (text : List ℕ) → text ≡ accepted_line (sizes_found j) → IsCheckText d bytes text
+  check_found text is = record { deck = h.deck; r = h.r; p = h.p; paths = h.paths; accepted = h.accepted; is = is ∙ ap accepted_line sizes_are }
+
+  try_found : (text : List ℕ) → text ≡ try_text (functions_of j.pool j.definitions) (map (condition_tree j.pool) j.conditions) 1 j.tries → IsTryText d bytes text
+  try_found text is = record {
+    deck = h.deck;
+    r = h.r;
+    p = h.p;
+    paths = h.paths;
+    accepted = h.accepted;
+    is = is ∙ ap (λ (fs : List Function). try_text fs (map (condition_tree j.pool) j.conditions) 1 j.tries) functions_are
+        ∙ ap (λ (cs : List ConditionTree). try_text h.p.functions cs 1 j.tries) h.conditions
+        ∙ ap (λ (ts : List TryCard). try_text h.p.functions (conditions_of h.p h.paths) 1 ts) h.tries;
+  }
+
+made_found : (n : ℕ) (bytes : List ℕ) (j : Judged) (before now : List Seen) (text : List ℕ) → IsJudgedIn (dialect_of (Made n)) bytes j → IsMadeOf n j before now text → IsMadeText n bytes before now text
+made_found n bytes j before now text h t = record {
+  deck = h.deck;
+  r = h.r;
+  p = h.p;
+  paths = h.paths;
+  marks = t.marks;
+  accepted = h.accepted;
+  marked = marks_are (dialect_of (Made n)) bytes j h before now t.marks t.given;
+  is = t.is ∙ ap (λ (s : Sizes). made_line n s (count_of_marked t.marks.letters)) (sizes_are (dialect_of (Made n)) bytes j h);
+}
+
+-- what is written of what is found of bytes is written for these bytes
+reply_found : (c : Command) (bytes : List ℕ) (j : Judged) (before now : List Seen) (text : List ℕ) → IsJudgedIn (dialect_of c) bytes j → IsReplyOf c j before now text → IsReply c bytes before now text
+reply_found (OfDeck Vc d) bytes j before now text h t = done_found d bytes j h before now text t
+reply_found (OfDeck Check d) bytes j before now text h t = check_found d bytes j h text t
+reply_found (OfDeck Try d) bytes j before now text h t = try_found d bytes j h text t
+reply_found (Made n) bytes j before now text h t = made_found n bytes j before now text h t
+
+module _ (c : Command) (d : Dialect) (bytes : List ℕ) (w v : Option (List ℕ)) (same : d ≡ dialect_of c) where
+  pub found_reply : (j : Judged) (before now : List Seen) → IsJudgedIn d bytes j → AppendsOf (IsReplyOf c j before now) w v → AppendsOf (IsReply c bytes before now) w v
+  found_reply j before now h t = (t.0, reply_found c bytes j before now t.0 (subst (λ (x : Dialect). IsJudgedIn x bytes j) same h) t.1, t.2)
+
+  pub found_part : (j : Judged) (before now : List Seen) → IsJudgedIn d bytes j → AppendsPartOf (IsReplyOf c j before now) w v → AppendsPartOf (IsEither c bytes before now) w v
+  found_part j before now h t = (t.0, inl (reply_found c bytes j before now t.0 (subst (λ (x : Dialect). IsJudgedIn x bytes j) same h) t.1), t.2)
+
+  -- the line of the first fault
+  fault_text : (f : Fault) → IsFirstFaultIn d bytes f → IsRefusedText (dialect_of c) bytes (fault_line f)
+  fault_text f h = record { fault = f; first = subst (λ (x : Dialect). IsFirstFaultIn x bytes f) same h; is = refl }
+
+  pub found_fault : (f : Fault) → IsFirstFaultIn d bytes f → Appends w v (fault_line f) → AppendsOf (IsRefusedText (dialect_of c) bytes) w v
+  found_fault f h written = (fault_line f, fault_text f h, written)
+
+  pub found_fault_part : (f : Fault) (before now : List Seen) → IsFirstFaultIn d bytes f → AppendsPart w v (fault_line f) → AppendsPartOf (IsEither c bytes before now) w v
+  found_fault_part f before now h written = (fault_line f, inr (fault_text f h), written)
 
 -- a text of conditions is sound
 sound_text : (d : Dialect) (bytes : List ℕ) (before now : List Seen) (text : List ℕ) → IsDoneText d bytes before now text → IsSoundText d bytes before now text
@@ -81,60 +151,97 @@ sound_text d bytes before now text h =
 
 -- ---- what is written for the bytes that are read is written for all bytes
 
-refused_text : (d : Dialect) (front bytes text : List ℕ) → front ≡ take most_read bytes → IsRefusedText d front text → IsRefusedText d bytes text
-refused_text d front bytes text e h = record { fault = h.fault; first = fault_of_front d front bytes h.fault e h.first; is = h.is }
+module _ (front bytes : List ℕ) (e : front ≡ take most_read bytes) where
+  refused_text : (d : Dialect) (text : List ℕ) → IsRefusedText d front text → IsRefusedText d bytes text
+  refused_text d text h = record { fault = h.fault; first = fault_of_front d front bytes h.fault e h.first; is = h.is }
 
-pub refused_for : (c d : Dialect) (front bytes : List ℕ) (w v : Option (List ℕ)) → c ≡ d → front ≡ take most_read bytes
-    → AppendsOf (IsRefusedText c front) w v → AppendsOf (IsRefusedText d bytes) w v
-refused_for c d front bytes w v same e h = subst (λ (x : Dialect). AppendsOf (IsRefusedText x bytes) w v) same (h.0, refused_text c front bytes h.0 e h.1, h.2)
+  module _ (before now : List Seen) where
+    reply_text : (c : Command) (text : List ℕ) → IsReply c front before now text → IsReply c bytes before now text
+    reply_text (OfDeck Vc d) text h = record {
+      deck = h.deck;
+      r = h.r;
+      p = h.p;
+      paths = h.paths;
+      marks = h.marks;
+      accepted = accepted_of_front d front bytes h.deck h.r h.p h.paths e h.accepted;
+      marked = h.marked;
+      is = h.is;
+    }
+    reply_text (OfDeck Check d) text h = record { deck = h.deck; r = h.r; p = h.p; paths = h.paths; accepted = accepted_of_front d front bytes h.deck h.r h.p h.paths e h.accepted; is = h.is }
+    reply_text (OfDeck Try d) text h = record { deck = h.deck; r = h.r; p = h.p; paths = h.paths; accepted = accepted_of_front d front bytes h.deck h.r h.p h.paths e h.accepted; is = h.is }
+    reply_text (Made n) text h = record {
+      deck = h.deck;
+      r = h.r;
+      p = h.p;
+      paths = h.paths;
+      marks = h.marks;
+      accepted = accepted_of_front (dialect_of (Made n)) front bytes h.deck h.r h.p h.paths e h.accepted;
+      marked = h.marked;
+      is = h.is;
+    }
 
-module _ (before now : List Seen) where
-  done_text : (d : Dialect) (front bytes text : List ℕ) → front ≡ take most_read bytes → IsDoneText d front before now text → IsDoneText d bytes before now text
-  done_text d front bytes text e h = record {
-    deck = h.deck;
-    r = h.r;
-    p = h.p;
-    paths = h.paths;
-    marks = h.marks;
-    accepted = accepted_of_front d front bytes h.deck h.r h.p h.paths e h.accepted;
-    marked = h.marked;
-    is = h.is;
-  }
+    either_text : (c : Command) (text : List ℕ) → IsEither c front before now text → IsEither c bytes before now text
+    either_text c text (inl h) = inl (reply_text c text h)
+    either_text c text (inr h) = inr (refused_text (dialect_of c) text h)
 
-  either_text : (d : Dialect) (front bytes text : List ℕ) → front ≡ take most_read bytes → IsDoneText d front before now text ⊎ IsRefusedText d front text
-      → IsDoneText d bytes before now text ⊎ IsRefusedText d bytes text
-  either_text d front bytes text e (inl h) = inl (done_text d front bytes text e h)
-  either_text d front bytes text e (inr h) = inr (refused_text d front bytes text e h)
+    pub front_reply : (c : Command) (w v : Option (List ℕ)) → AppendsOf (IsReply c front before now) w v → AppendsOf (IsReply c bytes before now) w v
+    front_reply c w v h = (h.0, reply_text c h.0 h.1, h.2)
 
-  pub done_for : (c d : Dialect) (front bytes : List ℕ) (w v : Option (List ℕ)) → c ≡ d → front ≡ take most_read bytes
-      → AppendsOf (IsDoneText c front before now) w v → AppendsOf (IsDoneText d bytes before now) w v
-  done_for c d front bytes w v same e h =
-      subst (λ (x : Dialect). AppendsOf (IsDoneText x bytes before now) w v) same (h.0, done_text c front bytes h.0 e h.1, h.2)
+    pub front_part : (c : Command) (w v : Option (List ℕ)) → AppendsPartOf (IsEither c front before now) w v → AppendsPartOf (IsEither c bytes before now) w v
+    front_part c w v h = (h.0, either_text c h.0 h.1, h.2)
 
-  pub part_for : (c d : Dialect) (front bytes : List ℕ) (w v : Option (List ℕ)) → c ≡ d → front ≡ take most_read bytes
-      → AppendsPartOf (λ text. IsDoneText c front before now text ⊎ IsRefusedText c front text) w v
-      → AppendsPartOf (λ text. IsDoneText d bytes before now text ⊎ IsRefusedText d bytes text) w v
-  part_for c d front bytes w v same e h =
-      subst (λ (x : Dialect). AppendsPartOf (λ text. IsDoneText x bytes before now text ⊎ IsRefusedText x bytes text) w v) same
-      (h.0, either_text c front bytes h.0 e h.1, h.2)
+  pub front_refused : (d : Dialect) (w v : Option (List ℕ)) → AppendsOf (IsRefusedText d front) w v → AppendsOf (IsRefusedText d bytes) w v
+  front_refused d w v h = (h.0, refused_text d h.0 h.1, h.2)
 
-  pub sound_for : (d : Dialect) (bytes : List ℕ) (w v : Option (List ℕ)) → AppendsOf (IsDoneText d bytes before now) w v → AppendsOf (IsSoundText d bytes before now) w v
-  sound_for d bytes w v h = (h.0, sound_text d bytes before now h.0 h.1, h.2)
+pub sound_for : (d : Dialect) (bytes : List ℕ) (before now : List Seen) (w v : Option (List ℕ)) → AppendsOf (IsDoneText d bytes before now) w v → AppendsOf (IsSoundText d bytes before now) w v
+sound_for d bytes before now w v h = (h.0, sound_text d bytes before now h.0 h.1, h.2)
 
 -- ---- a call
 
--- the words ask for one dialect
-pub asked_is : (o p : Option Dialect) (c d : Dialect) → o ≡ Some c → o ≡ p → p ≡ Some d → c ≡ d
-asked_is o p c d first same second = cc (first, same, second)
+-- the words ask for one thing
+pub asked_is : (o p : Option Command) (a x : Command) → o ≡ Some a → o ≡ p → p ≡ Some x → a ≡ x
+asked_is o p a x first same second = cc (first, same, second)
+
+module _ (a x : Command) (same : a ≡ x) (bytes : List ℕ) (left : Option (List ℕ)) where
+  -- the deck that is read
+  module _ (t : Task) (d : Dialect) (is : a ≡ OfDeck t d) (h : IsDeckOf x left bytes) where
+    pub told_deck : left ≡ Some bytes
+    told_deck = subst (λ (c : Command). IsDeckOf c left bytes) (sym same ∙ is) h
+
+    pub taken_deck : (rest : Option (List ℕ)) → rest ≡ Some (drop most_read bytes) → IsTakenOf x bytes rest
+    taken_deck rest e = subst (λ (c : Command). IsTakenOf c bytes rest) (sym is ∙ same) e
+
+    pub read_well : (m n : ℕ) → IsReadWell x m n → ¬ Rose m n
+    read_well m n well = subst (λ (c : Command). IsReadWell c m n) (sym same ∙ is) well
+
+    pub of_deck : (P : Command → List ℕ → Type 0) → P a bytes → P x bytes
+    of_deck P text = subst (λ (c : Command). P c bytes) same text
+
+  -- the made deck of a number
+  module _ (n : ℕ) (is : a ≡ Made n) (h : IsDeckOf x left bytes) where
+    made_given : (bytes ≡ made_deck n) × IsMadeNumber n
+    made_given = subst (λ (c : Command). IsDeckOf c left bytes) (sym same ∙ is) h
+
+    pub taken_made : (rest : Option (List ℕ)) → IsTakenOf x bytes rest
+    taken_made rest = subst (λ (c : Command). IsTakenOf c bytes rest) (sym is ∙ same) tt
+
+    pub of_made : (P : Command → List ℕ → Type 0) → (IsMadeNumber n → P (Made n) (made_deck n)) → P x bytes
+    of_made P text = subst (λ (c : Command). P c bytes) (sym is ∙ same) (subst (P (Made n)) (sym made_given.0) (text made_given.1))
 
 -- bytes that are accepted are not refused
 pub never_refused : (d : Dialect) (bytes : List ℕ) (deck : Deck) (r : Remarks) (p : Program) (paths : List (List Path)) (w v : Option (List ℕ)) → IsAcceptedIn d bytes deck r p paths
     → ¬ AppendsOf (IsRefusedText d bytes) w v
 never_refused d bytes deck r p paths w v is h = let text = h.1 in accepted_in_have_no_fault d bytes deck r p paths text.fault is text.first
 
+fault_and_reply : (c : Command) (bytes : List ℕ) (f : Fault) (before now : List Seen) (text : List ℕ) → IsFirstFaultIn (dialect_of c) bytes f → ¬ IsReply c bytes before now text
+fault_and_reply (OfDeck Vc d) bytes f before now text is h = accepted_in_have_no_fault d bytes h.deck h.r h.p h.paths f h.accepted is
+fault_and_reply (OfDeck Check d) bytes f before now text is h = accepted_in_have_no_fault d bytes h.deck h.r h.p h.paths f h.accepted is
+fault_and_reply (OfDeck Try d) bytes f before now text is h = accepted_in_have_no_fault d bytes h.deck h.r h.p h.paths f h.accepted is
+fault_and_reply (Made n) bytes f before now text is h = accepted_in_have_no_fault (dialect_of (Made n)) bytes h.deck h.r h.p h.paths f h.accepted is
+
 -- bytes with a fault are not done
-pub never_done : (d : Dialect) (bytes : List ℕ) (f : Fault) (before now : List Seen) (w v : Option (List ℕ)) → IsFirstFaultIn d bytes f → ¬ AppendsOf (IsDoneText d bytes before now) w v
-never_done d bytes f before now w v is h = let text = h.1 in accepted_in_have_no_fault d bytes text.deck text.r text.p text.paths f text.accepted is
+pub never_done : (c : Command) (bytes : List ℕ) (f : Fault) (before now : List Seen) (w v : Option (List ℕ)) → IsFirstFaultIn (dialect_of c) bytes f → ¬ AppendsOf (IsReply c bytes before now) w v
+never_done c bytes f before now w v is h = fault_and_reply c bytes f before now h.0 is h.1
 
 abbrev IsAnswer : Status → Type 0
 IsAnswer s = (s ≡ Done) ⊎ ((s ≡ Refused) ⊎ ((s ≡ WriteFault) ⊎ (s ≡ Starved)))
@@ -150,3 +257,8 @@ refused_or_starved s (inl is) done failed = absurd (done is)
 refused_or_starved s (inr (inl refused)) done failed = inl refused
 refused_or_starved s (inr (inr (inl is))) done failed = absurd (failed is)
 refused_or_starved s (inr (inr (inr starved))) done failed = inr starved
+
+-- a source that is read may fail too
+pub no_read_fault : (s : Status) → (s ≡ ReadFault) ⊎ IsAnswer s → ¬ (s ≡ ReadFault) → IsAnswer s
+no_read_fault s (inl is) never = absurd (never is)
+no_read_fault s (inr h) never = h

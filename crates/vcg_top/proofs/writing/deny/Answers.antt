@@ -1,4 +1,4 @@
-use Rattle.vcg_top.proofs.answering.deny.Goals as goal
+use Rattle.vcg_top.proofs.writing.deny.Goals as goal
 
 pub returns-in-Broken-clause-refused : goal.returns-in-Broken-clause-refused
 returns-in-Broken-clause-refused g c is = (c.in-Broken.fault, c.in-Broken.is, c.refuse.ensures.refused is)

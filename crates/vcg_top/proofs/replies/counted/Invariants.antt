@@ -1,5 +1,5 @@
 use Rattle.std.proofs.Common.{ℕ, ◌<◌, slice_index_or}
-use Rattle.vcg_top.proofs.answering.counted.Given as goal
+use Rattle.vcg_top.proofs.replies.counted.Given as goal
 
 -- the counts so far are small
 abbrev pub invariant-loop-i : goal.invariant-loop-i
