@@ -1,0 +1,8 @@
+//! The state of a run, in numbers, and what it shows of where the run stands.
+#![tactic(auto)]
+
+mod machine;
+mod rows;
+
+pub use machine::{Extent, Frame, Item, Setting, Stage, State};
+pub use rows::Row;
