@@ -1,5 +1,5 @@
 -- What instructions in slots and points stand for.
-use Rattle.std.specs.Prelude.{ℕ, ◌-◌, List, [], ◌∷◌, ◌++◌, map, take, drop, length, Option, Some, None, get_or}
+use Rattle.std.specs.Prelude.{ℕ, ◌+◌, ◌-◌, List, [], ◌∷◌, ◌++◌, map, take, drop, length, Option, Some, None, get_or}
 use Rattle.fort_syntax.specs.Names as names_of
 use Rattle.fort_syntax.specs.declared.name.Name.{Name}
 use Rattle.fort_syntax.specs.declared.stmt.Dim.{Dim}
@@ -112,7 +112,7 @@ seen slots tests calls targets (Tests card place) = code.test_loops card (out_of
 seen slots tests calls targets (Jump point) = code.jump point
 seen slots tests calls targets Turn = code.turn
 seen slots tests calls targets (Signs place) = code.signs (get_or targets place 0) (get_or targets (place + 1) 0) (get_or targets (place + 2) 0)
-seen slots tests calls targets (Ways yes no) = code.ways yes no
+seen slots tests calls targets (Ways q r) = code.ways q r
 seen slots tests calls targets (Choose place count) = code.choose (take count (drop place targets))
 seen slots tests calls targets (BeginDo slot point) = code.begin_do (name_at slots slot) point
 seen slots tests calls targets ResultOf = code.result_of

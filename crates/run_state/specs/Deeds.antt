@@ -1,5 +1,5 @@
 -- What parts of a run do to a state.
-use Rattle.std.specs.Prelude.{ℕ, zero, suc, ◌+◌, List, [], ◌∷◌, take, drop}
+use Rattle.std.specs.Prelude.{ℕ, zero, suc, ◌+◌, List, [], ◌∷◌, slice_index_or}
 use Rattle.formula.specs.declared.value.Cell.{Cell}
 use Rattle.formula.specs.declared.value.Cell.TheVariants.{Undefined}
 use Rattle.fort_syntax.specs.declared.condition.Kind.{Kind}
@@ -34,6 +34,11 @@ abbrev pub size_in : Item → ℕ
 size_in (Fresh c) = 1
 size_in (Cells e) = e.size
 
+-- the values of several
+abbrev pub values_in : List Item → List Cell
+values_in [] = []
+values_in (x ∷ xs) = value_in x ∷ values_in xs
+
 -- the newest item, and the ones below it
 abbrev pub first_in : List Item → Item
 first_in items = first_or no_item items
@@ -52,6 +57,10 @@ newest_in (suc n) items acc = newest_in n (behind items) (first_in items ∷ acc
 abbrev pub under_in : ℕ → List Item → List Item
 under_in zero items = items
 under_in (suc n) items = under_in n (behind items)
+
+-- the cells of the name of a slot of the unit that is being run
+abbrev pub extent_at : State → ℕ → Extent
+extent_at m slot = slice_index_or m.extents.items (m.frame.extents + slot) no_cells
 
 -- ---- changes
 

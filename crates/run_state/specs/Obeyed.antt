@@ -1,5 +1,5 @@
 -- What it is to do what an instruction says.
-use Rattle.std.specs.Prelude.{ℕ, suc, ◌≡◌, ◌≤◌, List, [], ◌∷◌, length}
+use Rattle.std.specs.Prelude.{ℕ, suc, ◌≡◌, ◌≤◌, ⊤, List, [], ◌∷◌, length}
 use Rattle.fort_model.specs.Storage.{Storage}
 use Rattle.fort_model.specs.Passing.{Taken}
 use Rattle.run_code.specs.Code as code_of

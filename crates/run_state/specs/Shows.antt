@@ -1,5 +1,5 @@
 -- What a state shows of where a run stands.
-use Rattle.std.specs.Prelude.{ℕ, ◌≡◌, true, List, [], ◌∷◌, ◌++◌, map, drop, length, Some, slice_get, get_or}
+use Rattle.std.specs.Prelude.{ℕ, ◌≡◌, true, false, ⊤, List, [], ◌∷◌, ◌++◌, map, drop, length, Some, slice_get, get_or}
 use Rattle.formula.specs.declared.value.Cell.{Cell}
 use Rattle.fort_syntax.specs.Names.{has_common}
 use Rattle.fort_syntax.specs.declared.name.Name.{Name}

@@ -1,5 +1,5 @@
 // Rows with room for more.
-ghost use Rattle.std.specs.Prelude.{◌≡◌, [], ◌∷◌, ◌++◌, length, take, IfOk, slice_index_or, ◌<◌};
+ghost use Rattle.std.specs.Prelude.{◌≡◌, [], ◌∷◌, ◌++◌, ◌+◌, length, take, IfOk, slice_index_or, ◌<◌};
 
 use std::alloc::{AllocError, Global};
 use std::marker::Model;
@@ -42,6 +42,16 @@ impl<X: Copy + Drop> Row<X> {
         ensures { result ≡ slice_index_or self.now.items place other }
     {
         match self.items.get(place) {
+            Some(item) => *item,
+            None => other,
+        }
+    }
+
+    /// The item so many behind another place; the other one where there is none.
+    pub fn item_behind(&self, place: usize, offset: usize, other: X) -> X
+        ensures { result ≡ slice_index_or self.now.items (place + offset) other }
+    {
+        match self.items.get(place.saturating_add(offset)) {
             Some(item) => *item,
             None => other,
         }

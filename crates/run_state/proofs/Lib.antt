@@ -1,0 +1,4 @@
+pub mod Nearly
+pub mod Items
+pub mod Pieces
+pub mod Arms
