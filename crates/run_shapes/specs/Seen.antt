@@ -1,5 +1,5 @@
 -- What instructions in slots and points stand for.
-use Rattle.std.specs.Prelude.{ℕ, ◌+◌, ◌-◌, List, [], ◌∷◌, ◌++◌, map, take, drop, length, Option, Some, None, get_or}
+use Rattle.std.specs.Prelude.{ℕ, ◌+◌, ◌-◌, List, [], ◌∷◌, map, take, drop, Option, Some, None, get_or}
 use Rattle.fort_syntax.specs.Names as names_of
 use Rattle.fort_syntax.specs.declared.name.Name.{Name}
 use Rattle.fort_syntax.specs.declared.stmt.Dim.{Dim}

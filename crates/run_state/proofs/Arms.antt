@@ -1,5 +1,5 @@
 -- What a state shows behind an instruction, by where the instruction leads.
-use Rattle.std.proofs.Common.{◌≡◌, ℕ, ◌+◌, ◌-◌, ◌<◌, ◌^◌, List, [], ◌∷◌, length, drop, take, map, refl, sym, ap, ◌∙◌, subst, arith}
+use Rattle.std.proofs.Common.{◌≡◌, ℕ, ◌+◌, ◌<◌, ◌^◌, List, drop, map, refl, sym, ap, ◌∙◌}
 use Rattle.formula.specs.declared.value.Cell.{Cell}
 use Rattle.fort_syntax.specs.declared.condition.Kind.{Kind}
 use Rattle.fort_model.specs.Flow.{Loop}
@@ -15,9 +15,8 @@ use Rattle.run_shapes.specs.declared.unit_code.Code.{Code}
 use Rattle.run_rooms.specs.Roomy.{oldest}
 use Rattle.run_state.specs.Near.{far, item_of}
 use Rattle.run_state.specs.Deeds.{with_stage, with_values, with_cells, skipped, gone_to, put_to_test, failed, lost}
-use Rattle.run_state.specs.Shows.{unit_code, World, Shows, ShowsFrame, ShowsUnit, ShowsStatement}
+use Rattle.run_state.specs.Shows.{unit_code, World, Shows, ShowsUnit, ShowsStatement}
 use Rattle.run_state.specs.Obeyed.{ShowsMove}
-use Rattle.run_state.specs.declared.machine.Frame.{Frame}
 use Rattle.run_state.specs.declared.machine.Item.{Item}
 use Rattle.run_state.specs.declared.machine.Stage.{Stage}
 use Rattle.run_state.specs.declared.machine.Stage.TheVariants as stage

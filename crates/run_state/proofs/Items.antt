@@ -1,6 +1,5 @@
 -- Items of a stack, as the machine keeps them.
 use Rattle.std.proofs.Common.{◌≡◌, ℕ, zero, suc, ◌-◌, List, [], ◌∷◌, length, drop, map, refl, sym, ap, ◌∙◌, arith}
-use Rattle.formula.specs.declared.value.Cell.{Cell}
 use Rattle.fort_model.specs.Passing.{Taken, Cells, Fresh}
 use Rattle.run_rooms.specs.Roomy.{behind, oldest}
 use Rattle.run_code.specs.Code.{top, below, cell_of, cells_of, first_of, second_of, third_of, newest, under}

@@ -2,3 +2,5 @@ pub mod Nearly
 pub mod Items
 pub mod Pieces
 pub mod Arms
+pub mod Glue
+pub mod Weights

@@ -3,13 +3,11 @@ use Rattle.std.specs.Prelude.{ℕ, zero, suc, ◌+◌, List, [], ◌∷◌, slic
 use Rattle.formula.specs.declared.value.Cell.{Cell}
 use Rattle.formula.specs.declared.value.Cell.TheVariants.{Undefined}
 use Rattle.fort_syntax.specs.declared.condition.Kind.{Kind}
-use Rattle.fort_model.specs.Storage.{load}
 use Rattle.run_rooms.specs.Roomy.{first_or, behind, oldest}
 use Rattle.run_state.specs.Near.{far}
 use Rattle.run_state.specs.declared.machine.Extent.{Extent}
 use Rattle.run_state.specs.declared.machine.Item.{Item}
 use Rattle.run_state.specs.declared.machine.Item.TheVariants.{Cells, Fresh}
-use Rattle.run_state.specs.declared.machine.Frame.{Frame}
 use Rattle.run_state.specs.declared.machine.Stage.{Stage}
 use Rattle.run_state.specs.declared.machine.Stage.TheVariants as stage
 use Rattle.run_state.specs.declared.machine.State.{State}

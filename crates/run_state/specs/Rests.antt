@@ -1,11 +1,7 @@
 -- What the rest of a run comes to that a state shows, and how states follow one another.
-use Rattle.std.specs.Prelude.{ℕ, zero, suc, ◌+◌, ◌≡◌, ◌<◌, Bool, true, false, ◌||◌, IsTrue, is_some, List, [], ◌∷◌, length, Option, Some, None, slice_get}
-use Rattle.formula.specs.Atoms.{is_among}
+use Rattle.std.specs.Prelude.{ℕ, suc, ◌+◌, ◌≡◌, ◌<◌, Bool, true, false, ◌||◌, IsTrue, is_some, List, [], ◌∷◌, length, Option, Some, None, slice_get}
 use Rattle.formula.specs.declared.value.Cell.{Cell}
-use Rattle.fort_syntax.specs.Names.{has_common}
-use Rattle.fort_syntax.specs.declared.name.Name.{Name}
 use Rattle.fort_syntax.specs.declared.condition.Kind.{Kind}
-use Rattle.fort_syntax.specs.declared.unit.Unit.{Unit as Routine}
 use Rattle.fort_model.specs.Storage.{Storage}
 use Rattle.fort_model.specs.Outcome.{Outcome, Ended, Erred, Running}
 use Rattle.run_frames.specs.Frames.{Runs}

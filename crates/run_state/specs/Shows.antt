@@ -1,10 +1,10 @@
 -- What a state shows of where a run stands.
 use Rattle.std.specs.Prelude.{ℕ, ◌≡◌, true, false, ⊤, List, [], ◌∷◌, ◌++◌, map, drop, length, Some, slice_get, get_or}
-use Rattle.formula.specs.declared.value.Cell.{Cell}
-use Rattle.fort_syntax.specs.Names.{has_common}
+use Rattle.formula.specs.Atoms.{is_among, has_twin}
+use Rattle.fort_syntax.specs.Names.{own_names, commons, has_common}
 use Rattle.fort_syntax.specs.declared.name.Name.{Name}
-use Rattle.fort_syntax.specs.declared.condition.Kind.{Kind}
 use Rattle.fort_syntax.specs.declared.unit.Unit.{Unit as Routine}
+use Rattle.fort_model.specs.CallFacts.{sites_of_unit}
 use Rattle.fort_model.specs.Flow.{Loop}
 use Rattle.fort_model.specs.Storage.{Storage, Environment}
 use Rattle.fort_model.specs.Passing.{Taken}
@@ -14,17 +14,16 @@ use Rattle.run_frames.specs.Frames as frames
 use Rattle.run_frames.specs.Frames.{Waiting}
 use Rattle.run_frames.specs.Configs.{Config, entering, between, inside, carried, testing, ended, erred, nowhere}
 use Rattle.run_shapes.specs.Seen.{piece, seen_in, loops_of, out_of}
-use Rattle.run_shapes.specs.Coded.{slot_names, IsCodeOf}
+use Rattle.run_shapes.specs.Coded.{slot_names, calls_coded, IsCodeOf}
 use Rattle.run_shapes.specs.declared.instr.Instr.{Instr as Coded}
+use Rattle.run_shapes.specs.declared.unit_code.CallCode.{CallCode}
 use Rattle.run_shapes.specs.declared.unit_code.Code.{Code}
-use Rattle.run_shapes.specs.declared.unit_code.LineCode.{LineCode}
 use Rattle.run_shapes.specs.declared.unit_code.UnitCode.{UnitCode}
 use Rattle.run_state.specs.Near.{item_of, segment}
 use Rattle.run_state.specs.Settings.{processor_in}
 use Rattle.run_state.specs.declared.machine.Extent.{Extent}
 use Rattle.run_state.specs.declared.machine.Frame.{Frame}
 use Rattle.run_state.specs.declared.machine.Setting.{Setting}
-use Rattle.run_state.specs.declared.machine.Stage.{Stage}
 use Rattle.run_state.specs.declared.machine.Stage.TheVariants as stage
 use Rattle.run_state.specs.declared.machine.State.{State}
 
@@ -56,10 +55,30 @@ pub record World : Type 0 where
   pub units : List Routine
   pub common : Environment
 
+-- the names that get new cells at each entry
+abbrev pub own_names_of : Routine → List Name
+own_names_of u = map (λ d. d.name) (own_names u)
+
+-- dummies, names with new cells and COMMON entities of a unit are distinct
+pub record HasApartNames (u : Routine) : Type 0 where
+  pub dummies_once : has_twin u.dummies ≡ false
+  pub own_once : has_twin (own_names_of u) ≡ false
+  pub dummies_apart : (x : Name) → is_among x u.dummies ≡ true → is_among x (own_names_of u) ≡ false
+  pub commons_apart : (x : Name) → has_common u x ≡ true → (is_among x u.dummies ≡ false) × (is_among x (own_names_of u) ≡ false)
+  pub commons_held : (x : Name) → is_among x (commons u) ≡ true → has_common u x ≡ true
+
+-- a call in a unit has an actual for each dummy, and each COMMON entity of the called unit is one of the caller too
+pub record IsFitCall (u g : Routine) (call : CallCode) : Type 0 where
+  pub counted : call.actuals ≡ length g.dummies
+  pub handed_on : (x : Name) → has_common g x ≡ true → has_common u x ≡ true
+
 -- what code and a setting stand for
 pub record IsWorldOf (code : Code) (setting : Setting) (w : World) : Type 0 where
   pub run_by : w.processor ≡ processor_in code.dialect setting
   pub coded : IsCodeOf code.dialect w.units code
+  pub apart : (i : ℕ) (u : Routine) → slice_get w.units i ≡ Some u → HasApartNames u
+  pub fit_calls : (i j k : ℕ) (u g : Routine) (call : CallCode) → slice_get w.units i ≡ Some u → slice_get w.units j ≡ Some g
+      → slice_get (calls_coded w.units 1 (sites_of_unit u)) k ≡ Some call → call.callee ≡ Some j → IsFitCall u g call
 
 module _ (w : World) (code : Code) where
   -- the extents of the COMMON entities, and of the names of each unit that waits, the first caller first
