@@ -12,6 +12,9 @@ use Rattle.run_state.specs.declared.machine.Item.TheVariants.{Cells, Fresh}
 use Rattle.run_state.specs.declared.machine.State.{State}
 use Rattle.run_calls.specs.Calls.{all_cells, HasRoomFor, HasRoomToGive, new_size, held_in, handed, given_cells}
 
+abbrev no_items : List Item
+no_items = []
+
 -- the newest so many, from the oldest of them on
 newest_end : (n : ℕ) (items acc : List Item) → drop n (newest_in n items acc) ≡ acc
 newest_end zero items acc = refl
@@ -49,6 +52,20 @@ newest_from (suc n) items acc i (suc k) e =
 -- the item so many below the newest is the next one
 pub next_item : (n i : ℕ) (items : List Item) → i < n → drop i (newest_in n items []) ≡ slice_index_or items (n - 1 - i) no_item ∷ drop (suc i) (newest_in n items [])
 next_item n i items h = newest_from n items [] i (n - 1 - i) (let whole : i + suc (n - 1 - i) ≡ n = omega arith in whole)
+
+-- none is left
+pub newest_done : (i n : ℕ) (items : List Item) → n ≤ i → drop i (newest_in n items []) ≡ []
+newest_done i n items h = none i n (newest_in n items []) (newest_end n items []) h
+  where
+    none : (i n : ℕ) (xs : List Item) → drop n xs ≡ [] → n ≤ i → drop i xs ≡ []
+    none i zero xs e h = ap (drop i) e ∙ nothing i
+      where
+        nothing : (i : ℕ) → drop i (no_items) ≡ []
+        nothing zero = refl
+        nothing (suc i) = refl
+    none zero (suc n) xs e h = absurd (omega arith)
+    none (suc i) (suc n) [] e h = refl
+    none (suc i) (suc n) (x ∷ xs) e h = none i n xs e (omega arith)
 
 -- ---- room
 

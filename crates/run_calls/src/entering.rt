@@ -44,6 +44,16 @@ fn share_all(m: &mut State, places: &[usize])
     }
 }
 
+/// Begins with the first statement of a unit.
+fn begin(m: &mut State)
+    ensures { m.new ≡ begun m.old }
+{
+    m.stage = Stage::Between;
+    m.frame.line = 0;
+    m.frame.before = m.cells.len();
+    m.frame.floor = m.values.len();
+}
+
 /// Enters a unit whose own names have so many cells each, and whose COMMON entities stand at these
 /// places among those of the deck.
 pub fn enter(m: &mut State, sizes: &[usize], shared: &[usize])
@@ -51,10 +61,7 @@ pub fn enter(m: &mut State, sizes: &[usize], shared: &[usize])
     requires cells { length m.old.cells.items + sum sizes.now ≤ m.old.cells.room }
     ensures { m.new ≡ entered sizes.now shared.now m.old }
 {
-    m.stage = Stage::Between;
-    m.frame.line = 0;
-    m.frame.before = m.cells.len();
-    m.frame.floor = m.values.len();
+    begin(m);
     give_all(m, sizes);
     share_all(m, shared);
 }

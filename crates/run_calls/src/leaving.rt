@@ -1,6 +1,6 @@
 // A unit is left.
-ghost use Rattle.std.specs.Prelude.{◌≡◌, ◌≢◌, ◌+◌, ◌<◌, [], length};
-ghost use Rattle.run_calls.specs.Calls.{back_in, cleared, copies_in, given_back, given_back_all, left, new_size, restored, value_at};
+ghost use Rattle.std.specs.Prelude.{◌≡◌, ◌≢◌, ◌+◌, ◌<◌, [], length, slice_get};
+ghost use Rattle.run_calls.specs.Calls.{back_in, cleared, copies_in, given_back, given_back_all, left, new_size, restored, returned, value_at};
 ghost use Rattle.run_state.specs.Deeds.{newest_in, under_in};
 
 use crate::manners::copies;
@@ -82,6 +82,20 @@ fn go_back(m: &mut State, frame: Frame, value: Held)
     m.stage = Stage::Inside;
 }
 
+/// Goes on in the unit of a frame that waited for a call, which has come to a value.
+fn resume(m: &mut State, code: &Code, setting: &Setting, frame: Frame, value: Held)
+    requires { length (under_in frame.actuals m.old.values.items) < m.old.values.room }
+    ensures { m.new ≡ returned setting.now (slice_get code.now.units frame.unit) frame value m.old }
+{
+    match code.units.as_slice().get(frame.unit) {
+        None => m.lose(),
+        Some(caller) => {
+            restore(m, setting, caller, frame);
+            go_back(m, frame, value);
+        }
+    }
+}
+
 /// Leaves a unit.
 pub fn leave(m: &mut State, code: &Code, setting: &Setting, unit: &UnitCode)
     requires { m.old.callers.items ≢ [] → m.old.frame.floor < m.old.values.room }
@@ -91,12 +105,6 @@ pub fn leave(m: &mut State, code: &Code, setting: &Setting, unit: &UnitCode)
     clear(m);
     match m.callers.pop() {
         None => m.stage = Stage::Ended(value),
-        Some(frame) => match code.units.as_slice().get(frame.unit) {
-            None => m.stage = Stage::Nowhere,
-            Some(caller) => {
-                restore(m, setting, caller, frame);
-                go_back(m, frame, value);
-            }
-        },
+        Some(frame) => resume(m, code, setting, frame, value),
     }
 }

@@ -59,11 +59,11 @@ pub fn call(m: &mut State, setting: &Setting, unit: &Name, call: CallCode, calle
 {
     let base = m.cells.len();
     let first = m.extents.len();
-    hand_all(m, setting, unit, call.number, call.actuals);
     let mut frame = m.frame;
     frame.number = call.number;
     frame.actuals = call.actuals;
     frame.base = base;
+    hand_all(m, setting, unit, call.number, call.actuals);
     m.callers.push(frame);
     m.stage = Stage::Entering;
     m.frame = Frame {
