@@ -1,2 +1,4 @@
 pub mod Loops
 pub mod Closed
+pub mod Given
+pub mod Passes
