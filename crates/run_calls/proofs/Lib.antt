@@ -2,3 +2,5 @@ pub mod Loops
 pub mod Closed
 pub mod Given
 pub mod Passes
+pub mod Called
+pub mod Left

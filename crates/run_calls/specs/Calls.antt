@@ -1,9 +1,10 @@
 -- What calls do to a state: how actuals are passed on, units entered and left, and copies written back.
-use Rattle.std.specs.Prelude.{ℕ, zero, suc, ◌+◌, ◌≤◌, Bool, true, false, cond, List, [], ◌∷◌, ◌++◌, length, sum, take, replicate, Option, Some, None, slice_get, slice_index_or}
+use Rattle.std.specs.Prelude.{ℕ, zero, suc, ◌+◌, ◌<◌, ◌≤◌, Bool, true, false, cond, List, [], ◌∷◌, ◌++◌, length, sum, take, replicate, Option, Some, None, slice_get, slice_index_or}
 use Rattle.formula.specs.declared.value.Cell.{Cell}
 use Rattle.formula.specs.declared.value.Cell.TheVariants.{Undefined}
 use Rattle.fort_model.specs.Storage.{load, contents, write}
 use Rattle.run_rooms.specs.Roomy.{oldest}
+use Rattle.run_shapes.specs.declared.unit_code.CallCode.{CallCode}
 use Rattle.run_shapes.specs.declared.unit_code.Code.{Code}
 use Rattle.run_shapes.specs.declared.unit_code.UnitCode.{UnitCode}
 use Rattle.run_state.specs.Near.{far}
@@ -88,6 +89,25 @@ all_cells (x ∷ xs) = size_in x + all_cells xs
 pub record HasRoomFor (xs : List Item) (m : State) : Type 0 where
   pub extents : length m.extents.items + length xs ≤ m.extents.room
   pub cells : length m.cells.items + all_cells xs ≤ m.cells.room
+
+-- a call of a unit, where there is one
+abbrev pub called_at : Setting → UnitCode → CallCode → ℕ → Option UnitCode → State → State
+called_at setting unit call callee None m = lost m
+called_at setting unit call callee (Some g) m = called (copies_by setting.passing unit.name call.number) call.number call.actuals callee m
+
+abbrev pub called_of : Code → Setting → UnitCode → CallCode → Option ℕ → State → State
+called_of code setting unit call None m = lost m
+called_of code setting unit call (Some callee) m = called_at setting unit call callee (slice_get code.units callee) m
+
+-- the call of a place in a unit's table
+abbrev pub referred : Code → Setting → UnitCode → Option CallCode → State → State
+referred code setting unit None m = lost m
+referred code setting unit (Some call) m = called_of code setting unit call call.callee m
+
+-- there is room for a call
+pub record IsReadyFor (m : State) (call : CallCode) : Type 0 where
+  pub actuals : HasRoomFor (newest_in call.actuals m.values.items []) m
+  pub frames : length m.callers.items < m.callers.room
 
 -- ---- entering
 

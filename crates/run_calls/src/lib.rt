@@ -5,7 +5,8 @@ mod entering;
 mod leaving;
 mod manners;
 mod passing;
+mod referring;
 
 pub use entering::enter;
 pub use leaving::leave;
-pub use passing::call;
+pub use referring::refer;

@@ -52,7 +52,7 @@ fn hand_all(m: &mut State, setting: &Setting, unit: &Name, number: usize, count:
 }
 
 /// A unit, whose name is at hand, calls another one, whose number is.
-pub fn call(m: &mut State, setting: &Setting, unit: &Name, call: CallCode, callee: usize)
+pub(crate) fn call(m: &mut State, setting: &Setting, unit: &Name, call: CallCode, callee: usize)
     requires room { HasRoomFor (newest_in call.actuals m.old.values.items []) m.old }
     requires frames { length m.old.callers.items < m.old.callers.room }
     ensures { m.new ≡ called (copies_by setting.now.passing unit.now call.number) call.number call.actuals callee m.old }
