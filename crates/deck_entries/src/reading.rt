@@ -92,10 +92,10 @@ impl Reading {
         ensures notes { OnOk result (self.new.notes.items ≡ self.old.notes.items ++ placed_at self.old.spot card text.now ∷ []) }
         ensures spot { OnOk result (self.new.spot ≡ self.old.spot) }
     {
-        let Ok(text) = text.copied(alloc) else {
+        let Ok(bytes) = Vec::from_slice(alloc, text.as_slice()) else {
             return Err(NoMemory);
         };
-        let note = self.spot.placed(card, text);
+        let note = self.spot.placed(card, List::from_vec(bytes));
         let Ok(()) = self.notes.push(note) else {
             return Err(NoMemory);
         };

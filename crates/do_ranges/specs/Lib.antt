@@ -2,3 +2,4 @@ pub mod Ends
 pub mod Known
 pub mod Clocks
 pub mod Stage
+pub mod Begun

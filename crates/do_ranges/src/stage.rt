@@ -1,8 +1,10 @@
 // The stage of ranges and clocks.
 ghost use Rattle.std.specs.Prelude.{◌≡◌, IsTrue, IfOk, Some, None, Err};
+ghost use Rattle.std.specs.List.{list_any};
 ghost use Rattle.fort_syntax.specs.DeckOrder.{stand_between};
 ghost use Rattle.fort_syntax.specs.declared.refusal.Fault.{Fault};
 ghost use Rattle.fort_syntax.specs.declared.refusal.Refusal.TheVariants.{Broken};
+ghost use Rattle.do_ranges.specs.Begun.{begins_range};
 ghost use Rattle.do_ranges.specs.Stage.{TellsRanges};
 
 use crate::clocks::bad_clock;
@@ -12,20 +14,45 @@ use crate::known::Known;
 use crate::lasts::bad_last;
 use edge_io::NoMemory;
 use fort_notes::UnitSpec;
-use fort_syntax::{Fault, Refusal, Unit};
+use fort_syntax::{Fault, Line, Refusal, Stmt, Unit};
 use std::alloc::Global;
 use unit_faults::sooner;
 
-/// The first fault of a unit in this stage, if it has one.
+/// Whether a range may begin behind a statement: that of a DO, or a block.
+fn begins_range(stmt: &Stmt) -> bool
+    ensures { result ≡ begins_range stmt.now }
+{
+    matches!(
+        stmt,
+        Stmt::Do(..) | Stmt::BlockIf(_) | Stmt::ElseIf(_) | Stmt::Else
+    )
+}
+
+/// Whether a range may begin behind one of some statements.
+fn has_ranges(lines: &[Line]) -> bool
+    ensures { result ≡ list_any (λ line. begins_range line.stmt) lines.now }
+{
+    for line in lines {
+        if begins_range(&line.stmt) {
+            return true;
+        }
+    }
+    false
+}
+
+/// The first fault of a unit in this stage, if it has one. Without ranges it can only be one of a clock.
 fn first_fault(alloc: Global, unit: &Unit, spec: &UnitSpec) -> Result<Option<Fault>, NoMemory>
     requires { IsTrue (stand_between unit.now.head unit.now.lines unit.now.«end») }
     ensures { IfOk result (TellsRanges unit.now spec.now) }
 {
+    let clock = bad_clock(spec.asserts.as_slice());
+    if !has_ranges(unit.lines.as_slice()) {
+        return Ok(clock);
+    }
     let known = Known::new(alloc, unit)?;
     let last = bad_last(unit, &known.labels);
     let crossed = crossed(unit, &known);
     let jump = bad_jump(unit, &known);
-    let clock = bad_clock(spec.asserts.as_slice());
     Ok(sooner(sooner(last, crossed), sooner(jump, clock)))
 }
 

@@ -2,3 +2,4 @@ pub mod Keeping
 pub mod Clearing
 pub mod Reaching
 pub mod Passing
+pub mod WithoutDo

@@ -89,11 +89,18 @@ pub(crate) fn breaks_do(
     Ok(hit)
 }
 
+/// Whether a statement is a DO.
+pub(crate) fn is_do(stmt: &Stmt) -> bool
+    ensures { result ≡ is_do stmt.now }
+{
+    matches!(stmt, Stmt::Do(_, _, _, _, _))
+}
+
 /// Behind a DO more is kept, so that no unit is known any more to smash nothing of it.
 pub(crate) fn forget(alloc: Global, keys: Keys, clear: &mut UnitSet, stmt: &Stmt)
     ensures { clear.new ≡ cond (is_do stmt.now) [] clear.old }
 {
-    if let Stmt::Do(_, _, _, _, _) = stmt {
+    if is_do(stmt) {
         *clear = UnitSet::new(alloc, keys);
     }
 }

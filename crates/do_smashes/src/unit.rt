@@ -1,5 +1,6 @@
 // The statements of a unit, one after the other.
 ghost use Rattle.std.specs.Prelude.{◌≡◌, IfOk};
+ghost use Rattle.std.specs.List.{list_any};
 ghost use Rattle.fort_syntax.specs.WellFormed.{IsWellFormedUnit};
 ghost use Rattle.fort_syntax.specs.declared.dialect.Dialect.{Dialect};
 ghost use Rattle.fort_syntax.specs.declared.rule.Rule.TheVariants.{DoSmashed};
@@ -7,15 +8,16 @@ ghost use Rattle.fort_model.specs.Program.{Program};
 ghost use Rattle.fort_model.specs.Rules.{breaks_do};
 ghost use Rattle.unit_faults.specs.Sooner.{first_at};
 ghost use Rattle.unit_points.specs.Labels.{AreLabelsOf};
+ghost use Rattle.do_smashes.specs.Clear.{is_do};
 ghost use Rattle.do_smashes.specs.Hits.{unit_of, program_of};
 
 use crate::calls::{Caller, Kept};
 use crate::guards::Guards;
 use crate::loops::keep_do;
-use crate::statements::{breaks_do, forget};
+use crate::statements::{breaks_do, forget, is_do};
 use call_sites::{Book, DeckBook};
 use edge_io::{Keys, NoMemory};
-use fort_syntax::{Fault, Rule};
+use fort_syntax::{Fault, Line, Rule};
 use name_tables::NameSet;
 use smash_table::UnitSet;
 use std::alloc::Global;
@@ -59,9 +61,22 @@ fn first_smash(
     Ok(None)
 }
 
+/// Whether there is a DO among some statements.
+fn has_do(lines: &[Line]) -> bool
+    ensures { result ≡ list_any (λ line. is_do line.stmt) lines.now }
+{
+    for line in lines {
+        if is_do(&line.stmt) {
+            return true;
+        }
+    }
+    false
+}
+
 /// The first fault of a unit by rule 29, or None where it keeps it: a statement in the range of a DO smashes a name of that DO,
 /// its variable or one of its parameters; or a DO has its variable as a parameter. The rows have the names that each unit of the
-/// deck smashes. It takes time for each statement and each actual, and for what a called unit smashes, this once between two DOs.
+/// deck smashes. A unit without a DO keeps it. Else it takes time for each statement and each
+/// actual, and for what a called unit smashes, this once between two DOs.
 /// No answer depends on the keys.
 pub fn smashed_in_do(
     alloc: Global,
@@ -73,7 +88,11 @@ pub fn smashed_in_do(
     requires { (d : Dialect) × IsWellFormedUnit d caller.now.unit.now }
     ensures { IfOk result (λ fault. (p : Program) → p.units ≡ deck.now.units.now → p.smashes ≡ rows.now → fault ≡ first_at DoSmashed (breaks_do p caller.now.unit.now) 0 caller.now.unit.now.lines) }
 {
-    let labels = Labels::new(alloc, caller.unit.lines.as_slice())?;
+    let lines = caller.unit.lines.as_slice();
+    if !has_do(lines) {
+        return Ok(None);
+    }
+    let labels = Labels::new(alloc, lines)?;
     let from = Caller {
         deck,
         rows,
