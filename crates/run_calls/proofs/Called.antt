@@ -1,7 +1,7 @@
 -- A call shows where it leads.
-use Rattle.std.proofs.Common.{◌≡◌, ℕ, zero, suc, ◌+◌, ◌<◌, ◌≤◌, ◌^◌, Bool, true, false, List, [], ◌∷◌, ◌++◌, length, map, take, Option, Some, None, slice_get, refl, sym, ap, ◌∙◌, subst, arith}
+use Rattle.std.proofs.Common.{◌≡◌, ℕ, zero, suc, ◌+◌, ◌<◌, ◌≤◌, ◌^◌, Bool, true, List, [], ◌∷◌, ◌++◌, length, map, take, Option, Some, None, slice_get, refl, sym, ap, ◌∙◌, subst, arith}
 use Rattle.std.specs.Prelude.{get_or}
-use Rattle.std.proofs.lemmas.Option.{slice_get_within, get_or_from_slice_get}
+use Rattle.std.proofs.lemmas.Option.{get_or_from_slice_get}
 use Rattle.std.proofs.lemmas.List.{take_all}
 use Rattle.fort_syntax.specs.Names.{unit_at, has_common}
 use Rattle.fort_syntax.specs.declared.name.Name.{Name}
@@ -13,7 +13,6 @@ use Rattle.run_code.specs.Code.{Instr, top, below, newest}
 use Rattle.run_moves.specs.Moves.{passed_on, to_call, calling, moved}
 use Rattle.run_frames.specs.Frames as frames
 use Rattle.run_frames.specs.Frames.{Waiting, scene_at}
-use Rattle.run_frames.specs.Configs.{entering}
 use Rattle.run_shapes.specs.Seen.{call_at, refer_by}
 use Rattle.run_shapes.specs.Coded.{slot_names}
 use Rattle.run_shapes.specs.declared.instr.Instr.TheVariants.{Refer}
@@ -23,15 +22,13 @@ use Rattle.run_shapes.specs.declared.unit_code.UnitCode.{UnitCode}
 use Rattle.run_state.specs.Near.{shortened, item_of, segment}
 use Rattle.run_state.specs.Settings.{copies_by}
 use Rattle.run_state.specs.Deeds.{newest_in, lost}
-use Rattle.run_state.specs.Shows.{unit_code, World, IsWorldOf, IsFitCall, HasApartNames, Shows, ShowsStatement, ShowsUnit, segments}
+use Rattle.run_state.specs.Shows.{unit_code, World, IsWorldOf, IsFitCall, ShowsStatement, ShowsUnit, segments}
 use Rattle.run_state.specs.Obeyed.{ShowsMove, Obeys}
-use Rattle.run_state.specs.declared.machine.Item.{Item}
 use Rattle.run_state.specs.declared.machine.Setting.{Setting}
-use Rattle.run_state.specs.declared.machine.Stage.TheVariants as stage
 use Rattle.run_state.specs.declared.machine.State.{State}
 use Rattle.run_state.proofs.Items.{newest_kept}
 use Rattle.run_state.proofs.Slots.{unit_there, coded_shown}
-use Rattle.run_calls.specs.Calls.{put_off, handed_all, called, called_at, called_of, referred}
+use Rattle.run_calls.specs.Calls.{put_off, called, called_at, called_of, referred}
 use Rattle.run_calls.proofs.Closed.{laid, seats_in, news_in, handed_closed}
 use Rattle.run_calls.proofs.Given.{each_given, not_given, map_twice}
 use Rattle.run_calls.proofs.Passes.{seats_kept, seats_long, news_kept}

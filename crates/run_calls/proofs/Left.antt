@@ -1,17 +1,16 @@
 -- A unit that is left shows where its caller goes on.
-use Rattle.std.proofs.Common.{◌≡◌, ℕ, zero, suc, ◌+◌, ◌<◌, ◌≤◌, ◌^◌, Bool, true, false, cond, List, [], ◌∷◌, ◌++◌, length, map, take, Option, Some, None, slice_get, slice_index_or, refl, sym, ap, ◌∙◌, subst, arith}
+use Rattle.std.proofs.Common.{◌≡◌, ℕ, zero, suc, ◌<◌, ◌≤◌, ◌^◌, Bool, true, false, cond, List, [], ◌∷◌, length, map, take, Option, Some, None, slice_get, slice_index_or, refl, sym, ap, ◌∙◌, subst, arith}
 use Rattle.std.proofs.lemmas.List.{take-append-le, take_all}
 use Rattle.std.proofs.lemmas.Option.{slice_get_within, get_or_from_slice_get}
-use Rattle.formula.specs.declared.value.Cell.{Cell}
 use Rattle.formula.specs.declared.value.Cell.TheVariants.{Undefined}
 use Rattle.fort_syntax.specs.Names.{is_function}
 use Rattle.fort_syntax.specs.declared.name.Name.{Name}
 use Rattle.fort_syntax.specs.declared.unit.Line.{Line}
 use Rattle.fort_model.specs.Storage.{Storage, load}
-use Rattle.fort_model.specs.Passing.{Taken, Fresh, passed, written_back}
+use Rattle.fort_model.specs.Passing.{Taken, written_back}
 use Rattle.fort_model.specs.Processor.{Processor}
 use Rattle.fort_model.specs.Run.{own_value}
-use Rattle.run_code.specs.Code.{newest, under}
+use Rattle.run_code.specs.Code.{newest}
 use Rattle.run_moves.specs.Moves.{passed_on}
 use Rattle.run_frames.specs.Frames as frames
 use Rattle.run_frames.specs.Frames.{Waiting, lowest, scene_at}
@@ -22,7 +21,7 @@ use Rattle.run_shapes.specs.Coded.{slot_names, IsUnitCodeOf}
 use Rattle.run_shapes.specs.Seen.{name_at}
 use Rattle.run_shapes.specs.declared.unit_code.Code.{Code}
 use Rattle.run_shapes.specs.declared.unit_code.UnitCode.{UnitCode}
-use Rattle.run_state.specs.Near.{far, item_of, shortened, segment}
+use Rattle.run_state.specs.Near.{far, item_of, segment}
 use Rattle.run_state.specs.Settings.{copies_by}
 use Rattle.run_state.specs.Deeds.{extent_at, newest_in, under_in}
 use Rattle.run_state.specs.Shows.{unit_code, World, IsWorldOf, Shows, ShowsCallers, ShowsUnit, segments}
@@ -37,7 +36,7 @@ use Rattle.run_state.proofs.Items.{lowest_kept, newest_kept, under_kept}
 use Rattle.run_state.proofs.Slots.{unit_there, unit_coded, coded_shown, slot_shown}
 use Rattle.run_state.proofs.Glue.{works_so}
 use Rattle.run_state.proofs.Stages.{when_between}
-use Rattle.run_calls.specs.Calls.{value_at, cleared, ended_with, popped, back_in, copies_in, restored, returned, left_by, left}
+use Rattle.run_calls.specs.Calls.{value_at, cleared, popped, back_in, copies_in, returned, left_by, left}
 use Rattle.run_calls.proofs.Closed.{backs_in, back_closed}
 use Rattle.run_calls.proofs.Passes.{backs_kept}
 

@@ -4,3 +4,4 @@ pub mod Given
 pub mod Passes
 pub mod Called
 pub mod Left
+pub mod Entered

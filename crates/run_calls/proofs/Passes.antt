@@ -1,12 +1,9 @@
 -- Actuals are passed on and written back as in the model.
-use Rattle.std.proofs.Common.{◌≡◌, ℕ, zero, suc, ◌+◌, ◌-◌, ◌<◌, ◌^◌, min, Bool, true, false, List, [], ◌∷◌, ◌++◌, length, map, refl, sym, ap, ◌∙◌, arith}
-use Rattle.formula.specs.declared.value.Cell.{Cell}
-use Rattle.fort_model.specs.Storage as storage
+use Rattle.std.proofs.Common.{◌≡◌, ℕ, suc, ◌+◌, ◌<◌, ◌^◌, Bool, true, false, List, [], ◌∷◌, ◌++◌, length, map, refl, sym, ap, ◌∙◌, arith}
 use Rattle.fort_model.specs.Storage.{Storage, contents, write}
 use Rattle.fort_model.specs.Passing.{Taken, Cells, Fresh, Passed, passed_by, passed, seats, new_cells, written_back}
 use Rattle.fort_laws.proofs.StorageLaws.{length-write}
 use Rattle.run_state.specs.Near.{far, shortened, item_of}
-use Rattle.run_state.specs.declared.machine.Extent.{Extent}
 use Rattle.run_state.proofs.Nearly.{contents_far, write_far}
 use Rattle.run_calls.specs.Calls.{new_size, seat}
 use Rattle.run_calls.proofs.Closed.{seats_in, held_from, news_in, back_from, backs_in}

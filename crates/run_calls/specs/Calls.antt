@@ -1,8 +1,10 @@
 -- What calls do to a state: how actuals are passed on, units entered and left, and copies written back.
-use Rattle.std.specs.Prelude.{ℕ, zero, suc, ◌+◌, ◌<◌, ◌≤◌, Bool, true, false, cond, List, [], ◌∷◌, ◌++◌, length, sum, take, replicate, Option, Some, None, slice_get, slice_index_or}
+use Rattle.std.specs.Prelude.{ℕ, suc, ◌+◌, ◌≡◌, ◌<◌, ◌≤◌, Bool, true, false, cond, List, [], ◌∷◌, ◌++◌, length, sum, take, replicate, Option, Some, None, slice_get, slice_index_or}
 use Rattle.formula.specs.declared.value.Cell.{Cell}
 use Rattle.formula.specs.declared.value.Cell.TheVariants.{Undefined}
-use Rattle.fort_model.specs.Storage.{load, contents, write}
+use Rattle.fort_syntax.specs.declared.unit.Unit.{Unit as Routine}
+use Rattle.fort_model.specs.Run.{own_sizes}
+use Rattle.fort_model.specs.Storage.{Storage, Environment, load, contents, write}
 use Rattle.run_rooms.specs.Roomy.{oldest}
 use Rattle.run_shapes.specs.declared.unit_code.CallCode.{CallCode}
 use Rattle.run_shapes.specs.declared.unit_code.Code.{Code}
@@ -141,6 +143,10 @@ begun m = record m { stage = stage.Between; frame = record m.frame { line = 0; b
 -- a unit is entered whose own names have so many cells, with these COMMON entities
 abbrev pub entered : List ℕ → List ℕ → State → State
 entered sizes shared m = shared_all shared (given_all sizes (begun m))
+
+-- the unit of a number has own names with so many cells each, whatever it is entered with
+abbrev pub AreSizesOf : List Routine → ℕ → List ℕ → Type 0
+AreSizesOf units i sizes = (g : Routine) → slice_get units i ≡ Some g → (env : Environment) (st : Storage) → sizes ≡ own_sizes g env st
 
 -- ---- leaving
 

@@ -2,7 +2,7 @@
 ghost use Rattle.std.specs.Prelude.{◌≡◌, ◌+◌, ◌≤◌, ◌<◌, length, sum};
 ghost use Rattle.run_calls.specs.Calls.{HasRoomToGive, begun, entered, given_all, given_cells, shared_all, shared_one};
 
-use run_state::{no_cells, Extent, Stage, State};
+use run_state::{Extent, Stage, State, no_cells};
 
 /// A name gets so many new cells.
 fn give(m: &mut State, size: usize)

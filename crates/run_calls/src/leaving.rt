@@ -6,7 +6,7 @@ ghost use Rattle.run_state.specs.Deeds.{newest_in, under_in};
 use crate::manners::copies;
 use run_held::Held;
 use run_shapes::{Code, UnitCode};
-use run_state::{no_item, Frame, Item, Setting, Stage, State};
+use run_state::{Frame, Item, Setting, Stage, State, no_item};
 
 /// The value of a unit, which is about to be left.
 fn value(m: &State, unit: &UnitCode) -> Held
@@ -33,13 +33,7 @@ fn size(copy: bool, item: &Item) -> usize
 {
     match *item {
         Item::Fresh(_) => 1,
-        Item::Cells(extent) => {
-            if copy {
-                extent.size
-            } else {
-                0
-            }
-        }
+        Item::Cells(extent) => { if copy { extent.size } else { 0 } }
     }
 }
 
@@ -60,9 +54,7 @@ fn restore(m: &mut State, setting: &Setting, unit: &UnitCode, frame: Frame)
 {
     let mut next = frame.base;
     for i in 0..frame.actuals {
-        let item = m
-            .values
-            .below_or(frame.actuals - 1 - i, no_item());
+        let item = m.values.below_or(frame.actuals - 1 - i, no_item());
         let copy = copies(setting, &unit.name, frame.number, i + 1);
         give_back(m, copy, &item, next);
         next = next.saturating_add(size(copy, &item));

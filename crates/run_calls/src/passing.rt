@@ -7,7 +7,7 @@ ghost use Rattle.run_state.specs.Settings.{copies_by};
 use crate::manners::copies;
 use fort_syntax::Name;
 use run_shapes::CallCode;
-use run_state::{no_item, Extent, Frame, Item, Setting, Stage, State};
+use run_state::{Extent, Frame, Item, Setting, Stage, State, no_item};
 
 /// Passes an actual on, in a call before which there were `base` cells.
 fn hand(m: &mut State, copy: bool, item: Item, base: usize)
@@ -43,9 +43,7 @@ fn hand_all(m: &mut State, setting: &Setting, unit: &Name, number: usize, count:
 {
     let base = m.cells.len();
     for i in 0..count {
-        let item = m
-            .values
-            .below_or(count - 1 - i, no_item());
+        let item = m.values.below_or(count - 1 - i, no_item());
         let copy = copies(setting, unit, number, i + 1);
         hand(m, copy, item, base);
     }

@@ -1,5 +1,4 @@
-use Rattle.std.proofs.Common.{◌≡◌, ◌+◌, ◌≤◌, ◌++◌, List, map, length, subst, sym, ap, ◌∙◌, arith, length-append}
-use Rattle.std.proofs.lemmas.List.{length-map}
+use Rattle.std.proofs.Common.{◌≡◌, ◌+◌, ◌≤◌, ◌++◌, map, length, subst, sym, ap, ◌∙◌, arith, length-append}
 use Rattle.fort_model.specs.Storage.{side_by_side}
 use Rattle.run_state.specs.Near.{shortened}
 use Rattle.run_state.specs.declared.machine.State.{State}

@@ -1,4 +1,4 @@
-use Rattle.std.proofs.Common.{◌≡◌, ◌-◌, ◌<◌, ◌∷◌, List, length, take, subst, sym, ap, ◌∙◌, arith}
+use Rattle.std.proofs.Common.{◌-◌, ◌<◌, ◌∷◌, List, length, subst, sym, ap, ◌∙◌}
 use Rattle.formula.specs.declared.value.Cell.{Cell}
 use Rattle.run_rooms.specs.Roomy.{Roomy, oldest}
 use Rattle.run_state.specs.Deeds.{under_in}

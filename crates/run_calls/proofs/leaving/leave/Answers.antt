@@ -1,9 +1,9 @@
-use Rattle.std.proofs.Common.{◌≡◌, ◌≢◌, ◌<◌, ◌∷◌, [], List, slice_get, length, subst, sym, ap, ◌∙◌}
+use Rattle.std.proofs.Common.{◌≡◌, ◌≢◌, ◌<◌, ◌∷◌, [], slice_get, length, subst, sym, ap, ◌∙◌}
 use Rattle.run_rooms.specs.Roomy.{Roomy}
 use Rattle.run_state.specs.Deeds.{under_in}
 use Rattle.run_state.specs.declared.machine.Frame.{Frame}
 use Rattle.run_state.specs.declared.machine.State.{State}
-use Rattle.run_calls.specs.Calls.{cleared, returned, value_at}
+use Rattle.run_calls.specs.Calls.{returned, value_at}
 use Rattle.run_calls.proofs.Closed.{room_back, left_some}
 use Rattle.run_calls.proofs.leaving.leave.Goals as goal
 

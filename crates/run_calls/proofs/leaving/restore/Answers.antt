@@ -1,10 +1,10 @@
-use Rattle.std.proofs.Common.{◌≡◌, ℕ, suc, ◌+◌, ◌-◌, ◌<◌, ◌∷◌, [], List, drop, slice_index_or, refl, sym, ap, ◌∙◌, arith}
+use Rattle.std.proofs.Common.{◌≡◌, suc, ◌+◌, ◌-◌, ◌<◌, ◌∷◌, [], drop, slice_index_or, sym, ap, ◌∙◌, arith}
 use Rattle.run_rooms.specs.Roomy.{Roomy}
 use Rattle.run_state.specs.Near.{far}
 use Rattle.run_state.specs.Deeds.{no_item, newest_in}
 use Rattle.run_state.specs.declared.machine.Item.{Item}
 use Rattle.run_state.specs.declared.machine.State.{State}
-use Rattle.run_calls.specs.Calls.{copies_in, new_size, given_back, given_back_all, restored}
+use Rattle.run_calls.specs.Calls.{copies_in, new_size, given_back, given_back_all}
 use Rattle.run_calls.proofs.Loops.{next_item, newest_done}
 use Rattle.run_calls.proofs.Closed.{one_back}
 use Rattle.run_calls.proofs.leaving.restore.Goals as goal
@@ -28,8 +28,8 @@ loop-i-preserved c =
     = c.saturating_add-next.ensures ∙ ap (λ k. far (c.loop-i.next + k)) (c.size.ensures ∙ ap (λ b. new_size b c.below_or-item.result) copy) in
     let before = sym (ap (λ ys. given_back_all copies (suc i) c.loop-i.next ys m) here) ∙ c.loop-i.invariant.0 in (
       ap (λ k. given_back_all copies (suc k) c.saturating_add-next.result (drop k xs) c.give_back.new.m) (sym one)
-      ∙ ap (λ k. given_back_all copies (suc (suc i)) k (drop (suc i) xs) c.give_back.new.m) next
-      ∙ ap (given_back_all copies (suc (suc i)) (far (c.loop-i.next + new_size (copies (suc i)) c.below_or-item.result)) (drop (suc i) xs)) back ∙ before,
+          ∙ ap (λ k. given_back_all copies (suc (suc i)) k (drop (suc i) xs) c.give_back.new.m) next
+          ∙ ap (given_back_all copies (suc (suc i)) (far (c.loop-i.next + new_size (copies (suc i)) c.below_or-item.result)) (drop (suc i) xs)) back ∙ before,
       ap (λ (s : State). s.values) (back ∙ one_back (copies (suc i)) c.below_or-item.result c.loop-i.next m) ∙ c.loop-i.invariant.1,
     )
 

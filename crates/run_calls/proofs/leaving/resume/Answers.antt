@@ -1,4 +1,4 @@
-use Rattle.std.proofs.Common.{◌≡◌, ◌<◌, length, subst, sym, ◌∙◌, []}
+use Rattle.std.proofs.Common.{◌<◌, length, subst, sym, ◌∙◌, []}
 use Rattle.run_state.specs.Deeds.{newest_in, under_in}
 use Rattle.run_state.specs.declared.machine.State.{State}
 use Rattle.run_calls.specs.Calls.{copies_in}

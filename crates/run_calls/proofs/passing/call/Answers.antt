@@ -1,4 +1,4 @@
-use Rattle.std.proofs.Common.{◌≡◌, ◌<◌, ◌≤◌, ◌∷◌, [], length, subst, sym, ap, ◌∙◌, arith}
+use Rattle.std.proofs.Common.{◌<◌, ◌∷◌, [], length, subst, sym, ap, ◌∙◌, arith}
 use Rattle.run_rooms.specs.Roomy.{Roomy}
 use Rattle.run_state.specs.Deeds.{newest_in}
 use Rattle.run_state.specs.Settings.{copies_by}

@@ -1,10 +1,10 @@
-use Rattle.std.proofs.Common.{◌≡◌, ℕ, suc, ◌+◌, ◌-◌, ◌<◌, ◌≤◌, ◌∷◌, [], List, drop, length, slice_index_or, refl, sym, ap, ◌∙◌, subst, arith, length-append}
+use Rattle.std.proofs.Common.{◌≡◌, suc, ◌+◌, ◌-◌, ◌≤◌, ◌∷◌, [], drop, length, slice_index_or, sym, ap, ◌∙◌, subst, arith, length-append}
 use Rattle.run_rooms.specs.Roomy.{Roomy}
 use Rattle.run_state.specs.Deeds.{no_item, newest_in}
 use Rattle.run_state.specs.Settings.{copies_by}
 use Rattle.run_state.specs.declared.machine.Item.{Item}
 use Rattle.run_state.specs.declared.machine.State.{State}
-use Rattle.run_calls.specs.Calls.{HasRoomFor, held_in, handed, handed_all, new_size}
+use Rattle.run_calls.specs.Calls.{HasRoomFor, held_in, handed, handed_all}
 use Rattle.run_calls.proofs.Loops.{next_item, newest_done, room_now, room_then}
 use Rattle.run_calls.proofs.passing.hand_all.Goals as goal
 
