@@ -1,5 +1,5 @@
 -- Numbers of few digits.
-use Rattle.std.proofs.Common.{◌≡◌, ◌≤◌, ℕ, Bool, true, false, if◌then◌else◌, List, [], ◌∷◌, length, arith}
+use Rattle.std.proofs.Common.{◌≡◌, ◌≤◌, ℕ, Bool, true, false, if◌then◌else◌, List, [], ◌∷◌, length, refl, arith}
 use Rattle.std.proofs.lemmas.Bool.Decides.{nat_tests}
 use Rattle.std.specs.Prelude.{◌==◌, ◌&&◌, nat_le}
 use Rattle.formula.specs.Atoms.{is_digits, is_long, without_zeros}
@@ -17,7 +17,7 @@ pub short_digits : (ds : List ℕ) → length ds ≤ 18 → is_long ds ≡ false
 short_digits ds h = let few : length (without_zeros ds) ≤ 18 = fewer ds 18 h in grind (arith, nat_tests)
 
 both : (a b : Bool) → (a && b) ≡ true → (a ≡ true) × (b ≡ true)
-both true b h = (h, h)
+both true b h = (refl, h)
 both false b h = absurd cc
 
 pub number_parts : (w : List ℕ) → is_number w ≡ true → (is_digits w ≡ true) × (is_long w ≡ false)

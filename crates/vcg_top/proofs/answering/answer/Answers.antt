@@ -1,6 +1,6 @@
 use Rattle.std.proofs.Common.{Err, ap}
 use Rattle.prover_box.proofs.Asked.{kept_itself}
-use Rattle.vcg_top.proofs.Replies.{found_fault, found_fault_part, found_part, found_reply}
+use Rattle.vcg_top.proofs.Texts.{found_fault, found_fault_part, found_part, found_reply}
 use Rattle.vcg_top.proofs.answering.answer.Goals as goal
 
 pub returns-in-Ok-clause-done : goal.returns-in-Ok-clause-done

@@ -1,7 +1,7 @@
 use Rattle.std.proofs.Common.{◌∙◌, inl, inr}
 use Rattle.prover_box.proofs.Asked.{kept_itself}
 use Rattle.vcg_top.specs.Commands.{dialect_of}
-use Rattle.vcg_top.proofs.Replies.{front_part, front_refused, front_reply}
+use Rattle.vcg_top.proofs.Texts.{front_part, front_refused, front_reply}
 use Rattle.vcg_top.proofs.answering.answer_read.Goals as goal
 
 pub returns-clause-only : goal.returns-clause-only

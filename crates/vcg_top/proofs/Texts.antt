@@ -214,19 +214,43 @@ module _ (a x : Command) (same : a ≡ x) (bytes : List ℕ) (left : Option (Lis
     pub read_well : (m n : ℕ) → IsReadWell x m n → ¬ Rose m n
     read_well m n well = subst (λ (c : Command). IsReadWell c m n) (sym same ∙ is) well
 
-    pub of_deck : (P : Command → List ℕ → Type 0) → P a bytes → P x bytes
-    of_deck P text = subst (λ (c : Command). P c bytes) same text
-
   -- the made deck of a number
   module _ (n : ℕ) (is : a ≡ Made n) (h : IsDeckOf x left bytes) where
-    made_given : (bytes ≡ made_deck n) × IsMadeNumber n
+    pub made_given : (bytes ≡ made_deck n) × IsMadeNumber n
     made_given = subst (λ (c : Command). IsDeckOf c left bytes) (sym same ∙ is) h
 
     pub taken_made : (rest : Option (List ℕ)) → IsTakenOf x bytes rest
     taken_made rest = subst (λ (c : Command). IsTakenOf c bytes rest) (sym is ∙ same) tt
 
-    pub of_made : (P : Command → List ℕ → Type 0) → (IsMadeNumber n → P (Made n) (made_deck n)) → P x bytes
-    of_made P text = subst (λ (c : Command). P c bytes) (sym is ∙ same) (subst (P (Made n)) (sym made_given.0) (text made_given.1))
+-- what is written of the deck that is read
+module _ (a x : Command) (same : a ≡ x) (bytes : List ℕ) (w v : Option (List ℕ)) where
+  pub reply_of : (before now : List Seen) → AppendsOf (IsReply a bytes before now) w v → AppendsOf (IsReply x bytes before now) w v
+  reply_of before now h = subst (λ (c : Command). AppendsOf (IsReply c bytes before now) w v) same h
+
+  pub refused_of : AppendsOf (IsRefusedText (dialect_of a) bytes) w v → AppendsOf (IsRefusedText (dialect_of x) bytes) w v
+  refused_of h = subst (λ (c : Command). AppendsOf (IsRefusedText (dialect_of c) bytes) w v) same h
+
+  pub part_of : (before now : List Seen) → AppendsPartOf (IsEither a bytes before now) w v → AppendsPartOf (IsEither x bytes before now) w v
+  part_of before now h = subst (λ (c : Command). AppendsPartOf (IsEither c bytes before now) w v) same h
+
+-- what is written of the made deck of a number
+module _ (n : ℕ) (x : Command) (same : Made n ≡ x) (bytes : List ℕ) (is : bytes ≡ made_deck n) (w v : Option (List ℕ)) where
+  pub reply_made : (before now : List Seen) → AppendsOf (IsReply (Made n) (made_deck n) before now) w v → AppendsOf (IsReply x bytes before now) w v
+  reply_made before now h = reply_of (Made n) x same bytes w v before now (subst (λ (b : List ℕ). AppendsOf (IsReply (Made n) b before now) w v) (sym is) h)
+
+  pub refused_made : AppendsOf (IsRefusedText (dialect_of (Made n)) (made_deck n)) w v → AppendsOf (IsRefusedText (dialect_of x) bytes) w v
+  refused_made h = refused_of (Made n) x same bytes w v (subst (λ (b : List ℕ). AppendsOf (IsRefusedText (dialect_of (Made n)) b) w v) (sym is) h)
+
+  pub part_made : (before now : List Seen) → AppendsPartOf (IsEither (Made n) (made_deck n) before now) w v → AppendsPartOf (IsEither x bytes before now) w v
+  part_made before now h = part_of (Made n) x same bytes w v before now (subst (λ (b : List ℕ). AppendsPartOf (IsEither (Made n) b before now) w v) (sym is) h)
+
+-- a made deck is none that is read
+pub no_deck_made : (a : Command) (t : Task) (d : Dialect) (n : ℕ) → a ≡ OfDeck t d → a ≡ Made n → ⊥
+no_deck_made a t d n e f = let no : ◌≡◌ {A = Command} (OfDeck t d) (Made n) = sym e ∙ f in absurd cc
+
+-- it has one number
+pub one_number : (a : Command) (m n : ℕ) → a ≡ Made m → a ≡ Made n → m ≡ n
+one_number a m n e f = let same : ◌≡◌ {A = Command} (Made m) (Made n) = sym e ∙ f in cc
 
 -- bytes that are accepted are not refused
 pub never_refused : (d : Dialect) (bytes : List ℕ) (deck : Deck) (r : Remarks) (p : Program) (paths : List (List Path)) (w v : Option (List ℕ)) → IsAcceptedIn d bytes deck r p paths
