@@ -15,7 +15,7 @@ use Rattle.fort_model.specs.Paths.{Path}
 use Rattle.fort_model.specs.Program.{Program}
 use Rattle.judging.specs.Judgement.{IsAcceptedIn, IsFirstFaultIn}
 use Rattle.prover_box.specs.Answers.{Seen, unclosed}
-use Rattle.reply_lines.specs.Lines.{accepted_line, bad_number_line, made_line}
+use Rattle.reply_lines.specs.Lines.{accepted_line, made_line}
 use Rattle.reply_lines.specs.declared.lines.Sizes.{Sizes}
 use Rattle.deck_judging.specs.Judged.{count_of_paths}
 use Rattle.try_lines.specs.Tries.{try_text}

@@ -1,4 +1,4 @@
-use Rattle.std.proofs.Common.{◌∙◌, inl, inr}
+use Rattle.std.proofs.Common.{◌∙◌, inr}
 use Rattle.prover_box.proofs.Asked.{kept_itself}
 use Rattle.vcg_top.specs.Commands.{dialect_of}
 use Rattle.vcg_top.proofs.Texts.{front_part, front_refused, front_reply}

@@ -1,7 +1,6 @@
-use Rattle.std.proofs.Common.{◌≡◌, inl, inr, sym, ◌∙◌, subst}
+use Rattle.std.proofs.Common.{sym, ◌∙◌}
 use Rattle.prover_box.proofs.Asked.{kept_itself}
-use Rattle.vcg_top.specs.Commands.{AsksNone, IsMadeNumber}
-use Rattle.vcg_top.proofs.Texts.{asked_is, done_or_starved, made_given, never_done, never_refused, no_deck_made, no_read_fault, one_number, part_made, part_of, read_well, refused_made, refused_of, refused_or_starved, reply_made, reply_of, sound_for, taken_deck, taken_made, told_deck}
+use Rattle.vcg_top.proofs.Texts.{asked_is, done_or_starved, made_given, never_done, never_refused, no_read_fault, part_made, read_well, refused_made, refused_of, refused_or_starved, reply_made, reply_of, sound_for, taken_made, told_deck}
 use Rattle.vcg_top.proofs.call.vcg.Goals as goal
 
 pub returns-in_default-clause-kept : goal.returns-in_default-clause-kept
@@ -67,4 +66,3 @@ returns-in-Made-clause-strict g c x bytes f asks given is source sink =
     refused_or_starved c.answer_made.result c.answer_made.ensures.only
     (λ done. never_done x bytes f _ _ _ _ is (reply_made c.in-Made.number x (sym c.in-Made.is ∙ same) bytes made.0 _ _ _ _ (c.answer_made.ensures.done made.1 done)))
     (λ failed. sink (c.answer_made.ensures.cause failed))
-
