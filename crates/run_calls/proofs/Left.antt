@@ -37,6 +37,7 @@ use Rattle.run_state.proofs.Slots.{unit_there, unit_coded, coded_shown, slot_sho
 use Rattle.run_state.proofs.Glue.{works_so}
 use Rattle.run_state.proofs.Stages.{when_between}
 use Rattle.run_calls.specs.Calls.{value_at, cleared, popped, back_in, copies_in, returned, left_by, left}
+use Rattle.run_calls.specs.Laws.{IsNear}
 use Rattle.run_calls.proofs.Closed.{backs_in, back_closed}
 use Rattle.run_calls.proofs.Passes.{backs_kept}
 
@@ -149,11 +150,6 @@ module _ (w : World) (code : Code) (setting : Setting) (world : IsWorldOf code s
         (sym (unit_there code.dialect w.units code world.coded n.unit x.frame.unit shown.0.frame_is.unit_is))
         (subst (λ s. Shows w code (back_in n (value_at (unit_code code m.frame.unit) m) s) (configs.left w.processor w.units f (x ∷ rest) xs st).0 (configs.left w.processor w.units f (x ∷ rest) xs st).1)
         (sym (back_closed (copies_in setting (unit_code code n.unit) n.number) 1 n.base (newest_in n.actuals (oldest m.frame.floor m.values.items) []) (popped ns (cleared m)))) back_shown)
-
--- the first of some frames, where there is one, has a base that is a number of the machine
-abbrev pub IsNear : List Frame → Type 0
-IsNear [] = Unit {0}
-IsNear (n ∷ ns) = n.base < 2 ^ 64
 
 past : {X : Type 0} (xs : List X) (i : ℕ) → slice_get xs i ≡ None → length xs ≤ i
 past [] i e = omega arith
