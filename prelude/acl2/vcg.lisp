@@ -7,7 +7,7 @@
 ; The names of the text are those of the package VCG, which imports nothing. So a definition of a deck
 ; may have any name, such as LENGTH, and the text is read as it is.
 ;
-; To certify: (defpkg "VCG" nil), then (certify-book "vcg" 1).
+; The book lemmas.lisp has what proofs need of these functions. `prelude/book` certifies both.
 
 (in-package "ACL2")
 
@@ -69,7 +69,10 @@
 
 (defun vcg::zquo (a b)
   (declare (xargs :guard t))
-  (if (equal (ifix b) 0) 0 (truncate (ifix a) (ifix b))))
+  (let ((a (ifix a)) (b (ifix b)))
+    (cond ((equal b 0) 0)
+          ((iff (< a 0) (< b 0)) (nonnegative-integer-quotient (abs a) (abs b)))
+          (t (- (nonnegative-integer-quotient (abs a) (abs b)))))))
 
 (defun vcg::zrem (a b)
   (declare (xargs :guard t))
@@ -119,140 +122,6 @@
 (defun vcg::blank (n)
   (declare (xargs :guard t))
   (cons :cells (undefined-cells n)))
-
-; ---- the functions stay closed, and these rules say what is needed of them
-
-(defthm ifix-of-integer
-  (implies (integerp x) (equal (ifix x) x)))
-
-(defthm ifix-of-truth
-  (and (equal (ifix t) 0) (equal (ifix nil) 0)))
-
-(defthm integerp-ifix
-  (integerp (ifix x))
-  :rule-classes :type-prescription)
-
-; A value that is defined, of a known type.
-
-(defthm integers-are-defined
-  (implies (integerp x) (vcg::defined x)))
-
-(defthm defined-integer
-  (implies (and (vcg::defined x) (vcg::celli x l h))
-           (and (integerp x) (<= (ifix l) x) (<= x (ifix h))))
-  :rule-classes ((:forward-chaining :trigger-terms ((vcg::celli x l h)))))
-
-(defthm celli-of-integer
-  (implies (integerp x)
-           (equal (vcg::celli x l h) (and (<= (ifix l) x) (<= x (ifix h))))))
-
-(defthm defined-truth
-  (implies (and (vcg::defined x) (vcg::celll x))
-           (booleanp x))
-  :rule-classes ((:forward-chaining :trigger-terms ((vcg::celll x)))))
-
-(defthm defined-of-boolean
-  (implies (booleanp x) (vcg::defined x)))
-
-(defthm celll-of-boolean
-  (implies (booleanp x) (vcg::celll x)))
-
-; ---- lists of cells
-
-(local
- (defthm integer-cells-nth
-   (implies (and (integer-cells-p cells l h) (natp k) (< k (len cells)))
-            (vcg::celli (nth k cells) l h))))
-
-(local
- (defthm logical-cells-nth
-   (implies (and (logical-cells-p cells) (natp k) (< k (len cells)))
-            (vcg::celll (nth k cells)))))
-
-; A cell of a list in range.
-
-(defthm cell-of-integers
-  (implies (and (vcg::cellsi a n l h) (<= 1 (ifix i)) (<= (ifix i) (ifix n)))
-           (vcg::celli (vcg::elt a i) l h))
-  :hints (("Goal" :in-theory (disable vcg::celli))))
-
-(defthm cell-of-truths
-  (implies (and (vcg::cellsl a n) (<= 1 (ifix i)) (<= (ifix i) (ifix n)))
-           (vcg::celll (vcg::elt a i)))
-  :hints (("Goal" :in-theory (disable vcg::celll))))
-
-(defthm defined-cell-of-integers
-  (implies (and (vcg::cellsi a n l h) (<= 1 (ifix i)) (<= (ifix i) (ifix n)) (vcg::defined (vcg::elt a i)))
-           (integerp (vcg::elt a i)))
-  :hints (("Goal" :use (cell-of-integers) :in-theory (disable vcg::elt vcg::cellsi cell-of-integers))))
-
-(defthm defined-cell-of-integers-in-range
-  (implies (and (vcg::cellsi a n l h) (<= 1 (ifix i)) (<= (ifix i) (ifix n)) (vcg::defined (vcg::elt a i)))
-           (and (<= (ifix l) (vcg::elt a i)) (<= (vcg::elt a i) (ifix h))))
-  :rule-classes :linear
-  :hints (("Goal" :use (cell-of-integers) :in-theory (disable vcg::elt vcg::cellsi cell-of-integers))))
-
-(defthm defined-cell-of-truths
-  (implies (and (vcg::cellsl a n) (<= 1 (ifix i)) (<= (ifix i) (ifix n)) (vcg::defined (vcg::elt a i)))
-           (booleanp (vcg::elt a i)))
-  :hints (("Goal" :use (cell-of-truths) :in-theory (disable vcg::elt vcg::cellsl cell-of-truths))))
-
-; What stands at a place behind a PUT, and its size.
-
-(local (defthm len-of-update (implies (and (natp k) (< k (len cells))) (equal (len (update-nth k v cells)) (len cells)))))
-
-(defthm elt-of-put-there
-  (implies (and (<= 1 (ifix i)) (<= (ifix i) (vcg::size a)) (not (cells-p v)))
-           (equal (vcg::elt (vcg::put a i v) i) v)))
-
-(defthm elt-of-put-elsewhere
-  (implies (not (equal (ifix i) (ifix j)))
-           (equal (vcg::elt (vcg::put a i v) j) (vcg::elt a j))))
-
-(defthm size-of-put
-  (equal (vcg::size (vcg::put a i v)) (vcg::size a)))
-
-(local
- (defthm integer-cells-update
-   (implies (and (integer-cells-p cells l h) (vcg::celli v l h) (natp k) (< k (len cells)))
-            (integer-cells-p (update-nth k v cells) l h))))
-
-(local
- (defthm logical-cells-update
-   (implies (and (logical-cells-p cells) (vcg::celll v) (natp k) (< k (len cells)))
-            (logical-cells-p (update-nth k v cells)))))
-
-(defthm cellsi-of-put
-  (implies (and (vcg::cellsi a n l h) (vcg::celli v l h))
-           (vcg::cellsi (vcg::put a i v) n l h))
-  :hints (("Goal" :in-theory (disable vcg::celli))))
-
-(defthm cellsl-of-put
-  (implies (and (vcg::cellsl a n) (vcg::celll v))
-           (vcg::cellsl (vcg::put a i v) n))
-  :hints (("Goal" :in-theory (disable vcg::celll))))
-
-(defthm size-of-integers
-  (implies (vcg::cellsi a n l h) (equal (vcg::size a) (ifix n)))
-  :rule-classes ((:rewrite :match-free :all) :forward-chaining))
-
-(defthm size-of-truths
-  (implies (vcg::cellsl a n) (equal (vcg::size a) (ifix n)))
-  :rule-classes ((:rewrite :match-free :all) :forward-chaining))
-
-; A place counts by its number.
-
-(defthm elt-of-number
-  (equal (vcg::elt a (ifix i)) (vcg::elt a i)))
-
-(defthm put-of-number
-  (equal (vcg::put a (ifix i) v) (vcg::put a i v)))
-
-(defthm integers-are-no-cells
-  (implies (integerp v) (not (cells-p v))))
-
-(in-theory (disable ifix cells-p vcg::elt vcg::put vcg::size vcg::defined vcg::celli vcg::celll vcg::cellsi vcg::cellsl
-                    vcg::blank vcg::zquo vcg::zrem))
 
 ; ---- the events of the text
 
