@@ -13,9 +13,21 @@
 (defthm ifix-of-truth
   (and (equal (ifix t) 0) (equal (ifix nil) 0)))
 
+(defthm integers-are-their-numbers
+  (equal (equal x (ifix x)) (integerp x)))
+
 (defthm integerp-ifix
   (integerp (ifix x))
   :rule-classes :type-prescription)
+
+(defthm sums-are-integers
+  (implies (and (integerp x) (integerp y)) (integerp (+ x y))))
+
+(defthm products-are-integers
+  (implies (and (integerp x) (integerp y)) (integerp (* x y))))
+
+(defthm negatives-are-integers
+  (implies (integerp x) (integerp (- x))))
 
 ; A value that is defined, of a known type.
 

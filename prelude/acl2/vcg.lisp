@@ -188,7 +188,8 @@
   (declare (xargs :mode :program))
   (intern-in-package-of-symbol (concatenate 'string (symbol-name name) " " what) 'vcg::defn))
 
-; A plain definition, and a counting one. A counting one is admitted by its count, which falls.
+; A plain definition, and a counting one. A counting one is admitted by its count, which falls. It is opened where the count is at most
+; 0, or a constant up to 8; a use with a greater constant stands as it is, so that lemmas of one's own find it.
 
 (defun definition-of (name params body wrld)
   (declare (xargs :mode :program))
@@ -203,8 +204,8 @@
              ,term)
            (defthm ,(rule-name-of name "AT MOST ZERO")
              (implies (<= (ifix ,count) 0) (equal (,name ,@params) ,base)))
-           (defthm ,(rule-name-of name "AT A CONSTANT")
-             (implies (and (syntaxp (quotep ,count)) (< 0 (ifix ,count)))
+           (defthm ,(rule-name-of name "AT A SMALL CONSTANT")
+             (implies (and (syntaxp (quotep ,count)) (< 0 (ifix ,count)) (<= (ifix ,count) 8))
                       (equal (,name ,@params) ,step))))))))
 
 (defmacro vcg::defn (name params body)
@@ -227,16 +228,43 @@
   (declare (xargs :mode :program :stobjs state))
   (if (boundp-global 'lemma-seconds state) (f-get-global 'lemma-seconds state) 30))
 
-(defun classes-of (classes)
+; A linear rule is tried where a term occurs that its conclusion bounds, with an IFIX around it or, where it is known to be an
+; integer, without.
+
+(mutual-recursion
+ (defun bounded-terms (x)
+   (declare (xargs :mode :program))
+   (cond ((atom x) nil)
+         ((and (eq (car x) 'ifix) (consp (cadr x))) (list x (cadr x)))
+         (t (some-bounded-terms (cdr x)))))
+ (defun some-bounded-terms (x)
+   (declare (xargs :mode :program))
+   (if (atom x) nil (union-equal (bounded-terms (car x)) (some-bounded-terms (cdr x))))))
+
+(defun linear-class (term)
+  (declare (xargs :mode :program))
+  (let ((triggers (bounded-terms (if (and (consp term) (eq (car term) 'vcg::implies)) (caddr term) term))))
+    (if triggers `(:linear :trigger-terms ,triggers) :linear)))
+
+; A rule is made of each part of a conclusion that is an AND. The lemma is the same: only F is false.
+
+(defun parted (term)
+  (declare (xargs :mode :program))
+  (case-match term
+    (('vcg::implies hypotheses conclusion) `(implies ,hypotheses ,(parted conclusion)))
+    (('vcg::and . parts) `(and ,@parts))
+    (& term)))
+
+(defun classes-of (classes term)
   (declare (xargs :mode :program))
   (cond ((atom classes) nil)
-        ((eq (car classes) 'vcg::rewrite) (cons :rewrite (classes-of (cdr classes))))
-        ((eq (car classes) 'vcg::linear) (cons :linear (classes-of (cdr classes))))
-        (t (cons (car classes) (classes-of (cdr classes))))))
+        ((eq (car classes) 'vcg::rewrite) (cons :rewrite (classes-of (cdr classes) term)))
+        ((eq (car classes) 'vcg::linear) (cons (linear-class term) (classes-of (cdr classes) term)))
+        (t (cons (car classes) (classes-of (cdr classes) term)))))
 
 (defun lemma-of (name classes term options wrld)
   (declare (xargs :mode :program))
-  (let ((term (term-of term wrld)) (classes (classes-of classes)))
+  (let* ((term (term-of term wrld)) (classes (classes-of classes term)) (term (if classes (parted term) term)))
     `(let ((limit (limit-of state)))
        (mv-let (start state) (read-run-time state)
          (mv-let (failed proved state)
