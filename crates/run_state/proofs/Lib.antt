@@ -1,0 +1,6 @@
+pub mod Nearly
+pub mod Items
+pub mod Pieces
+pub mod Arms
+pub mod Glue
+pub mod Weights
