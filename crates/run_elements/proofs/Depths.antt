@@ -1,6 +1,5 @@
 -- Items by how deep they lie in a stack.
-use Rattle.std.proofs.Common.{◌≡◌, ℕ, zero, suc, ◌+◌, ◌-◌, ◌<◌, ◌≤◌, List, [], ◌∷◌, ◌++◌, length, slice_index_or, ℤ, refl, sym, ap, ◌∙◌, arith}
-use Rattle.std.specs.Prelude.{pos}
+use Rattle.std.proofs.Common.{◌≡◌, ℕ, zero, suc, ◌+◌, ◌-◌, ◌<◌, List, [], ◌∷◌, ◌++◌, length, slice_index_or, ℤ, refl, sym, ap, ◌∙◌, arith}
 use Rattle.formula.specs.declared.value.Cell.{Cell}
 use Rattle.fort_model.specs.Cells.{num}
 use Rattle.fort_model.specs.Evaluate.{folded}
@@ -50,12 +49,12 @@ all_more : (f : ℤ → ℤ → ℤ) (cs : List Cell) (c : Cell) → 0 < length 
 all_more f [] c h = absurd (omega arith)
 all_more f (d ∷ cs) c h = folded_more f (num d) cs c
 
-values_long : (xs : List Item) → length (values_in xs) ≡ length xs
+pub values_long : (xs : List Item) → length (values_in xs) ≡ length xs
 values_long [] = refl
 values_long (x ∷ xs) = ap suc (values_long xs)
 
-newest_long : (n : ℕ) (items acc : List Item) → length (newest_in n items acc) ≡ n + length acc
-newest_long zero items acc = refl
+pub newest_long : (n : ℕ) (items acc : List Item) → length (newest_in n items acc) ≡ n + length acc
+newest_long zero items acc = let same : length acc ≡ 0 + length acc = omega arith in same
 newest_long (suc n) items acc = newest_long n (behind items) (first_in items ∷ acc) ∙ (let same : n + suc (length acc) ≡ suc n + length acc = omega arith in same)
 
 under_behind : (n : ℕ) (items : List Item) → behind (under_in n items) ≡ under_in (suc n) items
@@ -84,3 +83,9 @@ next_number f items n old new e h =
 pub all_numbers : (f : ℤ → ℤ → ℤ) (items : List Item) (n depth : ℕ) → depth ≡ 0
     → folded_all f (values_in (newest_in (n - depth) (under_in depth items) [])) ≡ folded_all f (values_in (newest_in n items []))
 all_numbers f items n depth e = ap (λ k. folded_all f (values_in (newest_in (n - k) (under_in k items) []))) e ∙ ap (λ k. folded_all f (values_in (newest_in k items []))) (let same : n - 0 ≡ n = omega arith in same)
+
+-- the same by what the code has
+pub next_from : (f : ℤ → ℤ → ℤ) (items : List Item) (n old new : ℕ) (z number value : ℤ) → old ≡ suc new → old < n → z ≡ f number value
+    → number ≡ folded_all f (values_in (newest_in (n - old) (under_in old items) [])) → value ≡ num (value_in (first_in (under_in new items)))
+    → z ≡ folded_all f (values_in (newest_in (n - new) (under_in new items) []))
+next_from f items n old new z number value e h a b c = a ∙ ap (λ k. f k value) b ∙ ap (f (folded_all f (values_in (newest_in (n - old) (under_in old items) [])))) c ∙ next_number f items n old new e h

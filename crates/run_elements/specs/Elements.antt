@@ -1,5 +1,5 @@
 -- What instructions of expressions do to a state.
-use Rattle.std.specs.Prelude.{ℕ, zero, suc, ◌+◌, Bool, true, false, cond, not, ◌&&◌, ◌||◌, ℤ, pos, neg_ℤ, List, [], ◌∷◌, Result, Ok, Err}
+use Rattle.std.specs.Prelude.{ℕ, Bool, true, false, cond, not, ◌&&◌, ◌||◌, ℤ, pos, neg_ℤ, List, [], ◌∷◌, Result, Ok, Err}
 use Rattle.formula.specs.Values.{greater, smaller}
 use Rattle.formula.specs.declared.value.Cell.{Cell}
 use Rattle.formula.specs.declared.value.Cell.TheVariants.{Int, Logical, Undefined}
@@ -15,7 +15,6 @@ use Rattle.run_shapes.specs.declared.instr.Instr.{Instr}
 use Rattle.run_shapes.specs.declared.instr.Instr.TheVariants as instr
 use Rattle.run_rooms.specs.Roomy.{behind}
 use Rattle.run_state.specs.Deeds.{value_in, values_in, first_in, newest_in, under_in, extent_at, with_values, with_cells, skipped, failed, lost}
-use Rattle.run_state.specs.declared.machine.Extent.{Extent}
 use Rattle.run_state.specs.declared.machine.Item.{Item}
 use Rattle.run_state.specs.declared.machine.Item.TheVariants.{Cells, Fresh}
 use Rattle.run_state.specs.declared.machine.Setting.{Setting}
