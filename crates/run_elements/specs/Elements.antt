@@ -1,5 +1,5 @@
 -- What instructions of expressions do to a state.
-use Rattle.std.specs.Prelude.{ℕ, Bool, true, false, cond, not, ◌&&◌, ◌||◌, ℤ, pos, neg_ℤ, List, [], ◌∷◌, Result, Ok, Err}
+use Rattle.std.specs.Prelude.{◌≡◌, ◌<◌, ◌^◌, length, ℕ, Bool, true, false, cond, not, ◌&&◌, ◌||◌, ℤ, pos, neg_ℤ, List, [], ◌∷◌, Result, Ok, Err}
 use Rattle.formula.specs.Values.{greater, smaller}
 use Rattle.formula.specs.declared.value.Cell.{Cell}
 use Rattle.formula.specs.declared.value.Cell.TheVariants.{Int, Logical, Undefined}
@@ -18,7 +18,12 @@ use Rattle.run_state.specs.Deeds.{value_in, values_in, first_in, newest_in, unde
 use Rattle.run_state.specs.declared.machine.Item.{Item}
 use Rattle.run_state.specs.declared.machine.Item.TheVariants.{Cells, Fresh}
 use Rattle.run_state.specs.declared.machine.Setting.{Setting}
+use Rattle.run_state.specs.declared.machine.Stage.TheVariants as stage
 use Rattle.run_state.specs.declared.machine.State.{State}
+use Rattle.run_state.specs.Shows.{unit_code}
+use Rattle.run_state.specs.Obeyed.{Obeys, IsPlain}
+use Rattle.run_shapes.specs.Coded.{InstrHasSlots}
+use Rattle.run_shapes.specs.declared.unit_code.Code.{Code}
 
 -- ---- values, or the kinds of errors
 
@@ -100,3 +105,62 @@ assigned_to (Fresh c) m = lost m
 
 abbrev pub did_assign : State → State
 did_assign m = assigned_to (first_in m.values.items) m
+
+-- ---- each instruction
+
+-- in the place of how many values an instruction puts one
+abbrev pub depth_of : Instr → ℕ
+depth_of instr.Value = 1
+depth_of instr.Negate = 1
+depth_of (instr.Raise n) = 1
+depth_of (instr.Operation o) = 2
+depth_of (instr.Comparison o) = 2
+depth_of instr.Negation = 1
+depth_of instr.Both = 2
+depth_of instr.Either = 2
+depth_of (instr.BuiltIn f n) = n
+depth_of _ = 0
+
+-- what an instruction does
+abbrev pub did : Setting → Instr → State → State
+did s (instr.Place slot) m = did_place slot m
+did s (instr.SkipFalse k) m = did_skip_false s k m
+did s (instr.SkipTrue k) m = did_skip_true s k m
+did s instr.Forget m = did_forget m
+did s instr.Assigned m = did_assign m
+did s i m = answered (depth_of i) (answer_to s i m) m
+
+-- the instructions of which that is so
+abbrev pub is_element : Instr → Bool
+is_element (instr.Number n) = true
+is_element instr.One = true
+is_element (instr.Truth b) = true
+is_element (instr.Place slot) = true
+is_element (instr.Load slot) = true
+is_element instr.Value = true
+is_element instr.Negate = true
+is_element (instr.Raise n) = true
+is_element (instr.Operation o) = true
+is_element (instr.Comparison o) = true
+is_element instr.Negation = true
+is_element (instr.SkipFalse k) = true
+is_element instr.Both = true
+is_element (instr.SkipTrue k) = true
+is_element instr.Either = true
+is_element (instr.BuiltIn f n) = true
+is_element instr.Forget = true
+is_element instr.Assigned = true
+is_element _ = false
+
+-- a state in which an instruction stands next, whose slot is there
+pub record IsReady (code : Code) (i : Instr) (m : State) : Type 0 where
+  pub inside : m.stage ≡ stage.Inside
+  pub cells_near : length m.cells.items < 2 ^ 64
+  pub stop_near : m.frame.stop < 2 ^ 64
+  pub place_near : m.frame.place < 2 ^ 64
+  pub has_slots : InstrHasSlots (length (unit_code code m.frame.unit).slots.names) i
+
+-- the instructions do what the model says, and need room for one item at most
+abbrev pub ElementsAreObeyed : Type 0
+ElementsAreObeyed = (code : Code) (setting : Setting) (i : Instr) (m : State) → is_element i ≡ true → IsReady code i m
+    → Obeys code setting i m (did setting i m) × IsPlain m (did setting i m)

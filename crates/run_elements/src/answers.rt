@@ -5,9 +5,9 @@ ghost use Rattle.run_elements.specs.Elements.{answer_to, answered};
 use crate::intrinsics::intrinsic;
 use crate::reading::{read, value_at, valued};
 use fort_syntax::Kind;
-use run_held::{compared, constant, negated, operated, power, Held};
+use run_held::{Held, compared, constant, negated, operated, power};
 use run_shapes::Instr;
-use run_state::{no_item, Item, Setting, State};
+use run_state::{Item, Setting, State, no_item};
 
 /// A value stands in the place of the newest so many, or there is an error.
 #[tactic(auto, using(crate::proofs::Depths::kept))]
@@ -37,11 +37,24 @@ pub fn answer_of(m: &State, setting: &Setting, instr: Instr) -> Result<Held, Kin
         Instr::Value => valued(&m.cells, &m.values.newest_or(no_item())),
         Instr::Negate => negated(setting.bounds, &value_at(&m.values, 0)),
         Instr::Raise(exponent) => power(setting.bounds, &value_at(&m.values, 0), exponent),
-        Instr::Operation(sign) => operated(setting.bounds, sign, &value_at(&m.values, 1), &value_at(&m.values, 0)),
-        Instr::Comparison(sign) => Ok(Held::logical(compared(sign, &value_at(&m.values, 1), &value_at(&m.values, 0)))),
+        Instr::Operation(sign) => operated(
+            setting.bounds,
+            sign,
+            &value_at(&m.values, 1),
+            &value_at(&m.values, 0),
+        ),
+        Instr::Comparison(sign) => Ok(Held::logical(compared(
+            sign,
+            &value_at(&m.values, 1),
+            &value_at(&m.values, 0),
+        ))),
         Instr::Negation => Ok(Held::logical(!value_at(&m.values, 0).holds())),
-        Instr::Both => Ok(Held::logical(value_at(&m.values, 1).holds() && value_at(&m.values, 0).holds())),
-        Instr::Either => Ok(Held::logical(value_at(&m.values, 1).holds() || value_at(&m.values, 0).holds())),
+        Instr::Both => Ok(Held::logical(
+            value_at(&m.values, 1).holds() && value_at(&m.values, 0).holds(),
+        )),
+        Instr::Either => Ok(Held::logical(
+            value_at(&m.values, 1).holds() || value_at(&m.values, 0).holds(),
+        )),
         Instr::BuiltIn(function, count) => intrinsic(&m.values, setting.bounds, function, count),
         _ => Ok(Held::undefined()),
     }

@@ -4,7 +4,7 @@ ghost use Rattle.run_elements.specs.Elements.{decided, did_assign, did_forget, d
 
 use crate::reading::value_at;
 use run_held::Held;
-use run_state::{no_item, Item, Setting, State};
+use run_state::{Item, Setting, State, no_item};
 
 /// The cells of the name of a slot are taken.
 pub fn place(m: &mut State, slot: usize)

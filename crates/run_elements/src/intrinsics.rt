@@ -19,11 +19,7 @@ use run_state::Item;
 fn better(least: bool, a: i64, b: i64) -> i64
     ensures { result ≡ better least a b }
 {
-    if least {
-        smaller(a, b)
-    } else {
-        greater(a, b)
-    }
+    if least { smaller(a, b) } else { greater(a, b) }
 }
 
 /// The smallest or the greatest of the newest so many values.
@@ -75,7 +71,12 @@ fn modulo_of(values: &Stack<Item>, bounds: Bounds, count: usize) -> Result<Held,
 
 /// An intrinsic function of the newest so many values.
 #[tactic(auto, using(crate::proofs::Counts::greatest_is, crate::proofs::Counts::least_is))]
-pub fn intrinsic(values: &Stack<Item>, bounds: Bounds, function: Function, count: usize) -> Result<Held, Kind>
+pub fn intrinsic(
+    values: &Stack<Item>,
+    bounds: Bounds,
+    function: Function,
+    count: usize,
+) -> Result<Held, Kind>
     ensures { result ≡ intrinsic_to bounds (intrinsic_of function) (values_in (newest_in count values.now.items [])) }
 {
     match function {

@@ -6,7 +6,7 @@ ghost use Rattle.run_elements.specs.Elements.{read_to, value_to};
 use fort_syntax::Kind;
 use run_held::Held;
 use run_rooms::{Pile, Stack};
-use run_state::{no_item, Item};
+use run_state::{Item, no_item};
 
 /// The value of an item that was read.
 pub fn value_in(item: &Item) -> Held

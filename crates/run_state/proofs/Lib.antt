@@ -5,3 +5,4 @@ pub mod Slots
 pub mod Arms
 pub mod Glue
 pub mod Weights
+pub mod Stages
