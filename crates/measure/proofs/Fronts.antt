@@ -31,8 +31,10 @@ seen_steps : (p : Paths) (v : PathView) → Some (way_seen v) ≡ way_at p → v
 seen_steps p v e = ended_steps (way_seen v) p.course.start p.course.steps.items p.course.stage e
 
 -- its first steps, as many as are shared, are those of the way before
-pub shares : (old new : Paths) (v : PathView) → SharesView old new → Some (way_seen v) ≡ way_at new → v.shared ≡ new.course.shared → SharesSteps v.shared old.course.steps.items v.steps.now
+pub shares : (old new : Paths) (v : PathView) → SharesView old new → Some (way_seen v) ≡ way_at new → v.shared ≡ new.course.shared
+    → SharesSteps v.shared old.course.steps.items v.steps.now
 shares old new v same seen shared = (λ i. take (shared i) (seen_steps new v seen i)) ∙ (same.front ∙ (λ i. take (sym shared i) old.course.steps.items))
 
-pub front_seen : (w : Sight ℕ) (p : Paths) (v : PathView) (f : Front) → Some (way_seen v) ≡ way_at p → IsFront w v.steps.now (length v.steps.now) f → IsFront w p.course.steps.items (length p.course.steps.items) f
+pub front_seen : (w : Sight ℕ) (p : Paths) (v : PathView) (f : Front) → Some (way_seen v) ≡ way_at p → IsFront w v.steps.now (length v.steps.now) f
+    → IsFront w p.course.steps.items (length p.course.steps.items) f
 front_seen w p v f seen h = subst (λ (steps : List Step). IsFront w steps (length steps) f) (seen_steps p v seen) h

@@ -25,8 +25,10 @@ fn with_next(
 ) -> Result<Option<Totals>, NoMemory>
     requires few { totals.now.paths ≤ 4096 }
     requires front { IsFront (sight_of course.now.subject.now) paths.old.course.steps.items (length paths.old.course.steps.items) front.old }
-    ensures next { IfOk result (IsNext (seen_program course.now.subject.now.pool.now course.now.subject.now.scene.now) course.now.subject.now.number course.now.subject.now.book.now.unit.now (sizes_of totals.now) (ways_left paths.old) (ways_left paths.new)) }
-    ensures front { IfOk result (λ found. IfSome found (λ _. IsFront (sight_of course.now.subject.now) paths.new.course.steps.items (length paths.new.course.steps.items) front.new)) }
+    ensures next { IfOk result (IsNext (seen_program course.now.subject.now.pool.now course.now.subject.now.scene.now) course.now.subject.now.number
+        course.now.subject.now.book.now.unit.now (sizes_of totals.now) (ways_left paths.old) (ways_left paths.new)) }
+    ensures front { IfOk result (λ found. IfSome found (λ _. IsFront (sight_of course.now.subject.now) paths.new.course.steps.items
+        (length paths.new.course.steps.items) front.new)) }
 {
     let Ok(_) = paths.advance() else {
         return Err(NoMemory);
@@ -49,7 +51,8 @@ pub(crate) fn with_paths(
 ) -> Result<Totals, NoMemory>
     requires count { count ≡ length (ways_of graph.now) }
     requires few { totals.paths + length (ways_of graph.now) ≤ 4096 }
-    ensures { IfOk result (λ t. sizes_of t ≡ with_ways (seen_program course.now.subject.now.pool.now course.now.subject.now.scene.now) course.now.subject.now.number course.now.subject.now.book.now.unit.now (sizes_of totals) (ways_of graph.now)) }
+    ensures { IfOk result (λ t. sizes_of t ≡ with_ways (seen_program course.now.subject.now.pool.now course.now.subject.now.scene.now)
+        course.now.subject.now.number course.now.subject.now.book.now.unit.now (sizes_of totals) (ways_of graph.now)) }
 {
     let Ok(mut paths) = Paths::new(course.subject.alloc, graph) else {
         return Err(NoMemory);

@@ -61,12 +61,14 @@ module _ (w : Sight ℕ) where
   gone_more (s ∷ front) pc cs now load = gone_more front pc cs (done s.0 s.1 now load).value (done s.0 s.1 now load).load
 
   -- one statement more
-  pub at_next : (steps : List Step) (k n pc : ℕ) (behind : List Step) (f g : Front) (old new : Load) → n ≡ suc k → slice_get steps k ≡ Some (At pc) → behind ≡ drop n steps → g.start ≡ f.start
+  pub at_next : (steps : List Step) (k n pc : ℕ) (behind : List Step) (f g : Front) (old new : Load) → n ≡ suc k → slice_get steps k ≡ Some (At pc)
+      → behind ≡ drop n steps → g.start ≡ f.start
       → new ≡ (done pc (turns behind) (held f.names) old).load → held g.names ≡ (done pc (turns behind) (held f.names) old).value
       → IsAt w steps k f old → IsAt w steps n g new
   at_next steps k n pc behind f g old new next at rest start did named h =
       let more : firsts n steps ≡ firsts k steps ++ (pc, turns behind) ∷ [] =
-      ap (λ j. firsts j steps) next ∙ (firsts_at k steps pc at ∙ (λ i. firsts k steps ++ (pc, turns ((ap (λ j. drop j steps) (sym next) ∙ sym rest) i)) ∷ [])) in
+      ap (λ j. firsts j steps) next ∙ (firsts_at k steps pc at ∙ (λ i. firsts k steps ++
+      (pc, turns ((ap (λ j. drop j steps) (sym next) ∙ sym rest) i)) ∷ [])) in
       let whole : done pc (turns behind) (held f.names) old ≡ reached w g.start (firsts n steps) =
       (λ i. done pc (turns behind) (h.names i) (h.load i))
       ∙ (sym (gone_more (firsts k steps) pc (turns behind) all_one (load_from w f.start)) ∙ (λ i. reached w (sym start i) (sym more i))) in
@@ -76,7 +78,8 @@ module _ (w : Sight ℕ) where
       }
 
   -- the same statements
-  pub at_same : (steps : List Step) (k n : ℕ) (f g : Front) (load : Load) → firsts n steps ≡ firsts k steps → g.start ≡ f.start → held g.names ≡ held f.names → IsAt w steps k f load → IsAt w steps n g load
+  pub at_same : (steps : List Step) (k n : ℕ) (f g : Front) (load : Load) → firsts n steps ≡ firsts k steps → g.start ≡ f.start
+      → held g.names ≡ held f.names → IsAt w steps k f load → IsAt w steps n g load
   at_same steps k n f g load same start named h = record {
     names = named ∙ (h.names ∙ (λ i. (reached w (sym start i) (sym same i)).value));
     load = h.load ∙ (λ i. (reached w (sym start i) (sym same i)).load);
@@ -85,7 +88,8 @@ module _ (w : Sight ℕ) where
   -- ---- the end
 
   along_gone : (clock : Option ℕ) (steps : List Step) (end : ℕ) (now : Named ℕ) (load : Load)
-      → c.along w clock steps end now load ≡ c.arrive w clock (cut_at w.unit (c.notes_here w) end) (gone w (stops steps) now load).value (gone w (stops steps) now load).load
+      → c.along w clock steps end now load ≡ c.arrive w clock (cut_at w.unit (c.notes_here w) end) (gone w (stops steps) now load).value
+      (gone w (stops steps) now load).load
   along_gone clock [] end now load = refl
   along_gone clock (At pc ∷ steps) end now load = along_gone clock steps end (done pc (turns steps) now load).value (done pc (turns steps) now load).load
   along_gone clock (Choice k n ∷ steps) end now load = along_gone clock steps end now load
@@ -97,7 +101,8 @@ module _ (w : Sight ℕ) where
   from_there (suc k) steps end h =
       (λ i. c.along w (clock_at w (h.1 i)) steps end all_one (load_at w (h.1 i))) ∙ (λ i. c.from_assert w (sym h.1 i) steps end nothing_yet)
 
-  pub ended : (steps : List Step) (start end k : ℕ) (f : Front) (load after : Load) → length steps ≤ k → f.start ≡ start → IsThere w f.start → f.clock ≡ clock_from w f.start → IsAt w steps k f load
+  pub ended : (steps : List Step) (start end k : ℕ) (f : Front) (load after : Load) → length steps ≤ k → f.start ≡ start → IsThere w f.start
+      → f.clock ≡ clock_from w f.start → IsAt w steps k f load
       → after ≡ (c.arrive w f.clock (cut_at w.unit (c.notes_here w) end) (held f.names) load).load → after ≡ (c.from_start w start steps end nothing_yet).load
   ended steps start end k f load after le at there clock h did =
       let all = all_firsts steps k le in

@@ -19,7 +19,8 @@ module _ (w : Sight ℕ) where
   abbrev pub gone : List (ℕ × List ℕ) → Named ℕ → Load → Tallied (Named ℕ)
   gone [] now load = record { value = now; load = load }
   gone (stop ∷ more) now load =
-      gone more (perform_line w (slice_get w.unit.lines stop.0) stop.0 now stop.1 load).value (perform_line w (slice_get w.unit.lines stop.0) stop.0 now stop.1 load).load
+      gone more (perform_line w (slice_get w.unit.lines stop.0) stop.0 now stop.1 load).value
+      (perform_line w (slice_get w.unit.lines stop.0) stop.0 now stop.1 load).load
 
   -- what a path begins with at an ASSERT, and what its clock weighs there; nothing where there is none
   abbrev pub load_at : Option Assertion → Load

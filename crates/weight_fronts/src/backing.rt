@@ -11,7 +11,8 @@ use crate::front::{Front, Mark};
 fn step_back(front: &mut Front) -> Option<Mark>
     ensures start { front.new.start ≡ front.old.start }
     ensures less { IfSome result (λ mark. front.old.marks ≡ mark ∷ front.new.marks) }
-    ensures at { IfSome result (λ mark. (w : Sight ℕ) (steps : List Step) (bound : ℕ) → IsFront w steps bound front.old → (mark.place < bound) × IsBackAt w steps mark front.new) }
+    ensures at { IfSome result (λ mark. (w : Sight ℕ) (steps : List Step) (bound : ℕ) → IsFront w steps bound front.old
+        → (mark.place < bound) × IsBackAt w steps mark front.new) }
 {
     let Some(mark) = front.marks.pop() else {
         return None;

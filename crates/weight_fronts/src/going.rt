@@ -18,7 +18,8 @@ fn set_mark(front: &mut Front, load: &Load, place: usize) -> Result<(), NoMemory
     ensures start { OnOk result (front.new.start ≡ front.old.start) }
     ensures clock { OnOk result (front.new.clock ≡ front.old.clock) }
     ensures at { OnOk result ((w : Sight ℕ) (steps : List OneStep) → IsAt w steps place front.old load.now → IsAt w steps place front.new load.now) }
-    ensures front { OnOk result ((w : Sight ℕ) (steps : List OneStep) → IsFront w steps place front.old → IsAt w steps place front.old load.now → HasAt steps place → IsFront w steps (suc place) front.new) }
+    ensures front { OnOk result ((w : Sight ℕ) (steps : List OneStep) → IsFront w steps place front.old → IsAt w steps place front.old load.now
+        → HasAt steps place → IsFront w steps (suc place) front.new) }
 {
     let mark = Mark {
         place,
@@ -48,7 +49,8 @@ fn mark_fork(front: &mut Front, load: &Load, place: usize, behind: &[Step]) -> R
     ensures start { OnOk result (front.new.start ≡ front.old.start) }
     ensures clock { OnOk result (front.new.clock ≡ front.old.clock) }
     ensures at { OnOk result ((w : Sight ℕ) (steps : List OneStep) → IsAt w steps place front.old load.now → IsAt w steps place front.new load.now) }
-    ensures front { OnOk result ((w : Sight ℕ) (steps : List OneStep) → IsFront w steps place front.old → IsAt w steps place front.old load.now → HasAt steps place → IsFront w steps (suc place) front.new) }
+    ensures front { OnOk result ((w : Sight ℕ) (steps : List OneStep) → IsFront w steps place front.old → IsAt w steps place front.old load.now
+        → HasAt steps place → IsFront w steps (suc place) front.new) }
 {
     if !parts(behind) {
         return Ok(());

@@ -78,7 +78,8 @@ pub(crate) fn stand(
     path: &PathView,
 ) -> Result<Option<usize>, NoMemory>
     requires load { load.old ≡ nothing_yet }
-    requires front { (before : List Step) × SharesSteps path.now.shared before path.now.steps.now × IsFront (sight_of subject.now) before (length before) front.old }
+    requires front { (before : List Step) × SharesSteps path.now.shared before path.now.steps.now × IsFront (sight_of subject.now) before
+        (length before) front.old }
     ensures some { IfOk result (λ found. IfSome found (λ place. Stands (sight_of subject.now) path.now.steps.now path.now.start place front.new load.new)) }
     ensures none { IfOk result (λ found. IfNone found (IsNowhere (sight_of subject.now) path.now.start front.new load.new)) }
 {

@@ -83,8 +83,10 @@ fn enter(
     choices: &[usize],
 ) -> Result<(), NoMemory>
     requires { begun.now.ends ≤ length course.now.subject.now.book.now.unit.now.lines }
-    ensures load { OnOk result (load.new ≡ (tally.entered (sight_of course.now.subject.now) begun.now.ends begun.now.at (held names.old) begun.now.first begun.now.last choices.now load.old).load) }
-    ensures names { OnOk result (held names.new ≡ (tally.entered (sight_of course.now.subject.now) begun.now.ends begun.now.at (held names.old) begun.now.first begun.now.last choices.now load.old).value) }
+    ensures load { OnOk result (load.new ≡ (tally.entered (sight_of course.now.subject.now) begun.now.ends begun.now.at (held names.old)
+        begun.now.first begun.now.last choices.now load.old).load) }
+    ensures names { OnOk result (held names.new ≡ (tally.entered (sight_of course.now.subject.now) begun.now.ends begun.now.at (held names.old)
+        begun.now.first begun.now.last choices.now load.old).value) }
     ensures marks { OnOk result (marked names.new ≡ marked names.old) }
 {
     let Some(taken) = first_of(choices) else {
@@ -110,8 +112,10 @@ fn begin(
     choices: &[usize],
 ) -> Result<(), NoMemory>
     requires { begun.now.ends ≤ length course.now.subject.now.book.now.unit.now.lines }
-    ensures load { OnOk result (load.new ≡ (tally.begin (sight_of course.now.subject.now) course.now.subject.now.scene.now.dialect begun.now.ends begun.now.at (held names.old) begun.now.variable begun.now.first begun.now.last begun.now.step choices.now load.old).load) }
-    ensures names { OnOk result (held names.new ≡ (tally.begin (sight_of course.now.subject.now) course.now.subject.now.scene.now.dialect begun.now.ends begun.now.at (held names.old) begun.now.variable begun.now.first begun.now.last begun.now.step choices.now load.old).value) }
+    ensures load { OnOk result (load.new ≡ (tally.begin (sight_of course.now.subject.now) course.now.subject.now.scene.now.dialect begun.now.ends
+        begun.now.at (held names.old) begun.now.variable begun.now.first begun.now.last begun.now.step choices.now load.old).load) }
+    ensures names { OnOk result (held names.new ≡ (tally.begin (sight_of course.now.subject.now) course.now.subject.now.scene.now.dialect
+        begun.now.ends begun.now.at (held names.old) begun.now.variable begun.now.first begun.now.last begun.now.step choices.now load.old).value) }
     ensures marks { OnOk result (marked names.new ≡ marked names.old) }
 {
     if let Dialect::Common = course.subject.scene.dialect {
@@ -158,8 +162,10 @@ fn select(
     choices: &[usize],
 ) -> Result<(), NoMemory>
     requires { selected.now.at ≤ length course.now.subject.now.book.now.unit.now.lines }
-    ensures load { OnOk result (load.new ≡ (tally.selected (sight_of course.now.subject.now) selected.now.at (held names.old) selected.now.labels selected.now.weight choices.now load.old).load) }
-    ensures names { OnOk result (held names.new ≡ (tally.selected (sight_of course.now.subject.now) selected.now.at (held names.old) selected.now.labels selected.now.weight choices.now load.old).value) }
+    ensures load { OnOk result (load.new ≡ (tally.selected (sight_of course.now.subject.now) selected.now.at (held names.old) selected.now.labels
+        selected.now.weight choices.now load.old).load) }
+    ensures names { OnOk result (held names.new ≡ (tally.selected (sight_of course.now.subject.now) selected.now.at (held names.old)
+        selected.now.labels selected.now.weight choices.now load.old).value) }
     ensures marks { OnOk result (marked names.new ≡ marked names.old) }
 {
     let Some(taken) = first_of(choices) else {
@@ -201,8 +207,10 @@ fn assigned(
     sides: &Sides,
 ) -> Result<(), NoMemory>
     requires { spot.now.at ≤ length course.now.subject.now.book.now.unit.now.lines }
-    ensures load { OnOk result (load.new ≡ (assigned_part (sight_of course.now.subject.now) spot.now.at (held names.old) sides.now.left.now sides.now.right.now spot.now.choices.now load.old).load) }
-    ensures names { OnOk result (held names.new ≡ (assigned_part (sight_of course.now.subject.now) spot.now.at (held names.old) sides.now.left.now sides.now.right.now spot.now.choices.now load.old).value) }
+    ensures load { OnOk result (load.new ≡ (assigned_part (sight_of course.now.subject.now) spot.now.at (held names.old) sides.now.left.now
+        sides.now.right.now spot.now.choices.now load.old).load) }
+    ensures names { OnOk result (held names.new ≡ (assigned_part (sight_of course.now.subject.now) spot.now.at (held names.old) sides.now.left.now
+        sides.now.right.now spot.now.choices.now load.old).value) }
     ensures marks { OnOk result (marked names.new ≡ marked names.old) }
 {
     let Ok(weight) = value(course.subject, names, load, sides.right) else {
@@ -226,8 +234,10 @@ fn computed(
     goto: (usize, Name),
 ) -> Result<(), NoMemory>
     requires { spot.now.at ≤ length course.now.subject.now.book.now.unit.now.lines }
-    ensures load { OnOk result (load.new ≡ (computed_part (sight_of course.now.subject.now) spot.now.at (held names.old) goto.0 goto.1 spot.now.choices.now load.old).load) }
-    ensures names { OnOk result (held names.new ≡ (computed_part (sight_of course.now.subject.now) spot.now.at (held names.old) goto.0 goto.1 spot.now.choices.now load.old).value) }
+    ensures load { OnOk result (load.new ≡ (computed_part (sight_of course.now.subject.now) spot.now.at (held names.old) goto.0 goto.1
+        spot.now.choices.now load.old).load) }
+    ensures names { OnOk result (held names.new ≡ (computed_part (sight_of course.now.subject.now) spot.now.at (held names.old) goto.0 goto.1
+        spot.now.choices.now load.old).value) }
     ensures marks { OnOk result (marked names.new ≡ marked names.old) }
 {
     let (labels, name) = goto;
@@ -265,8 +275,10 @@ fn entered(
     head: &Head,
 ) -> Result<(), NoMemory>
     requires { spot.now.at ≤ length course.now.subject.now.book.now.unit.now.lines }
-    ensures load { OnOk result (load.new ≡ (do_part (sight_of course.now.subject.now) spot.now.at (held names.old) head.now.label head.now.variable head.now.first head.now.last head.now.step spot.now.choices.now load.old).load) }
-    ensures names { OnOk result (held names.new ≡ (do_part (sight_of course.now.subject.now) spot.now.at (held names.old) head.now.label head.now.variable head.now.first head.now.last head.now.step spot.now.choices.now load.old).value) }
+    ensures load { OnOk result (load.new ≡ (do_part (sight_of course.now.subject.now) spot.now.at (held names.old) head.now.label head.now.variable
+        head.now.first head.now.last head.now.step spot.now.choices.now load.old).load) }
+    ensures names { OnOk result (held names.new ≡ (do_part (sight_of course.now.subject.now) spot.now.at (held names.old) head.now.label
+        head.now.variable head.now.first head.now.last head.now.step spot.now.choices.now load.old).value) }
     ensures marks { OnOk result (marked names.new ≡ marked names.old) }
 {
     let subject = course.subject;
@@ -304,8 +316,10 @@ fn called(
     callee: &Callee,
 ) -> Result<(), NoMemory>
     requires { spot.now.at ≤ length course.now.subject.now.book.now.unit.now.lines }
-    ensures load { OnOk result (load.new ≡ (call_part (sight_of course.now.subject.now) spot.now.at (held names.old) callee.now.name.now callee.now.args.now spot.now.choices.now load.old).load) }
-    ensures names { OnOk result (held names.new ≡ (call_part (sight_of course.now.subject.now) spot.now.at (held names.old) callee.now.name.now callee.now.args.now spot.now.choices.now load.old).value) }
+    ensures load { OnOk result (load.new ≡ (call_part (sight_of course.now.subject.now) spot.now.at (held names.old) callee.now.name.now
+        callee.now.args.now spot.now.choices.now load.old).load) }
+    ensures names { OnOk result (held names.new ≡ (call_part (sight_of course.now.subject.now) spot.now.at (held names.old) callee.now.name.now
+        callee.now.args.now spot.now.choices.now load.old).value) }
     ensures marks { OnOk result (marked names.new ≡ marked names.old) }
 {
     let subject = course.subject;
@@ -350,8 +364,10 @@ fn decided(
     carried: &Stmt,
 ) -> Result<(), NoMemory>
     requires { decision.now.spot.now.at ≤ length course.now.subject.now.book.now.unit.now.lines }
-    ensures load { OnOk result (load.new ≡ (decided_part (sight_of course.now.subject.now) decision.now.spot.now.at (held names.old) decision.now.condition.now carried.now decision.now.spot.now.choices.now load.old).load) }
-    ensures names { OnOk result (held names.new ≡ (decided_part (sight_of course.now.subject.now) decision.now.spot.now.at (held names.old) decision.now.condition.now carried.now decision.now.spot.now.choices.now load.old).value) }
+    ensures load { OnOk result (load.new ≡ (decided_part (sight_of course.now.subject.now) decision.now.spot.now.at (held names.old)
+        decision.now.condition.now carried.now decision.now.spot.now.choices.now load.old).load) }
+    ensures names { OnOk result (held names.new ≡ (decided_part (sight_of course.now.subject.now) decision.now.spot.now.at (held names.old)
+        decision.now.condition.now carried.now decision.now.spot.now.choices.now load.old).value) }
     ensures marks { OnOk result (marked names.new ≡ marked names.old) }
 {
     let at = decision.spot.at;
@@ -384,8 +400,10 @@ fn perform(
     stmt: &Stmt,
 ) -> Result<(), NoMemory>
     requires { spot.now.at ≤ length course.now.subject.now.book.now.unit.now.lines }
-    ensures load { OnOk result (load.new ≡ (tally.performed (sight_of course.now.subject.now) spot.now.at (held names.old) stmt.now spot.now.choices.now load.old).load) }
-    ensures names { OnOk result (held names.new ≡ (tally.performed (sight_of course.now.subject.now) spot.now.at (held names.old) stmt.now spot.now.choices.now load.old).value) }
+    ensures load { OnOk result (load.new ≡ (tally.performed (sight_of course.now.subject.now) spot.now.at (held names.old) stmt.now
+        spot.now.choices.now load.old).load) }
+    ensures names { OnOk result (held names.new ≡ (tally.performed (sight_of course.now.subject.now) spot.now.at (held names.old) stmt.now
+        spot.now.choices.now load.old).value) }
     ensures marks { OnOk result (marked names.new ≡ marked names.old) }
 {
     match stmt {
@@ -444,8 +462,10 @@ pub fn performed(
     work: &Work,
 ) -> Result<(), NoMemory>
     requires { work.now.at ≤ length course.now.subject.now.book.now.unit.now.lines }
-    ensures load { OnOk result (load.new ≡ (tally.performed (sight_of course.now.subject.now) work.now.at (held names.old) work.now.stmt.now work.now.choices.now load.old).load) }
-    ensures names { OnOk result (held names.new ≡ (tally.performed (sight_of course.now.subject.now) work.now.at (held names.old) work.now.stmt.now work.now.choices.now load.old).value) }
+    ensures load { OnOk result (load.new ≡ (tally.performed (sight_of course.now.subject.now) work.now.at (held names.old) work.now.stmt.now
+        work.now.choices.now load.old).load) }
+    ensures names { OnOk result (held names.new ≡ (tally.performed (sight_of course.now.subject.now) work.now.at (held names.old) work.now.stmt.now
+        work.now.choices.now load.old).value) }
     ensures marks { OnOk result (marked names.new ≡ marked names.old) }
 {
     let spot = Spot {

@@ -54,8 +54,10 @@ pub(crate) fn tests(
     points: &[usize],
     choices: &[usize],
 ) -> Result<(), NoMemory>
-    ensures load { OnOk result (load.new ≡ (tally.tests (sight_of subject.now) (held names.old) (loops_told subject.now.book.now.unit.now.lines points.now) choices.now load.old).load) }
-    ensures names { OnOk result (held names.new ≡ (tally.tests (sight_of subject.now) (held names.old) (loops_told subject.now.book.now.unit.now.lines points.now) choices.now load.old).value) }
+    ensures load { OnOk result (load.new ≡ (tally.tests (sight_of subject.now) (held names.old)
+        (loops_told subject.now.book.now.unit.now.lines points.now) choices.now load.old).load) }
+    ensures names { OnOk result (held names.new ≡ (tally.tests (sight_of subject.now) (held names.old)
+        (loops_told subject.now.book.now.unit.now.lines points.now) choices.now load.old).value) }
     ensures marks { OnOk result (marked names.new ≡ marked names.old) }
 {
     let mut used = 0;
@@ -109,7 +111,8 @@ pub(crate) fn passed_over(
 ) -> Result<(), NoMemory>
     requires { ends.0 ≤ length course.now.subject.now.book.now.unit.now.lines }
     ensures load { OnOk result (load.new ≡ (tally.passed_over (sight_of course.now.subject.now) ends.0 ends.1 (held names.old) choices.now load.old).load) }
-    ensures names { OnOk result (held names.new ≡ (tally.passed_over (sight_of course.now.subject.now) ends.0 ends.1 (held names.old) choices.now load.old).value) }
+    ensures names { OnOk result (held names.new ≡ (tally.passed_over (sight_of course.now.subject.now) ends.0 ends.1 (held names.old) choices.now
+        load.old).value) }
     ensures marks { OnOk result (marked names.new ≡ marked names.old) }
 {
     let (last, at) = ends;

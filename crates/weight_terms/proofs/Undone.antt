@@ -28,7 +28,8 @@ module _ (eq : List ℕ → List ℕ → Bool) (k : List ℕ) (v w : ℕ) where
           let one : 1 + position_or_len (eq k) (keys_of es) ≡ suc (position_or_len (eq k) (keys_of es)) = omega arith in
           ap (λ n. set_value_at (e ∷ insert_entry eq es k v) n w) one ∙ ap (λ (l : Entries). e ∷ l) (later here)
 
-  pub restored : (es new : Entries) (place : ℕ) → Some w ≡ lookup (eq k) es → place ≡ position_or_len (eq k) (keys_of es) → new ≡ insert_entry eq es k v → Undoes es new (Was place w)
+  pub restored : (es new : Entries) (place : ℕ) → Some w ≡ lookup (eq k) es → place ≡ position_or_len (eq k) (keys_of es)
+      → new ≡ insert_entry eq es k v → Undoes es new (Was place w)
   restored es new place there at is log = ap (λ (l : Entries). pasts l log) ((λ i. set_value_at (is i) (at i) w) ∙ restored_at es (sym there))
 
 -- ---- the last name
@@ -75,7 +76,8 @@ rest_of f g fs gs e = cc
 none_is : (g : Named ℕ) (gs : List (Named ℕ)) → ◌≡◌ {A = List (Named ℕ)} [] (g ∷ gs) → ⊥
 none_is g gs e = cc
 
-pub at_mark : (now after : List Logged) (entries : Entries) (old new : Weights) → pasts entries now ≡ marked old → now ≡ Mark ∷ after → new.entries ≡ entries → new.log ≡ after → GoesBack old new
+pub at_mark : (now after : List Logged) (entries : Entries) (old new : Weights) → pasts entries now ≡ marked old → now ≡ Mark ∷ after
+    → new.entries ≡ entries → new.log ≡ after → GoesBack old new
 at_mark now after entries old new same is es ls told earlier e =
     let all : told_by entries ∷ pasts entries after ≡ told ∷ earlier = sym (ap (pasts entries) is) ∙ (same ∙ e) in
     record {

@@ -17,5 +17,6 @@ returns-clause-load c =
     let T : Option ℕ → Type 0 = λ o. IfSome o (λ place. Stands w steps c.args.path.now.start place c.stand.new.front c.stand.new.load) in
     let stood = subst T c.in-Some.is c.in-Ok.ensures.some in
     let all : length steps ≤ length steps = omega arith in
-    ended w steps c.args.path.now.start c.args.path.now.end (length steps) c.go.new.front c.go.new.load c.arrive.new.load all (c.in-Ok-go.ensures.start ∙ stood.start)
+    ended w steps c.args.path.now.start c.args.path.now.end (length steps) c.go.new.front c.go.new.load c.arrive.new.load all
+    (c.in-Ok-go.ensures.start ∙ stood.start)
     c.in-Ok-go.ensures.front.there c.in-Ok-go.ensures.front.clock c.in-Ok-go.ensures.at c.in-Ok-arrive.ensures

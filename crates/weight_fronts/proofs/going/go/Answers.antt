@@ -19,7 +19,8 @@ loop-at-preserved-in_default c =
       start = c.loop-at.invariant.start;
       within = omega arith;
       front = front_on w steps k (k + 1) f f more refl refl refl refl c.loop-at.invariant.front;
-      at = at_same w steps k (k + 1) f f c.loop-at.load (not_begun steps k (k + 1) (At 0) next c.loop-at-test.true c.in_default.ensures) refl refl c.loop-at.invariant.at;
+      at = at_same w steps k (k + 1) f f c.loop-at.load (not_begun steps k (k + 1) (At 0) next c.loop-at-test.true c.in_default.ensures) refl refl
+          c.loop-at.invariant.at;
     }
 
 pub loop-at-preserved : goal.loop-at-preserved
@@ -39,6 +40,7 @@ loop-at-preserved c =
           front_on w steps (suc k) (k + 1) g after more refl refl c.in-Ok-perform_at.ensures.marks refl
           (c.in-Ok.ensures.front w steps c.loop-at.invariant.front c.loop-at.invariant.at (c.in-Some.point, at));
       at =
-          at_next w steps k (k + 1) c.in-Some.point (take (length steps - (k + 1)) (drop (k + 1) steps)) g after c.loop-at.load c.perform_at.new.load next at (take_rest steps (k + 1)) refl
+          at_next w steps k (k + 1) c.in-Some.point (take (length steps - (k + 1)) (drop (k + 1) steps)) g after c.loop-at.load c.perform_at.new.load
+          next at (take_rest steps (k + 1)) refl
           c.in-Ok-perform_at.ensures.load c.in-Ok-perform_at.ensures.names (c.in-Ok.ensures.at w steps c.loop-at.invariant.at);
     }

@@ -10,7 +10,13 @@ pub returns-clause-some : goal.returns-clause-some
 returns-clause-some c steps =
     let s = c.args.subject.now in
     let next : c.args.start ≡ suc (c.args.start - 1) = omega arith in
-    at_assert (sight_of s) (record { names = c.clear.new.front.names; marks = c.clear.new.front.marks; start = c.args.start; clock = Some c.in-Ok-begin_at_assert.clock }) c.clear.ensures.marks
+    at_assert (sight_of s) (record {
+      names = c.clear.new.front.names;
+      marks = c.clear.new.front.marks;
+      start = c.args.start;
+      clock = Some
+          c.in-Ok-begin_at_assert.clock;
+    }) c.clear.ensures.marks
     steps c.args.start (c.args.start - 1) c.in-Ok-begin_at_assert.clock (assertion_tree s.pool.now c.in-Some.assert.now) c.begin_at_assert.new.load
     c.clear.ensures.names refl next c.in-Some.ensures.tree refl c.in-Ok-begin_at_assert.ensures.value
     (c.in-Ok-begin_at_assert.ensures.load ∙ (λ i. with_added (c.requires i) (assert_weight s c.in-Some.assert.now)))

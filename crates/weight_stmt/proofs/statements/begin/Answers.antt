@@ -11,4 +11,5 @@ returns-in-Common-clause-names c =
     let now = held c.args.names.now in
     c.in-Ok.ensures.weights
     ∙ (ap (with_name now b.variable) c.next.ensures
-    ∙ sym (ap (λ d. (tally.begin (sight_of c.args.course.now.subject.now) d b.ends b.at now b.variable b.first b.last b.step c.args.choices.now c.args.load.now).value) c.in-Common.is))
+    ∙ sym (ap (λ d. (tally.begin (sight_of c.args.course.now.subject.now) d b.ends b.at now b.variable b.first b.last b.step c.args.choices.now
+    c.args.load.now).value) c.in-Common.is))

@@ -14,7 +14,8 @@ returns-then-choice-eq1-clause-load c =
     let used : c.loop-at.used < length c.args.choices.now = omega arith in
     let one : get_or c.args.choices.now c.loop-at.used 0 ≡ 1 = omega arith in
     ap (λ (s : Tallied (Named ℕ)). s.load)
-    (round w lines (left w lines (held c.args.names.now) c.args.load.now c.args.points.now c.args.choices.now) (held c.loop-at.names) c.loop-at.load c.args.points.now c.args.choices.now c.loop-at.at-index c.loop-at.used c.loop-at.invariant.left
+    (round w lines (left w lines (held c.args.names.now) c.args.load.now c.args.points.now c.args.choices.now) (held c.loop-at.names) c.loop-at.load
+    c.args.points.now c.args.choices.now c.loop-at.at-index c.loop-at.used c.loop-at.invariant.left
     at 0 c.in-Some.found c.loop-at-test.true refl c.in-Some.ensures (get_or c.args.choices.now c.loop-at.used 0) 0 used refl
     (held c.turn.new.names) c.turn.new.load (c.in-Ok.ensures.names at) (c.in-Ok.ensures.load at) one)
 
@@ -26,7 +27,8 @@ returns-then-choice-eq1-clause-names c =
     let used : c.loop-at.used < length c.args.choices.now = omega arith in
     let one : get_or c.args.choices.now c.loop-at.used 0 ≡ 1 = omega arith in
     ap (λ (s : Tallied (Named ℕ)). s.value)
-    (round w lines (left w lines (held c.args.names.now) c.args.load.now c.args.points.now c.args.choices.now) (held c.loop-at.names) c.loop-at.load c.args.points.now c.args.choices.now c.loop-at.at-index c.loop-at.used c.loop-at.invariant.left
+    (round w lines (left w lines (held c.args.names.now) c.args.load.now c.args.points.now c.args.choices.now) (held c.loop-at.names) c.loop-at.load
+    c.args.points.now c.args.choices.now c.loop-at.at-index c.loop-at.used c.loop-at.invariant.left
     at 0 c.in-Some.found c.loop-at-test.true refl c.in-Some.ensures (get_or c.args.choices.now c.loop-at.used 0) 0 used refl
     (held c.turn.new.names) c.turn.new.load (c.in-Ok.ensures.names at) (c.in-Ok.ensures.load at) one)
 
@@ -40,8 +42,10 @@ loop-at-preserved c =
     let more : c.loop-at.used + 1 ≡ suc c.loop-at.used = omega arith in
     record {
       left =
-          on w lines (left w lines (held c.args.names.now) c.args.load.now c.args.points.now c.args.choices.now) (held c.loop-at.names) c.loop-at.load c.args.points.now c.args.choices.now c.loop-at.at-index c.loop-at.used c.loop-at.invariant.left
+          on w lines (left w lines (held c.args.names.now) c.args.load.now c.args.points.now c.args.choices.now) (held c.loop-at.names)
+          c.loop-at.load c.args.points.now c.args.choices.now c.loop-at.at-index c.loop-at.used c.loop-at.invariant.left
           at 0 c.in-Some.found c.loop-at-test.true refl c.in-Some.ensures (get_or c.args.choices.now c.loop-at.used 0) 0 used refl
-          (held c.turn.new.names) c.turn.new.load (c.loop-at.at-index + 1) (c.loop-at.used + 1) next more (c.in-Ok.ensures.names at) (c.in-Ok.ensures.load at) c.if-choice-eq1.false;
+          (held c.turn.new.names) c.turn.new.load (c.loop-at.at-index + 1) (c.loop-at.used + 1) next more (c.in-Ok.ensures.names at)
+          (c.in-Ok.ensures.load at) c.if-choice-eq1.false;
       marks = c.in-Ok.ensures.marks ∙ c.loop-at.invariant.marks;
     }
