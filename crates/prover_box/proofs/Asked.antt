@@ -3,7 +3,9 @@ use Rattle.std.proofs.Common.{◌≡◌, ◌≢◌, inl, inr, ℕ, zero, suc, �
 use Rattle.std.proofs.lemmas.List.{length-map, map-append, take_all, take_more}
 use Rattle.formula.specs.declared.definition.Definition.{Definition}
 use Rattle.formula.specs.declared.node.Node.{Node}
+use Rattle.formula.specs.Worth.{functions_of}
 use Rattle.fort_syntax.specs.declared.condition.Condition.{Condition}
+use Rattle.event_text.specs.Conditions.{condition_tree}
 use Rattle.prover_box.specs.Answers.{Seen, IsKept, AreKept, IsAnswer, AreAskedOnce, AreAsked, nothing, next, AreMarked, once_more, shown, told, unclosed}
 use Rattle.prover_box.specs.Tests.{IsValidIn}
 
@@ -146,14 +148,14 @@ module _ (pool : List Node) (ds : List Definition) (c : Condition) where
   marked_once (o ∷ os) (n ∷ ns) mark (is, inl closed) other = closed.0.sound refl
   marked_once (o ∷ os) (n ∷ ns) mark (is, inr denied) other = marked_once os ns mark denied.1 other
 
-pub marked_more : (pool : List Node) (ds : List Definition) (marks : List ℕ) (cs : List Condition) (mark : ℕ) (c : Condition) → AreMarked pool ds marks cs → (mark ≢ unclosed → IsValidIn pool ds c)
-    → AreMarked pool ds (marks ++ mark ∷ []) (cs ++ c ∷ [])
+pub marked_more : (pool : List Node) (ds : List Definition) (marks : List ℕ) (cs : List Condition) (mark : ℕ) (c : Condition) → AreMarked (functions_of pool ds) marks (map (condition_tree pool) cs) → (mark ≢ unclosed → IsValidIn pool ds c)
+    → AreMarked (functions_of pool ds) (marks ++ mark ∷ []) (map (condition_tree pool) (cs ++ c ∷ []))
 marked_more pool ds [] [] mark c h k = (k, tt)
 marked_more pool ds [] (d ∷ cs) mark c h k = absurd h
 marked_more pool ds (m ∷ marks) [] mark c h k = absurd h
 marked_more pool ds (m ∷ marks) (d ∷ cs) mark c h k = (h.0, marked_more pool ds marks cs mark c h.1 k)
 
-pub asked_marked : (pool : List Node) (ds : List Definition) (before : List Seen) (cs : List Condition) (now : List Seen) (marks : List ℕ) → AreAsked pool ds before cs now marks → AreMarked pool ds marks cs
+pub asked_marked : (pool : List Node) (ds : List Definition) (before : List Seen) (cs : List Condition) (now : List Seen) (marks : List ℕ) → AreAsked pool ds before cs now marks → AreMarked (functions_of pool ds) marks (map (condition_tree pool) cs)
 asked_marked pool ds before _ _ _ nothing = tt
 asked_marked pool ds before _ _ _ (next {cs = cs} {now = now} {marks = marks} c later mark h one) =
     marked_more pool ds marks cs mark c (asked_marked pool ds before cs now marks h) (marked_once pool ds c now later mark one)
@@ -174,10 +176,10 @@ asked_more pool ds before cs i c d now later marks more mark below at is asked o
 
 -- all conditions have their marks
 pub marked_all : (pool : List Node) (ds : List Definition) (before : List Seen) (cs : List Condition) (i : ℕ) (now : List Seen) (marks given : List ℕ)
-    → length cs ≤ i → given ≡ marks → AreAsked pool ds before (take i cs) now marks → AreMarked pool ds given cs
+    → length cs ≤ i → given ≡ marks → AreAsked pool ds before (take i cs) now marks → AreMarked (functions_of pool ds) given (map (condition_tree pool) cs)
 marked_all pool ds before cs i now marks given whole is asked =
     let all : AreAsked pool ds before cs now marks = subst (λ l. AreAsked pool ds before l now marks) (take_all i cs whole) asked in
-    subst (λ l. AreMarked pool ds l cs) (sym is) (asked_marked pool ds before cs now marks all)
+    subst (λ l. AreMarked (functions_of pool ds) l (map (condition_tree pool) cs)) (sym is) (asked_marked pool ds before cs now marks all)
 
 -- one more prover is told
 pub told_more : {X : Type 0} (f : X → Seen) (xs : List X) (i : ℕ) (x d : X) (pair : ℕ × ℕ) (so_far more : List (ℕ × ℕ)) → i < length xs → x ≡ get_or xs i d → pair ≡ told (f x) → more ≡ so_far ++ pair ∷ []

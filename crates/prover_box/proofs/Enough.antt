@@ -1,15 +1,16 @@
 -- What marks and counts tell.
-use Rattle.std.proofs.Common.{◌≡◌, ◌≢◌, inl, inr, ℕ, suc, ◌+◌, ◌≤◌, ◌==◌, Bool, true, false, Option, Some, None, List, [], ◌∷◌, ◌++◌, length, map, refl, sym, ap, ◌∙◌, subst, true≢false, arith}
+use Rattle.std.proofs.Common.{◌≡◌, ◌≢◌, inl, inr, ℕ, suc, ◌+◌, ◌≤◌, ◌==◌, Bool, true, false, Option, Some, None, List, [], ◌∷◌, ◌++◌, length, refl, sym, ap, ◌∙◌, subst, true≢false, arith}
 use Rattle.std.specs.Prelude.{if◌then◌else◌, nat_le}
 use Rattle.std.proofs.lemmas.Bool.Decides.{Decides-eqb}
 use Rattle.std.proofs.lemmas.Grind.{common_steps}
 use Rattle.formula.specs.declared.definition.Definition.{Definition}
 use Rattle.formula.specs.declared.node.Node.{Node}
-use Rattle.formula.specs.Worth.{functions_of}
-use Rattle.event_text.specs.Conditions.{condition_tree}
+use Rattle.formula.specs.Worth.{Function}
+use Rattle.fort_model.specs.Conditions.{AreValid}
+use Rattle.fort_syntax.specs.Conditions.{ConditionTree}
 use Rattle.fort_syntax.specs.declared.condition.Condition.{Condition}
 use Rattle.prover_box.specs.Answers.{Seen, AreAsked, nothing, next, AreAskedOnce, AreKept, IsKept, IsTold, AreMarked, once_more, one_more, shown, unclosed}
-use Rattle.prover_box.specs.Laws.{AllValid, AreUnclosedValid, raised, FirstRose, EachRose, unclosed_count, DoesTell, AllTell, PassesTold, IsMarkByTests, AreMarksByTests}
+use Rattle.prover_box.specs.Laws.{AreUnclosedValid, raised, FirstRose, EachRose, unclosed_count, DoesTell, AllTell, PassesTold, IsMarkByTests, AreMarksByTests}
 use Rattle.prover_box.proofs.Asked.{kept_itself, kept_then, kept_once}
 
 -- ---- those that no prover closed
@@ -21,19 +22,18 @@ either_way V mark other same = by_test (mark == unclosed) refl
     by_test true e = same ((Decides-eqb mark unclosed).0 e)
     by_test false e = other (λ is. true≢false (sym ((Decides-eqb mark unclosed).1 is) ∙ e))
 
-pub enough : (pool : List Node) (ds : List Definition) (marks : List ℕ) (cs : List Condition) → AreMarked pool ds marks cs → AreUnclosedValid (functions_of pool ds) marks (map (condition_tree pool) cs)
-    → AllValid (functions_of pool ds) (map (condition_tree pool) cs)
-enough pool ds [] [] m u = tt
-enough pool ds [] (c ∷ cs) m u = absurd m
-enough pool ds (mark ∷ marks) [] m u = tt
-enough pool ds (mark ∷ marks) (c ∷ cs) m u = (either_way _ mark m.0 u.0, enough pool ds marks cs m.1 u.1)
+pub unclosed_enough : (fs : List Function) (marks : List ℕ) (cs : List ConditionTree) → AreMarked fs marks cs → AreUnclosedValid fs marks cs → AreValid fs cs
+unclosed_enough fs [] [] m u = tt
+unclosed_enough fs [] (c ∷ cs) m u = absurd m
+unclosed_enough fs (mark ∷ marks) [] m u = absurd m
+unclosed_enough fs (mark ∷ marks) (c ∷ cs) m u = (either_way _ mark m.0 u.0, unclosed_enough fs marks cs m.1 u.1)
 
 -- there is a mark for each condition
-pub marked_length : (pool : List Node) (ds : List Definition) (marks : List ℕ) (cs : List Condition) → AreMarked pool ds marks cs → length marks ≡ length cs
-marked_length pool ds [] [] m = refl
-marked_length pool ds [] (c ∷ cs) m = absurd m
-marked_length pool ds (mark ∷ marks) [] m = absurd m
-marked_length pool ds (mark ∷ marks) (c ∷ cs) m = ap suc (marked_length pool ds marks cs m.1)
+pub marked_length : (fs : List Function) (marks : List ℕ) (cs : List ConditionTree) → AreMarked fs marks cs → length marks ≡ length cs
+marked_length fs [] [] m = refl
+marked_length fs [] (c ∷ cs) m = absurd m
+marked_length fs (mark ∷ marks) [] m = absurd m
+marked_length fs (mark ∷ marks) (c ∷ cs) m = ap suc (marked_length fs marks cs m.1)
 
 -- ---- counts
 

@@ -2,6 +2,8 @@
 use Rattle.std.specs.Prelude.{◌≡◌, ◌≢◌, ◌↔◌, ◌⊎◌, ℕ, ◌+◌, ◌-◌, ◌^◌, ◌≤◌, ◌&&◌, min, max, nat_le, if◌then◌else◌, Bool, List, [], ◌∷◌, ◌++◌, Option, Some, None, IsTrue, ⊤}
 use Rattle.formula.specs.declared.definition.Definition.{Definition}
 use Rattle.formula.specs.declared.node.Node.{Node}
+use Rattle.formula.specs.Worth.{Function, IsValid}
+use Rattle.fort_syntax.specs.Conditions.{ConditionTree}
 use Rattle.fort_syntax.specs.declared.condition.Condition.{Condition}
 use Rattle.prover_box.specs.Tests.{IsValidIn, PassesTest}
 
@@ -73,9 +75,9 @@ AreKept [] (n ∷ ns) = ⊥
 AreKept (o ∷ os) [] = ⊥
 AreKept (o ∷ os) (n ∷ ns) = IsKept o n × AreKept os ns
 
--- a condition with a letter is valid
-abbrev pub AreMarked : List Node → List Definition → List ℕ → List Condition → Type 0
-AreMarked pool ds [] [] = ⊤
-AreMarked pool ds [] (c ∷ cs) = ⊥
-AreMarked pool ds (mark ∷ marks) [] = ⊥
-AreMarked pool ds (mark ∷ marks) (c ∷ cs) = (mark ≢ unclosed → IsValidIn pool ds c) × AreMarked pool ds marks cs
+-- there is a mark for each condition, and a condition with a letter is valid
+abbrev pub AreMarked : List Function → List ℕ → List ConditionTree → Type 0
+AreMarked fs [] [] = ⊤
+AreMarked fs [] (c ∷ cs) = ⊥
+AreMarked fs (mark ∷ marks) [] = ⊥
+AreMarked fs (mark ∷ marks) (c ∷ cs) = (mark ≢ unclosed → IsValid fs c.hyps c.goal) × AreMarked fs marks cs

@@ -1,20 +1,15 @@
 -- Laws of marks and counts.
-use Rattle.std.specs.Prelude.{ℕ, ◌+◌, ◌-◌, ◌^◌, ◌≤◌, ◌==◌, ◌≡◌, ◌⊎◌, min, max, if◌then◌else◌, Option, Some, None, List, [], ◌∷◌, length, map, ⊤}
+use Rattle.std.specs.Prelude.{ℕ, ◌+◌, ◌-◌, ◌^◌, ◌≤◌, ◌==◌, ◌≡◌, ◌⊎◌, min, max, if◌then◌else◌, Option, Some, None, List, [], ◌∷◌, length, ⊤}
 use Rattle.formula.specs.declared.definition.Definition.{Definition}
 use Rattle.formula.specs.declared.node.Node.{Node}
-use Rattle.formula.specs.Worth.{Function, functions_of, IsValid}
+use Rattle.formula.specs.Worth.{Function, IsValid}
 use Rattle.fort_syntax.specs.declared.condition.Condition.{Condition}
 use Rattle.fort_syntax.specs.Conditions.{ConditionTree}
-use Rattle.event_text.specs.Conditions.{condition_tree}
+use Rattle.fort_model.specs.Conditions.{AreValid}
 use Rattle.prover_box.specs.Answers.{Seen, AreAsked, AreMarked, shown, unclosed}
 use Rattle.prover_box.specs.Tests.{PassesTest}
 
 -- ---- what marks are good for
-
--- all conditions are valid
-abbrev pub AllValid : List Function → List ConditionTree → Type 0
-AllValid fs [] = ⊤
-AllValid fs (c ∷ cs) = IsValid fs c.hyps c.goal × AllValid fs cs
 
 -- the conditions whose mark is `-` are valid
 abbrev pub AreUnclosedValid : List Function → List ℕ → List ConditionTree → Type 0
@@ -25,8 +20,7 @@ AreUnclosedValid fs (mark ∷ marks) (c ∷ cs) = (mark ≡ unclosed → IsValid
 -- where conditions have the marks that provers gave, and those with `-` are valid, all are valid
 abbrev pub UnclosedAreEnough : Type 0
 UnclosedAreEnough =
-    (pool : List Node) (ds : List Definition) (marks : List ℕ) (cs : List Condition) → AreMarked pool ds marks cs
-    → AreUnclosedValid (functions_of pool ds) marks (map (condition_tree pool) cs) → AllValid (functions_of pool ds) (map (condition_tree pool) cs)
+    (fs : List Function) (marks : List ℕ) (cs : List ConditionTree) → AreMarked fs marks cs → AreUnclosedValid fs marks cs → AreValid fs cs
 
 -- ---- counts
 

@@ -1,7 +1,8 @@
 // All conditions to all provers.
 ghost use Rattle.std.specs.Prelude.{◌≡◌, map, IfOk};
 ghost use Rattle.std.specs.List.{All};
-ghost use Rattle.event_text.specs.Conditions.{IsConditionIn};
+ghost use Rattle.event_text.specs.Conditions.{IsConditionIn, condition_tree};
+ghost use Rattle.formula.specs.Worth.{functions_of};
 ghost use Rattle.formula.specs.Adding.{AreAdded};
 ghost use Rattle.prover_box.specs.Answers.{AreAsked, AreAskedOnce, AreKept, AreMarked, IsAnswer, once_more, shown, told};
 
@@ -102,7 +103,7 @@ pub fn close_all(
     requires terms { All (IsConditionIn pool.now) conditions.now }
     requires added { AreAdded pool.now definitions.now }
     ensures asked { IfOk result (λ m. AreAsked pool.now definitions.now (map seen provers.old.items) conditions.now (map seen provers.new.items) m.letters) }
-    ensures sound { IfOk result (λ m. AreMarked pool.now definitions.now m.letters conditions.now) }
+    ensures sound { IfOk result (λ m. AreMarked (functions_of pool.now definitions.now) m.letters (map (condition_tree pool.now) conditions.now)) }
     ensures told { IfOk result (λ m. m.asked ≡ map told (map seen provers.new.items)) }
     ensures kept { AreKept (map seen provers.old.items) (map seen provers.new.items) }
 {

@@ -24,14 +24,14 @@ abbrev pub unmarked : List ConditionTree → Marks
 unmarked cs = record { letters = replicate (length cs) 45; asked = [] }
 
 -- marks that may stand behind conditions: `-` or a letter for each, and counts for provers' letters
-pub record AreMarksFor (cs : List ConditionTree) (marks : Marks) : Type 0 where
+pub record MayMark (cs : List ConditionTree) (marks : Marks) : Type 0 where
   pub count : length marks.letters ≡ length cs
   pub letters : list_all is_mark marks.letters ≡ true
   pub asked : All IsAsked marks.asked
 
 -- `-` for each may stand behind all conditions
 abbrev pub UnmarkedAreMarks : Type 0
-UnmarkedAreMarks = (cs : List ConditionTree) → AreMarksFor cs (unmarked cs)
+UnmarkedAreMarks = (cs : List ConditionTree) → MayMark cs (unmarked cs)
 
 -- ---- accepted decks
 
@@ -40,7 +40,7 @@ UnmarkedAreMarks = (cs : List ConditionTree) → AreMarksFor cs (unmarked cs)
 abbrev pub SmallConditionsAreReadable : Type 0
 SmallConditionsAreReadable =
     (dialect : Dialect) (deck : Deck) (r : Remarks) (p : Program) (paths : List (List Path)) → IsAcceptedAs dialect deck r p paths → IsWithinLimits p paths → IsSmall p → HasInputs p
-    → (marks : Marks) → AreMarksFor (conditions_of p paths) marks → IsReadable p.functions (conditions_of p paths) marks
+    → (marks : Marks) → MayMark (conditions_of p paths) marks → IsReadable p.functions (conditions_of p paths) marks
 
 -- ---- accepted bytes
 
@@ -48,7 +48,7 @@ SmallConditionsAreReadable =
 abbrev pub ConditionsInAreReadable : Type 0
 ConditionsInAreReadable =
     (d : Dialect) (bytes : List ℕ) (deck : Deck) (r : Remarks) (p : Program) (paths : List (List Path)) → IsAcceptedIn d bytes deck r p paths
-    → (marks : Marks) → AreMarksFor (conditions_of p paths) marks → IsReadable p.functions (conditions_of p paths) marks
+    → (marks : Marks) → MayMark (conditions_of p paths) marks → IsReadable p.functions (conditions_of p paths) marks
 
 -- so they can without marks
 abbrev pub UnmarkedInAreReadable : Type 0
@@ -60,6 +60,6 @@ UnmarkedInAreReadable =
 abbrev pub TextTellsConditions : Type 0
 TextTellsConditions =
     (d : Dialect) (bytes : List ℕ) (deck : Deck) (r : Remarks) (p : Program) (paths : List (List Path)) → IsAcceptedIn d bytes deck r p paths
-    → (marks : Marks) → AreMarksFor (conditions_of p paths) marks
+    → (marks : Marks) → MayMark (conditions_of p paths) marks
     → (es : List Function) (cs : List ConditionTree) (others : Marks) → IsReadable es cs others → event_text p.functions (conditions_of p paths) marks ≡ event_text es cs others
     → AreAlike p.functions es (conditions_of p paths) cs marks others

@@ -1,10 +1,10 @@
 -- The marks and the counts of provers can be read back.
 use Rattle.std.proofs.Common.{◌≡◌, ◌==◌, ◌||◌, ◌&&◌, inl, inr, ℕ, Bool, true, false, if◌then◌else◌, List, [], ◌∷◌, map, get_or, refl, sym, ap, ◌∙◌, subst}
 use Rattle.std.specs.List.{All, list_all}
-use Rattle.std.proofs.lemmas.List.{length-map}
 use Rattle.std.proofs.lemmas.List.Elements.{All-map}
 use Rattle.std.proofs.lemmas.List.Folds.{list_all-append}
 use Rattle.formula.specs.Atoms.{is_letter}
+use Rattle.formula.specs.Worth.{functions_of}
 use Rattle.formula.specs.declared.definition.Definition.{Definition}
 use Rattle.formula.specs.declared.node.Node.{Node}
 use Rattle.fort_syntax.specs.declared.condition.Condition.{Condition}
@@ -14,7 +14,7 @@ use Rattle.event_text.specs.declared.marks.Marks.{Marks}
 use Rattle.prover_box.specs.Answers.{Seen, AreAsked, nothing, next, AreAskedOnce, shown, told}
 use Rattle.prover_box.proofs.Asked.{asked_marked}
 use Rattle.prover_box.proofs.Enough.{marked_length}
-use Rattle.readable_laws.specs.Laws.{AreMarksFor as MayStand}
+use Rattle.readable_laws.specs.Laws.{MayMark}
 use Rattle.vcg_top.specs.Marked.{AreSmall}
 
 letter_if : (b : Bool) (l : ℕ) → is_letter l ≡ b → is_letter (if b then l else 88) ≡ true
@@ -55,11 +55,11 @@ told_letters : (now : List Seen) → All IsLettered (map told now)
 told_letters now = All-map IsLettered told now (λ k d lt. shown_letter (get_or now k d).letter)
 
 pub may_stand : (pool : List Node) (ds : List Definition) (cs : List Condition) (before now : List Seen) (m : Marks) → AreAsked pool ds before cs now m.letters → m.asked ≡ map told now → AreSmall m.asked
-    → MayStand (map (condition_tree pool) cs) m
+    → MayMark (map (condition_tree pool) cs) m
 may_stand pool ds cs before now m h counts small =
     let letters : All IsLettered m.asked = subst (λ (l : List (ℕ × ℕ)). All IsLettered l) (sym counts) (told_letters now) in
     record {
-      count = marked_length pool ds m.letters cs (asked_marked pool ds before cs now m.letters h) ∙ sym (length-map cs (condition_tree pool));
+      count = marked_length (functions_of pool ds) m.letters (map (condition_tree pool) cs) (asked_marked pool ds before cs now m.letters h);
       letters = marks_fine pool ds before cs now m.letters h;
       asked = λ k d lt. (letters k d lt, small k d lt);
     }

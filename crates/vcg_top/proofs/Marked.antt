@@ -1,33 +1,25 @@
 -- What the marks of conditions tell.
-use Rattle.std.proofs.Common.{◌≡◌, ◌≢◌, inl, inr, ℕ, ◌==◌, Bool, true, false, Option, Some, None, List, [], ◌∷◌, length, map, refl, sym, ap, ◌∙◌, subst, true≢false}
+use Rattle.std.proofs.Common.{◌≡◌, inl, inr, ℕ, Option, Some, None, List, [], ◌∷◌, length, map, refl, sym, ap, ◌∙◌, subst}
 use Rattle.std.specs.Prelude.{replicate}
-use Rattle.std.proofs.lemmas.Bool.Decides.{Decides-eqb}
 use Rattle.std.proofs.lemmas.List.{length-map}
 use Rattle.formula.specs.declared.definition.Definition.{Definition}
 use Rattle.formula.specs.declared.node.Node.{Node}
 use Rattle.formula.specs.Worth.{Function, functions_of}
 use Rattle.fort_syntax.specs.Conditions.{ConditionTree}
 use Rattle.fort_syntax.specs.declared.condition.Condition.{Condition}
-use Rattle.fort_model.specs.Conditions.{AreValid}
 use Rattle.event_text.specs.Conditions.{condition_tree}
 use Rattle.event_text.specs.declared.marks.Marks.{Marks}
-use Rattle.prover_box.specs.Answers.{Seen, AreAsked, AreKept, AreMarked, told, unclosed}
-use Rattle.prover_box.specs.Laws.{AllTell, AreMarksByTests, AreUnclosedValid, FirstRose, IsMarkByTests, PassesTold}
+use Rattle.prover_box.specs.Answers.{Seen, AreAsked, AreKept, told, unclosed}
+use Rattle.prover_box.specs.Laws.{AllTell, AreMarksByTests, FirstRose, IsMarkByTests, PassesTold}
 use Rattle.prover_box.proofs.Asked.{asked_marked}
 use Rattle.prover_box.proofs.Enough.{kept_by_all, marked_by_tests, rise}
-use Rattle.vcg_top.specs.Marked.{AreSmall, AreMarkedValid, AreMarksBy, AreMarksFor, IsMarkBy, PassesToldBy}
+use Rattle.vcg_top.specs.Marked.{AreSmall, AreMarksBy, AreMarksFor, IsMarkBy, PassesToldBy}
 use Rattle.vcg_top.proofs.Letters.{may_stand}
 use Rattle.vcg_top.proofs.Rests.{asked_for_rest}
 
 -- ---- of a pool, and of trees
 
 module _ (pool : List Node) (ds : List Definition) where
-  marked_trees : (marks : List ℕ) (cs : List Condition) → AreMarked pool ds marks cs → AreMarkedValid (functions_of pool ds) marks (map (condition_tree pool) cs)
-  marked_trees [] [] h = tt
-  marked_trees [] (c ∷ cs) h = absurd h
-  marked_trees (mark ∷ marks) [] h = absurd h
-  marked_trees (mark ∷ marks) (c ∷ cs) h = (h.0, marked_trees marks cs h.1)
-
   passes_tree : (test : Option ℕ) (c : Condition) → PassesTold pool ds test c → PassesToldBy (functions_of pool ds) test (condition_tree pool c)
   passes_tree None c h = absurd h
   passes_tree (Some n) c h = h
@@ -75,7 +67,7 @@ are_marks pool ds cs before now m h counts small =
     λ tells. marks_trees pool ds before m.letters cs (marked_by_tests pool ds before cs now m.letters tells h) in
     record {
       asked = record { pool = pool; definitions = ds; conditions = cs; functions = refl; trees = refl; asked = h };
-      valid = marked_trees pool ds m.letters cs (asked_marked pool ds before cs now m.letters h);
+      valid = asked_marked pool ds before cs now m.letters h;
       may_stand = may_stand pool ds cs before now m h counts small;
       counts = counts;
       kept = kept;
@@ -88,18 +80,3 @@ are_marks pool ds cs before now m h counts small =
         none_told before now m.asked none kept counts,
       );
     }
-
--- ---- those with the mark `-` are enough
-
-either_way : (V : Type 0) (mark : ℕ) → (mark ≢ unclosed → V) → (mark ≡ unclosed → V) → V
-either_way V mark other same = by_test (mark == unclosed) refl
-  where
-    by_test : (b : Bool) → (mark == unclosed) ≡ b → V
-    by_test true e = same ((Decides-eqb mark unclosed).0 e)
-    by_test false e = other (λ is. true≢false (sym ((Decides-eqb mark unclosed).1 is) ∙ e))
-
-pub unclosed_enough : (fs : List Function) (marks : List ℕ) (cs : List ConditionTree) → AreMarkedValid fs marks cs → AreUnclosedValid fs marks cs → AreValid fs cs
-unclosed_enough fs [] [] m u = tt
-unclosed_enough fs [] (c ∷ cs) m u = absurd m
-unclosed_enough fs (mark ∷ marks) [] m u = absurd m
-unclosed_enough fs (mark ∷ marks) (c ∷ cs) m u = (either_way _ mark m.0 u.0, unclosed_enough fs marks cs m.1 u.1)

@@ -24,6 +24,7 @@ use Rattle.judging.specs.Judgement.{IsAcceptedIn, IsFirstFaultIn}
 use Rattle.judging.proofs.NoneBoth.{accepted_in_have_no_fault}
 use Rattle.judging.proofs.OneJudgement.{accepted_in_are_sound}
 use Rattle.prover_box.specs.Answers.{Seen}
+use Rattle.prover_box.proofs.Enough.{unclosed_enough}
 use Rattle.readable_laws.proofs.OfTexts.{conditions_in_are_readable, text_tells_conditions}
 use Rattle.reply_lines.specs.Lines.{accepted_line, made_line}
 use Rattle.reply_lines.specs.declared.lines.Sizes.{Sizes}
@@ -42,7 +43,7 @@ use Rattle.vcg_top.specs.Found.{AreMarksOf, IsMadeOf, IsReplyOf, IsTextOf, sizes
 use Rattle.vcg_top.specs.Marked.{AreMarksFor}
 use Rattle.vcg_top.specs.Soundness.{IsSoundText}
 use Rattle.vcg_top.proofs.Fronts.{accepted_of_front, fault_of_front}
-use Rattle.vcg_top.proofs.Marked.{are_marks, unclosed_enough}
+use Rattle.vcg_top.proofs.Marked.{are_marks}
 
 -- ---- texts
 

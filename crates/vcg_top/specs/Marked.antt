@@ -1,26 +1,19 @@
 -- The marks of conditions, and what they and the counts of provers tell.
-use Rattle.std.specs.Prelude.{ℕ, ◌≡◌, ◌≢◌, ◌<◌, ◌⊎◌, ◌^◌, Option, Some, None, List, [], ◌∷◌, length, map, replicate, ⊤}
+use Rattle.std.specs.Prelude.{ℕ, ◌≡◌, ◌<◌, ◌⊎◌, ◌^◌, Option, Some, None, List, [], ◌∷◌, length, map, replicate, ⊤}
 use Rattle.std.specs.List.{All}
 use Rattle.formula.specs.declared.definition.Definition.{Definition}
 use Rattle.formula.specs.declared.node.Node.{Node}
-use Rattle.formula.specs.Worth.{Function, functions_of, IsValid}
+use Rattle.formula.specs.Worth.{Function, functions_of}
 use Rattle.fort_syntax.specs.Conditions.{ConditionTree}
 use Rattle.fort_syntax.specs.declared.condition.Condition.{Condition}
 use Rattle.event_text.specs.Conditions.{condition_tree}
 use Rattle.event_text.specs.declared.marks.Marks.{Marks}
-use Rattle.prover_box.specs.Answers.{Seen, AreAsked, AreKept, shown, told, unclosed}
+use Rattle.prover_box.specs.Answers.{Seen, AreAsked, AreKept, AreMarked, shown, told, unclosed}
 use Rattle.prover_box.specs.Laws.{AllTell, EachRose, FirstRose, raised, unclosed_count}
 use Rattle.prover_box.specs.Tests.{passes_test}
-use Rattle.readable_laws.specs.Laws.{AreMarksFor as MayStand}
+use Rattle.readable_laws.specs.Laws.{MayMark}
 
 -- ---- marks
-
--- there is a mark for each condition, and a condition with a letter is valid
-abbrev pub AreMarkedValid : List Function → List ℕ → List ConditionTree → Type 0
-AreMarkedValid fs [] [] = ⊤
-AreMarkedValid fs [] (c ∷ cs) = ⊥
-AreMarkedValid fs (mark ∷ marks) [] = ⊥
-AreMarkedValid fs (mark ∷ marks) (c ∷ cs) = (mark ≢ unclosed → IsValid fs c.hyps c.goal) × AreMarkedValid fs marks cs
 
 -- the counts that are told have 64 bits at most
 abbrev pub AreSmall : List (ℕ × ℕ) → Type 0
@@ -79,8 +72,8 @@ pub record WereAsked (fs : List Function) (cs : List ConditionTree) (before now 
 -- The marks may stand behind the conditions: their text can be read back.
 pub record AreMarksFor (fs : List Function) (cs : List ConditionTree) (before now : List Seen) (marks : Marks) : Type 0 where
   pub asked : WereAsked fs cs before now marks.letters
-  pub valid : AreMarkedValid fs marks.letters cs
-  pub may_stand : MayStand cs marks
+  pub valid : AreMarked fs marks.letters cs
+  pub may_stand : MayMark cs marks
   pub counts : marks.asked ≡ map told now
   pub kept : AreKept before now
   pub first : FirstRose (length cs) before now

@@ -1,5 +1,5 @@
-use Rattle.prover_box.proofs.Enough.{enough}
+use Rattle.prover_box.proofs.Enough.{unclosed_enough}
 use Rattle.prover_box.proofs.laws.unclosed_are_enough.Goals as goal
 
 pub returns : goal.returns
-returns c = enough
+returns c = unclosed_enough

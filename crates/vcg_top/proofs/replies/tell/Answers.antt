@@ -1,4 +1,5 @@
-use Rattle.std.proofs.Common.{map, refl}
+use Rattle.std.proofs.Common.{◌∙◌, map, refl}
+use Rattle.std.proofs.lemmas.List.{length-map}
 use Rattle.formula.specs.Worth.{functions_of}
 use Rattle.event_text.specs.Conditions.{condition_tree}
 use Rattle.event_text.specs.EventText.{event_text}
@@ -9,8 +10,9 @@ use Rattle.vcg_top.proofs.replies.tell.Goals as goal
 pub write_events-requires-clause-letters : goal.write_events-requires-clause-letters
 write_events-requires-clause-letters g c =
     let found = c.args.found.now in
-    marked_length found.pool found.definitions c.in-Ok.marks.letters found.conditions
+    marked_length (functions_of found.pool found.definitions) c.in-Ok.marks.letters (map (condition_tree found.pool) found.conditions)
     (asked_marked found.pool found.definitions _ found.conditions _ c.in-Ok.marks.letters c.in-Ok.ensures.marks.asked)
+    ∙ length-map found.conditions (condition_tree found.pool)
 
 pub returns-clause-done : goal.returns-clause-done
 returns-clause-done g c is =
