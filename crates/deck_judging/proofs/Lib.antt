@@ -1,5 +1,6 @@
 pub mod CardsAscend
 pub mod Functions
+pub mod Counted
 pub mod Kept
 pub mod Scenes
 pub mod Faults

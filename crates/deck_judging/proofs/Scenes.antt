@@ -1,5 +1,5 @@
 -- What is known of a program stage by stage.
-use Rattle.std.proofs.Common.{◌≡◌, List, length, map, refl, sym, ap, subst}
+use Rattle.std.proofs.Common.{◌≡◌, ℕ, List, length, map, refl, sym, ap, subst}
 use Rattle.std.specs.List.{All}
 use Rattle.formula.proofs.Added.{added-Grows}
 use Rattle.formula.specs.Pool.{Grows}
@@ -78,11 +78,11 @@ module _ (d : Dialect) (deck : Deck) (pool : List Node) (ds : List Definition) (
     short = short;
   }
 
-  -- its conditions, where all rules are kept
-  pub are_conditions : (new : List Node) (cs : List Condition) → HaveTable deck.units rows → KeepCalls deck.units → KeepSmashing deck.units rows
-      → KeepsScene (found_program d deck pool ds specs rows) → AreAllConditions (found_program d deck pool ds specs rows) new cs → Grows pool new → All (IsConditionIn new) cs
-      → AreConditionsOfDeck d deck new ds cs
-  are_conditions new cs table calls smashing scene all grows inside =
+  -- its conditions and counts, where all rules are kept
+  pub are_conditions : (new : List Node) (cs : List Condition) (count units : ℕ) → units ≡ length deck.units → HaveTable deck.units rows → KeepCalls deck.units → KeepSmashing deck.units rows
+      → KeepsScene (found_program d deck pool ds specs rows) → AreAllConditions (found_program d deck pool ds specs rows) new cs count → Grows pool new → All (IsConditionIn new) cs
+      → AreConditionsOfDeck d deck (record { pool = new; definitions = ds; conditions = cs; units = units; paths = count; tries = specs.tries })
+  are_conditions new cs count units many table calls smashing scene all grows inside =
       let p = found_program d deck pool ds specs rows in
       let kept = kept_by_stages p (calls p refl) (smashing p refl refl) scene.0 scene.1 in
       let paths = all_paths_exist p (kept UncutCycle) in
@@ -97,4 +97,7 @@ module _ (d : Dialect) (deck : Deck) (pool : List Node) (ds : List Definition) (
         added = added-Grows pool new ds grows notes.added;
         trees = all.trees paths.0 paths.1;
         inside = inside;
+        units = many;
+        counted = all.counted paths.0 paths.1;
+        tries = refl;
       }

@@ -15,7 +15,7 @@ short_in d bytes deck h i u e =
     let few : length u.lines ≤ 1048576 = decks_are_short d bytes h.1.0 h.0 h.1.1 i u (subst (λ (x : Deck). slice_get x.units i ≡ Some u) h.1.3 e) in
     omega (arith, few)
 
-pub judged_in : (d : Dialect) (bytes : List ℕ) (deck : Deck) (j : Judged) → IsDeckIn d bytes deck → AreConditionsOfDeck d deck j.pool j.definitions j.conditions → IsJudgedIn d bytes j
+pub judged_in : (d : Dialect) (bytes : List ℕ) (deck : Deck) (j : Judged) → IsDeckIn d bytes deck → AreConditionsOfDeck d deck j → IsJudgedIn d bytes j
 judged_in d bytes deck j is h = record {
   deck = deck;
   r = h.r;
@@ -27,6 +27,9 @@ judged_in d bytes deck j is h = record {
   definitions_inside = h.bodies;
   definitions_added = h.added;
   conditions_inside = h.inside;
+  units = h.units;
+  paths_counted = h.counted;
+  tries = h.tries;
 }
 
 pub fault_in : (d : Dialect) (bytes : List ℕ) (deck : Deck) (f : Fault) → IsDeckIn d bytes deck → IsDeckFault d deck f → IsFirstFaultIn d bytes f

@@ -1,5 +1,5 @@
 -- What is found of a text that is accepted.
-use Rattle.std.specs.Prelude.{ℕ, ◌≡◌, List, map}
+use Rattle.std.specs.Prelude.{ℕ, ◌≡◌, ◌+◌, List, [], ◌∷◌, length, map}
 use Rattle.std.specs.List.{All}
 use Rattle.formula.specs.Adding.{AreAdded}
 use Rattle.formula.specs.Worth.{functions_of}
@@ -13,8 +13,14 @@ use Rattle.fort_model.specs.Program.{Program}
 use Rattle.judging.specs.Judgement.{IsAcceptedIn}
 use Rattle.deck_judging.specs.declared.found.Judged.{Judged}
 
+-- how many paths stand in lists of paths
+abbrev pub count_of_paths : List (List Path) → ℕ
+count_of_paths [] = 0
+count_of_paths (paths ∷ rest) = length paths + count_of_paths rest
+
 -- Bytes are accepted in a dialect; the definitions are those of their notes, and the conditions those of their program along all
--- its paths, all with terms of the pool, to which the definitions were added one after another.
+-- its paths, all with terms of the pool, to which the definitions were added one after another. The counts are those of its units and
+-- of these paths, and the assignments to conditions are those that the notes tell.
 pub record IsJudgedIn (d : Dialect) (bytes : List ℕ) (j : Judged) : Type 0 where
   pub deck : Deck
   pub r : Remarks
@@ -26,3 +32,6 @@ pub record IsJudgedIn (d : Dialect) (bytes : List ℕ) (j : Judged) : Type 0 whe
   pub definitions_inside : All (IsDefinitionIn j.pool) j.definitions
   pub definitions_added : AreAdded j.pool j.definitions
   pub conditions_inside : All (IsConditionIn j.pool) j.conditions
+  pub units : j.units ≡ length p.units
+  pub paths_counted : j.paths ≡ count_of_paths paths
+  pub tries : j.tries ≡ r.tries

@@ -28,6 +28,8 @@ use Rattle.accepted_laws.specs.ModelFaults.{IsModelFault}
 use Rattle.path_scene.specs.Scenes.{AreNotesIn, IsScene}
 use Rattle.path_scene.specs.declared.scene.Scene.{Scene}
 use Rattle.path_sizes.specs.Limits.{IsSizeFault, IsWithinLimits}
+use Rattle.deck_judging.specs.Judged.{count_of_paths}
+use Rattle.deck_judging.specs.declared.found.Judged.{Judged}
 
 -- ---- units
 
@@ -83,25 +85,30 @@ IsFlowFault p f = IsFirstBroken p rules_of_flow f ⊎ (KeepsFlow p × IsSizeFaul
 abbrev pub IsSceneFault : Program → Fault → Type 0
 IsSceneFault p f = IsFirstBroken p rules_of_ranges f ⊎ (KeepsAll p rules_of_ranges × IsFlowFault p f)
 
--- a program is within the limits with all its paths, and these are its conditions along them
-pub record AreAllConditions (p : Program) (pool : List Node) (cs : List Condition) : Type 0 where
+-- a program is within the limits with all its paths, these are its conditions along them, and so many paths they are
+pub record AreAllConditions (p : Program) (pool : List Node) (cs : List Condition) (count : ℕ) : Type 0 where
   pub within : (paths : List (List Path)) → AreAllPaths p paths → IsWithinLimits p paths
   pub trees : (paths : List (List Path)) → AreAllPaths p paths → map (condition_tree pool) cs ≡ conditions_of p paths
+  pub counted : (paths : List (List Path)) → AreAllPaths p paths → count ≡ count_of_paths paths
 
 -- ---- a deck
 
--- a deck is accepted, and these are its definitions and its conditions, as terms of a pool
-pub record AreConditionsOfDeck (dialect : Dialect) (deck : Deck) (pool : List Node) (ds : List Definition) (cs : List Condition) : Type 0 where
+-- a deck is accepted, and this is found of it: its definitions and its conditions, as terms of a pool, its counts of units and of paths,
+-- and the assignments to conditions that its notes tell
+pub record AreConditionsOfDeck (dialect : Dialect) (deck : Deck) (j : Judged) : Type 0 where
   pub r : Remarks
   pub p : Program
   pub paths : List (List Path)
   pub accepted : IsAcceptedAs dialect deck r p paths
   pub within : IsWithinLimits p paths
-  pub functions : functions_of pool ds ≡ r.definitions
-  pub bodies : All (IsDefinitionIn pool) ds
-  pub added : AreAdded pool ds
-  pub trees : map (condition_tree pool) cs ≡ conditions_of p paths
-  pub inside : All (IsConditionIn pool) cs
+  pub functions : functions_of j.pool j.definitions ≡ r.definitions
+  pub bodies : All (IsDefinitionIn j.pool) j.definitions
+  pub added : AreAdded j.pool j.definitions
+  pub trees : map (condition_tree j.pool) j.conditions ≡ conditions_of p paths
+  pub inside : All (IsConditionIn j.pool) j.conditions
+  pub units : j.units ≡ length p.units
+  pub counted : j.paths ≡ count_of_paths paths
+  pub tries : j.tries ≡ r.tries
 
 -- the first fault of a deck that is well formed: among its notes, in its calls or in a later stage, or else of sizes
 abbrev pub IsDeckFault : Dialect → Deck → Fault → Type 0

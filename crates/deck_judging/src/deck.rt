@@ -9,13 +9,13 @@ ghost use Rattle.deck_judging.specs.Stages.{AreConditionsOfDeck, AreNotesOf, Are
 use crate::Judged;
 use crate::noted::noted;
 use crate::notes_found::Noted;
-use crate::scene::conditions_of_scene;
+use crate::scene::{Found, conditions_of_scene};
 use crate::smashed::smashed;
 use call_sites::DeckBook;
 use edge_io::Keys;
+use fort_notes::Specs;
 use fort_syntax::{Deck, Dialect, Refusal};
 use name_tables::NameSet;
-use path_cond::Conditions;
 use path_scene::Scene;
 use std::alloc::Global;
 
@@ -43,7 +43,7 @@ fn judged_books(
     requires table { HaveTable deck.now.units known.smashes.items }
     requires smashing { KeepSmashing deck.now.units known.smashes.items }
     requires books { books.now.units.now ≡ deck.now.units }
-    ensures judged { IfOk result (λ j. AreConditionsOfDeck known.dialect deck.now j.pool j.definitions j.conditions) }
+    ensures judged { IfOk result (λ j. AreConditionsOfDeck known.dialect deck.now j) }
     ensures broken { (f : Fault) → result ≡ Err (Broken f) → IsDeckFault known.dialect deck.now f }
 {
     let Known {
@@ -71,11 +71,27 @@ fn judged_books(
         notes: _notes,
         smashes: _smashes,
     } = scene;
+    let Specs {
+        bound: _bound_read,
+        units: _units,
+        runs: _runs,
+        tries,
+        proofs: _proofs,
+    } = specs;
     match found {
-        Ok(Conditions { pool, conditions }) => Ok(Judged {
+        Ok(
+            Found {
+                pool,
+                conditions,
+                paths,
+            },
+        ) => Ok(Judged {
             pool,
             definitions,
             conditions,
+            units: deck.units.as_slice().len(),
+            paths,
+            tries,
         }),
         Err(refusal) => Err(refusal),
     }
@@ -89,7 +105,7 @@ fn judged_known(alloc: Global, keys: Keys, deck: &Deck, known: Known) -> Result<
     requires calls { KeepCalls deck.now.units }
     requires table { HaveTable deck.now.units known.smashes.items }
     requires smashing { KeepSmashing deck.now.units known.smashes.items }
-    ensures judged { IfOk result (λ j. AreConditionsOfDeck known.dialect deck.now j.pool j.definitions j.conditions) }
+    ensures judged { IfOk result (λ j. AreConditionsOfDeck known.dialect deck.now j) }
     ensures broken { (f : Fault) → result ≡ Err (Broken f) → IsDeckFault known.dialect deck.now f }
 {
     let Ok(books) = DeckBook::new(alloc, keys, deck.units.as_slice()) else {
@@ -109,7 +125,7 @@ fn judged_notes(
     requires well { IsWellFormed dialect deck.now }
     requires short { AreShort deck.now.units }
     requires notes { AreNotesOf deck.now noted.pool noted.definitions noted.specs }
-    ensures judged { IfOk result (λ j. AreConditionsOfDeck dialect deck.now j.pool j.definitions j.conditions) }
+    ensures judged { IfOk result (λ j. AreConditionsOfDeck dialect deck.now j) }
     ensures broken { (f : Fault) → result ≡ Err (Broken f) → IsDeckFault dialect deck.now f }
 {
     match smashed(alloc, keys, deck) {
@@ -134,7 +150,7 @@ pub(crate) fn judged_deck(
 ) -> Result<Judged, Refusal>
     requires well { IsWellFormed dialect deck.now }
     requires short { AreShort deck.now.units }
-    ensures judged { IfOk result (λ j. AreConditionsOfDeck dialect deck.now j.pool j.definitions j.conditions) }
+    ensures judged { IfOk result (λ j. AreConditionsOfDeck dialect deck.now j) }
     ensures broken { (f : Fault) → result ≡ Err (Broken f) → IsDeckFault dialect deck.now f }
 {
     match noted(alloc, keys, deck) {

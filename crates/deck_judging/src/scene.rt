@@ -11,16 +11,24 @@ ghost use Rattle.path_scene.specs.Scenes.{IsReady};
 ghost use Rattle.path_sizes.specs.Limits.{IsSizeFault};
 ghost use Rattle.deck_judging.specs.Stages.{AreAllConditions, IsAliased, IsFlowFault, IsSceneFault, KeepsFlow, KeepsScene};
 
-use edge_io::{Keys, NoMemory};
+use edge_io::{Keys, List, NoMemory};
 use flow_stage::graphs;
 use formula::TermPool;
 use fort_model::Graph;
-use fort_syntax::Refusal;
+use fort_syntax::{Condition, Refusal};
 use measure::measure;
 use path_cond::{Conditions, conditions};
 use path_scene::Scene;
 use range_stage::check_units;
 use std::alloc::Global;
+
+/// The conditions of a program with the pool of their terms, and how many paths it has.
+#[derive(Drop)]
+pub(crate) struct Found {
+    pub pool: TermPool,
+    pub conditions: List<Condition>,
+    pub paths: u32,
+}
 
 /// The conditions of a program, whose units have these graphs; or its fault of sizes.
 fn conditions_of_graphs(
@@ -29,18 +37,22 @@ fn conditions_of_graphs(
     pool: TermPool,
     scene: &Scene,
     graphs: &[Graph],
-) -> Result<Conditions, Refusal>
+) -> Result<Found, Refusal>
     requires ready { (p : Program) × IsReady pool scene.now p }
     requires graphs { (p : Program) → IsReady pool scene.now p → AreGraphsOf p graphs.now }
     ensures grows { IfOk result (λ c. Grows pool c.pool) }
     ensures inside { IfOk result (λ c. All (IsConditionIn c.pool) c.conditions) }
-    ensures conditions { IfOk result (λ c. (p : Program) → IsReady pool scene.now p → AreAllConditions p c.pool c.conditions) }
+    ensures conditions { IfOk result (λ c. (p : Program) → IsReady pool scene.now p → AreAllConditions p c.pool c.conditions c.paths) }
     ensures broken { (f : Fault) → result ≡ Err (Broken f) → (p : Program) → IsReady pool scene.now p → IsSizeFault p f }
 {
     match measure(alloc, keys, &pool, scene, graphs) {
         Err(refusal) => Err(refusal),
-        Ok(()) => match conditions(alloc, keys, pool, scene, graphs) {
-            Ok(found) => Ok(found),
+        Ok(counts) => match conditions(alloc, keys, pool, scene, graphs) {
+            Ok(Conditions { pool, conditions }) => Ok(Found {
+                pool,
+                conditions,
+                paths: counts.paths,
+            }),
             Err(NoMemory) => Err(Refusal::NoMemory),
         },
     }
@@ -53,12 +65,12 @@ fn conditions_of_ready(
     keys: Keys,
     pool: TermPool,
     scene: &Scene,
-) -> Result<Conditions, Refusal>
+) -> Result<Found, Refusal>
     requires ready { (p : Program) × IsReady pool scene.now p }
     ensures grows { IfOk result (λ c. Grows pool c.pool) }
     ensures inside { IfOk result (λ c. All (IsConditionIn c.pool) c.conditions) }
     ensures kept { IfOk result (λ c. (p : Program) → IsReady pool scene.now p → KeepsFlow p) }
-    ensures conditions { IfOk result (λ c. (p : Program) → IsReady pool scene.now p → AreAllConditions p c.pool c.conditions) }
+    ensures conditions { IfOk result (λ c. (p : Program) → IsReady pool scene.now p → AreAllConditions p c.pool c.conditions c.paths) }
     ensures broken { (f : Fault) → result ≡ Err (Broken f) → (p : Program) → IsReady pool scene.now p → IsFlowFault p f }
 {
     match graphs(alloc, keys, scene) {
@@ -74,12 +86,12 @@ pub(crate) fn conditions_of_scene(
     keys: Keys,
     pool: TermPool,
     scene: &Scene,
-) -> Result<Conditions, Refusal>
+) -> Result<Found, Refusal>
     requires aliased { (p : Program) × IsAliased pool scene.now p }
     ensures grows { IfOk result (λ c. Grows pool c.pool) }
     ensures inside { IfOk result (λ c. All (IsConditionIn c.pool) c.conditions) }
     ensures kept { IfOk result (λ c. (p : Program) → IsAliased pool scene.now p → KeepsScene p) }
-    ensures conditions { IfOk result (λ c. (p : Program) → IsAliased pool scene.now p → AreAllConditions p c.pool c.conditions) }
+    ensures conditions { IfOk result (λ c. (p : Program) → IsAliased pool scene.now p → AreAllConditions p c.pool c.conditions c.paths) }
     ensures broken { (f : Fault) → result ≡ Err (Broken f) → (p : Program) → IsAliased pool scene.now p → IsSceneFault p f }
 {
     match check_units(alloc, scene) {

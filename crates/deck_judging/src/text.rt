@@ -27,8 +27,8 @@ fn deck_of(alloc: Global, keys: Keys, dialect: Dialect, bytes: &[u8]) -> Result<
     }
 }
 
-/// The definitions and the conditions of some bytes that are accepted in a dialect: of a deck that
-/// keeps all rules. The conditions are those of all paths of its units, in order.
+/// What is found of some bytes that are accepted in a dialect: of a deck that keeps all rules. The
+/// conditions are those of all paths of its units, in order.
 ///
 /// An error says the first fault: the stages are those of cards, of the texts of statements, of
 /// units, of notes, of calls, of smashed names, of ranges and clocks, of the flow, and of sizes; each

@@ -4,7 +4,8 @@ use Rattle.std.proofs.lemmas.List.{drop_all}
 use Rattle.formula.specs.declared.node.Node.{Node}
 use Rattle.fort_syntax.specs.declared.refusal.Fault.{Fault}
 use Rattle.fort_syntax.specs.declared.unit.Unit.{Unit as Routine}
-use Rattle.fort_model.specs.Conditions.{AreAllPaths}
+use Rattle.fort_laws.proofs.OnePath.{paths_are_one}
+use Rattle.fort_model.specs.Conditions.{AreAllPaths, are_all_paths}
 use Rattle.fort_model.specs.Graphs.{IsGraphOf}
 use Rattle.fort_model.specs.Paths.{Path}
 use Rattle.fort_model.specs.Program.{Program, notes_of}
@@ -13,14 +14,18 @@ use Rattle.path_cut.specs.Ways.{Way, ways_of}
 use Rattle.path_scene.specs.Graphs.{AreGraphsOf, are_graphs_of}
 use Rattle.path_scene.specs.Scenes.{IsScene}
 use Rattle.path_scene.specs.declared.scene.Scene.{Scene}
-use Rattle.path_sizes.specs.Limits.{Sizes, nothing, AreWithin, IsSizeFault, IsWithinLimits, Passes, with_paths}
+use Rattle.path_sizes.specs.Limits.{Sizes, nothing, AreWithin, IsSizeFault, IsWithinLimits, Passes, with_paths, with_units}
 use Rattle.size_tallies.proofs.Adding.{sizes_are_tallied}
 use Rattle.size_tallies.proofs.Judging.{units_are_judged, units_follow}
 use Rattle.size_tallies.specs.Totals.{AreCapped, AreLeft, with_load, with_ways}
 use Rattle.way_laws.specs.PathsOf.{paths_of}
+use Rattle.way_laws.proofs.Whole.{ways_are_paths}
+use Rattle.weight_caps.specs.Capped.{capped}
+use Rattle.weight_caps.proofs.CappedSums.{CapOf, cap_of}
 use Rattle.weight_calls.specs.Programs.{seen_program}
 use Rattle.weight_tallies.specs.Tallies.{bare, load_of}
-use Rattle.measure.specs.Sizes.{IsSoFar, PassesBy, StaysWithin}
+use Rattle.measure.specs.Sizes.{AreCountsOf, AreSizesBefore, IsSoFar, PassesBy, StaysWithin}
+use Rattle.measure.specs.declared.counts.Counts.{Counts}
 
 -- ---- the program of a scene
 
@@ -86,6 +91,32 @@ module _ (p q : Program) (same : bare p ≡ bare q) where
     unit_capped : (behind : Sizes) → StaysWithin q i u graph told behind → AreCapped (with_paths p i u exact (paths_of graph)) behind
     unit_capped behind s = subst (AreCapped (with_paths p i u exact (paths_of graph))) (sym (s.is ∙ alike)) (sizes_are_tallied p i u graph is exact told h)
 
+-- ---- sizes behind some units
+
+module _ (p : Program) where
+  next_left : (i : ℕ) (u : Routine) (us : List Routine) (graph : Graph) (before whole : Sizes) → IsGraphOf p.dialect u (notes_of p i) graph
+      → (left : List (List Path)) × are_all_paths p i (u ∷ us) left × (with_units p i before (u ∷ us) left ≡ whole)
+      → (left : List (List Path)) × are_all_paths p (suc i) us left × (with_units p (suc i) (with_paths p i u before (paths_of graph)) us left ≡ whole)
+  next_left i u us graph before whole is ([], h, e) = absurd h
+  next_left i u us graph before whole is (ps ∷ rest, h, e) =
+      let same : paths_of graph ≡ ps = paths_are_one p.dialect u (notes_of p i) (paths_of graph) ps (ways_are_paths p.dialect u (notes_of p i) graph is) h.0 in
+      (rest, h.1, ap (λ qs. with_units p (suc i) (with_paths p i u before qs) us rest) same ∙ e)
+
+  sizes_next : (i : ℕ) (u : Routine) (us : List Routine) (graph : Graph) (before : Sizes) → IsGraphOf p.dialect u (notes_of p i) graph
+      → AreSizesBefore p i before (u ∷ us) → AreSizesBefore p (suc i) (with_paths p i u before (paths_of graph)) us
+  sizes_next i u us graph before is k paths all = next_left i u us graph before (with_units p 0 nothing p.units paths) is (k paths all)
+
+  last_left : (i : ℕ) (before whole : Sizes) → (left : List (List Path)) × are_all_paths p i [] left × (with_units p i before [] left ≡ whole) → before ≡ whole
+  last_left i before whole ([], h, e) = e
+  last_left i before whole (ps ∷ rest, h, e) = absurd h
+
+uncapped : (n c : ℕ) → n ≤ 100000 → CapOf n c → c ≡ n
+uncapped n c few (inl (h, e)) = omega arith
+uncapped n c few (inr (h, e)) = absurd (omega arith)
+
+uncapped_is : (n c : ℕ) → n ≤ 100000 → c ≡ capped n → c ≡ n
+uncapped_is n c few e = uncapped n c few (let T : ℕ → Type 0 = CapOf n in subst T (sym e) (cap_of n))
+
 -- ---- behind some units
 
 pub so_far_first : (p : Program) → IsSoFar p 0 nothing
@@ -94,6 +125,7 @@ so_far_first p = record {
   capped = record { paths = refl; conditions = refl; weight = refl };
   within = (omega arith, omega arith, omega arith);
   left = units_follow.first p;
+  sizes = λ paths all. (paths, all, refl);
 }
 
 pub few_so_far : (p : Program) (n : ℕ) (told : Sizes) → IsSoFar p n told → told.paths ≤ 4096
@@ -108,6 +140,17 @@ module _ (pool : List Node) (scene : Scene) (p : Program) (h : IsScene pool scen
       let many : length gs ≡ length p.units = as_many p 0 p.units gs all in
       let over : length p.units ≤ n = omega arith in
       units_follow.last p n s.before (subst (AreLeft p n s.before) (drop_all n p.units over) s.left) s.within
+
+  pub so_far_counts : length gs ≤ n → (c : Counts) → c.paths ≡ told.paths → c.conditions ≡ told.conditions → (paths : List (List Path)) → AreAllPaths p paths → AreCountsOf p paths c
+  so_far_counts past c as_paths as_conditions paths ways =
+      let many : length gs ≡ length p.units = as_many p 0 p.units gs all in
+      let over : length p.units ≤ n = omega arith in
+      let whole : s.before ≡ with_units p 0 nothing p.units paths =
+      last_left p n s.before (with_units p 0 nothing p.units paths) (subst (AreSizesBefore p n s.before) (drop_all n p.units over) s.sizes paths ways) in
+      record {
+        paths = as_paths ∙ s.capped.paths ∙ ap (λ (x : Sizes). x.paths) whole;
+        conditions = as_conditions ∙ uncapped_is s.before.conditions told.conditions s.within.1 s.capped.conditions ∙ ap (λ (x : Sizes). x.conditions) whole;
+      }
 
   module _ (g d : Graph) (less : n < length gs) (read : g ≡ get_or gs n d) where
     here : (u : Routine) × (slice_get p.units n ≡ Some u) × (drop n p.units ≡ u ∷ drop (suc n) p.units)
@@ -135,4 +178,5 @@ module _ (pool : List Node) (scene : Scene) (p : Program) (h : IsScene pool scen
           capped = unit_capped p q same n here.0 g graph s.before told s.capped behind (k here.0 there);
           within = within;
           left = units_follow.next p n here.0 (drop (suc n) p.units) g s.before graph (subst (AreLeft p n s.before) here.2 s.left) within;
+          sizes = sizes_next p n here.0 (drop (suc n) p.units) g s.before graph (subst (AreSizesBefore p n s.before) here.2 s.sizes);
         })

@@ -1,3 +1,3 @@
+mod Fronts
 mod Counting
-mod Insides
 mod Judged

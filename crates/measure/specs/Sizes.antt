@@ -2,13 +2,16 @@
 use Rattle.std.specs.Prelude.{◌≡◌, ◌⊎◌, ℕ, ◌+◌, ◌<◌, ◌≤◌, List, length, drop, Option, option_map, slice_get}
 use Rattle.fort_syntax.specs.declared.refusal.Fault.{Fault}
 use Rattle.fort_syntax.specs.declared.unit.Unit.{Unit as Routine}
+use Rattle.fort_model.specs.Conditions.{AreAllPaths, are_all_paths}
+use Rattle.fort_model.specs.Paths.{Path}
 use Rattle.fort_model.specs.Program.{Program}
 use Rattle.fort_model.specs.declared.graph.Graph.{Graph}
 use Rattle.path_cut.specs.Ways.{Way, ways_of}
-use Rattle.path_sizes.specs.Limits.{Sizes, AreWithin}
+use Rattle.path_sizes.specs.Limits.{Sizes, AreWithin, nothing, with_units}
 use Rattle.size_tallies.specs.Laws.{ConditionFault, PathFault, WeightFault}
 use Rattle.size_tallies.specs.Totals.{AreCapped, AreLeft, with_load, with_ways}
 use Rattle.weight_tallies.specs.Tallies.{load_of}
+use Rattle.measure.specs.declared.counts.Counts.{Counts}
 use Rattle.measure.specs.declared.totals.Totals.{Totals}
 
 -- sizes as the code has them
@@ -34,9 +37,22 @@ PassesBy p i u graph told f =
     ⊎ (((f ≡ ConditionFault u) × (told.paths + length (ways_of graph) ≤ 4096) × (100000 < (with_ways p i u told (ways_of graph)).conditions))
     ⊎ ((f ≡ WeightFault u) × (told.paths + length (ways_of graph) ≤ 4096) × ((with_ways p i u told (ways_of graph)).conditions ≤ 100000) × (2000000 < (with_ways p i u told (ways_of graph)).weight)))
 
+-- sizes are those of the units before the one of the number i: with those of the others along the paths that are left, they are
+-- the sizes of the program
+abbrev pub AreSizesBefore : Program → ℕ → Sizes → List Routine → Type 0
+AreSizesBefore p i before us =
+    (paths : List (List Path)) → AreAllPaths p paths
+    → (left : List (List Path)) × are_all_paths p i us left × (with_units p i before us left ≡ with_units p 0 nothing p.units paths)
+
 -- the units before the one of the number i are within the limits, and their sizes are told as far as the cap
 pub record IsSoFar (p : Program) (i : ℕ) (told : Sizes) : Type 0 where
   pub before : Sizes
   pub capped : AreCapped before told
   pub within : AreWithin before
   pub left : AreLeft p i before (drop i p.units)
+  pub sizes : AreSizesBefore p i before (drop i p.units)
+
+-- numbers of paths and of conditions are those of a program along these paths
+pub record AreCountsOf (p : Program) (ways : List (List Path)) (c : Counts) : Type 0 where
+  pub paths : c.paths ≡ (with_units p 0 nothing p.units ways).paths
+  pub conditions : c.conditions ≡ (with_units p 0 nothing p.units ways).conditions

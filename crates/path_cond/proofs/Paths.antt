@@ -18,12 +18,12 @@ use Rattle.path_cond.proofs.Added.{nothing_more}
 use Rattle.path_cond.proofs.Few.{checks_along}
 use Rattle.path_cond.proofs.UnitWays.{among_mapped}
 use Rattle.path_cut.specs.Ways.{Way, ways_of}
+use Rattle.path_fronts.proofs.Carrying.{ready_before}
 use Rattle.path_plans.specs.declared.plan.Plan.{Plan}
-use Rattle.path_scene.proofs.Staying.{ready_stays, scene_stays}
+use Rattle.path_scene.proofs.Staying.{ready_stays}
 use Rattle.path_scene.specs.Scenes.{IsReady}
-use Rattle.path_scene.specs.declared.scene.Scene.{Scene}
 use Rattle.path_starts.specs.Starts.{unit_of}
-use Rattle.path_walk.specs.Steps.{HasStart}
+use Rattle.path_fronts.specs.Steps.{HasStart}
 use Rattle.walk_setting.specs.Settings.{seen_from}
 use Rattle.walk_setting.specs.declared.setting.Setting.{Setting}
 use Rattle.way_laws.proofs.Whole.{ways_are_paths}
@@ -105,27 +105,6 @@ all_passed plan graph before now n more at ways h over =
     }
 
 -- ---- what a path is asked for
-
--- what a scene is ready for is not more when the pool has grown
-pub ready_before : (old new : List Node) → Grows old new → (scene : Scene) (p0 p : Program) → IsReady old scene p0 → IsReady new scene p → IsReady old scene p
-ready_before old new g scene p0 p r0 r = record {
-  is_scene = record {
-    dialect = r.is_scene.dialect;
-    bound = r.is_scene.bound;
-    units = r.is_scene.units;
-    notes = r0.is_scene.notes ∙ (sym ((scene_stays old new g scene p0 r0.is_scene).notes) ∙ r.is_scene.notes);
-    smashes = r.is_scene.smashes;
-    inside = r0.is_scene.inside;
-  };
-  deck = r.deck;
-  units = r.units;
-  well_formed = r.well_formed;
-  fitting = r.fitting;
-  calls = r.calls;
-  smashing = r.smashing;
-  ranges = r.ranges;
-  few = r.few;
-}
 
 -- the graph of a unit, for the walk along its paths
 pub graph_known : (plan : Plan) (setting : Setting) (graph : Graph) (pool : List Node) (p : Program) → setting ≡ plan.setting.now → IsReady pool plan.setting.now.scene.now p → IsGraphIn pool plan graph

@@ -19,7 +19,7 @@ use Rattle.path_cond.specs.Found.{AddsPaths, AddsUnit, AreFew, AreFewAt, AreFewI
 use Rattle.path_cond.specs.declared.found.Drafts.{Drafts}
 use Rattle.path_cond.proofs.Added.{nothing_more}
 use Rattle.path_cond.proofs.Few.{graphs_paths, unit_few}
-use Rattle.path_cond.proofs.Paths.{ready_before}
+use Rattle.path_fronts.proofs.Carrying.{ready_before}
 use Rattle.path_cond.proofs.UnitWays.{unit_conditions}
 use Rattle.path_cut.specs.Ways.{ways_of}
 use Rattle.path_plans.specs.declared.plan.Plan.{Plan}

@@ -14,15 +14,20 @@ use Rattle.fort_model.specs.declared.graph.Graph.{Graph}
 use Rattle.fort_syntax.specs.Conditions.{ConditionTree}
 use Rattle.fort_syntax.specs.declared.unit.Unit.{Unit as Routine}
 use Rattle.path_cond.specs.declared.found.Drafts.{Drafts}
+use Rattle.path_cond.specs.declared.walked.Walked.{Walked}
 use Rattle.path_cut.specs.Ways.{Way, ways_of}
 use Rattle.path_plans.specs.declared.plan.Plan.{Plan}
 use Rattle.path_scene.specs.Scenes.{IsReady}
 use Rattle.path_scene.specs.declared.scene.Scene.{Scene}
 use Rattle.path_starts.specs.Starts.{unit_of}
-use Rattle.path_walk.specs.Steps.{HasStart}
+use Rattle.path_fronts.specs.Steps.{HasStart}
 use Rattle.walk_setting.specs.Settings.{seen_from}
 use Rattle.way_laws.specs.PathsOf.{paths_of}
 use Rattle.way_walks.specs.Along.{along}
+
+-- the conditions so far, with the pool of the walk
+abbrev pub drafts_of : Walked → Drafts
+drafts_of w = record { alloc = w.alloc; pool = w.front.walk.pool; conditions = w.conditions }
 
 -- the conditions so far are of the pool
 abbrev pub IsDraft : Drafts → Type 0

@@ -4,6 +4,7 @@
 mod along;
 mod found;
 mod units;
+mod walked;
 mod whole;
 
 pub use found::Conditions;

@@ -34,7 +34,7 @@ longer base st i k h =
     let old = take base st in
     ap (λ cs. (st ++ contents old i k) ++ load cs (i + k) ∷ []) (before base st (contents old i k) h) ∙ append_assoc st (contents old i k) (load old (i + k) ∷ []) ∙ ap (λ cs. st ++ cs) (sym (more old i k))
 
-long : (st : Storage) (i k : ℕ) → length (contents st i k) ≡ k
+pub long : (st : Storage) (i k : ℕ) → length (contents st i k) ≡ k
 long st i zero = refl
 long st i (suc k) = ap suc (long st (suc i) k)
 

@@ -1,7 +1,7 @@
 // Cells with room for more.
 ghost use Rattle.std.specs.Prelude.{◌≡◌, [], ◌∷◌, ◌++◌, length, take, IfOk, ◌+◌, ◌<◌, ◌≤◌, replicate};
 ghost use Rattle.formula.specs.declared.value.Cell.TheVariants as cell;
-ghost use Rattle.fort_model.specs.Storage.{contents, load, store};
+ghost use Rattle.fort_model.specs.Storage.{contents, load, store, write};
 
 use run_held::Held;
 use std::alloc::{AllocError, Global};
@@ -101,6 +101,60 @@ impl Pile {
         for offset in 0..size {
             let content = self.early(first, offset, base);
             self.push(content);
+        }
+    }
+
+    /// What the cell so many behind a first one holds; nothing where there is none.
+    fn load_behind(&self, first: usize, offset: usize) -> Held
+        ensures { result ≡ load self.now.items (first + offset) }
+    {
+        match self.items.get(first.saturating_add(offset)) {
+            Some(held) => *held,
+            None => Held::undefined(),
+        }
+    }
+
+    /// The cell so many behind a first one gets a content, where there is one.
+    fn store_behind(&mut self, first: usize, offset: usize, content: Held)
+        ensures { self.new ≡ record self.old { items = store self.old.items (first + offset) content } }
+    {
+        let place = first.saturating_add(offset);
+        if place < self.items.len() {
+            self.items[place] = content;
+        }
+    }
+
+    /// Moves what neighbouring cells hold to other ones, which begin no later, the first one first.
+    fn moved_down(&mut self, from: usize, to: usize, size: usize)
+        requires { to ≤ from }
+        ensures { self.new ≡ record self.old { items = write (contents self.old.items from size) to self.old.items } }
+    {
+        for offset in 0..size {
+            let content = self.load_behind(from, offset);
+            self.store_behind(to, offset, content);
+        }
+    }
+
+    /// Moves what neighbouring cells hold to other ones, which begin later, the last one first.
+    fn moved_up(&mut self, from: usize, to: usize, size: usize)
+        requires { from < to }
+        ensures { self.new ≡ record self.old { items = write (contents self.old.items from size) to self.old.items } }
+    {
+        for done in 0..size {
+            let offset = size - 1 - done;
+            let content = self.load_behind(from, offset);
+            self.store_behind(to, offset, content);
+        }
+    }
+
+    /// Moves what neighbouring cells hold to other ones.
+    pub fn moved(&mut self, from: usize, to: usize, size: usize)
+        ensures { self.new ≡ record self.old { items = write (contents self.old.items from size) to self.old.items } }
+    {
+        if to <= from {
+            self.moved_down(from, to, size);
+        } else {
+            self.moved_up(from, to, size);
         }
     }
 

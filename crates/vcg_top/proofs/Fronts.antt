@@ -14,7 +14,7 @@ use Rattle.fort_notes.specs.Remarks.{Remarks}
 use Rattle.fort_model.specs.Paths.{Path}
 use Rattle.fort_model.specs.Program.{Program}
 use Rattle.judging.specs.Judgement.{IsAcceptedIn, IsDeckIn, IsFirstFaultIn}
-use Rattle.vcg_top.specs.Answers.{most_read}
+use Rattle.vcg_top.specs.Commands.{most_read}
 
 abbrev too_long : Fault
 too_long = record { rule = TooLong; card = 1 }

@@ -1,5 +1,5 @@
 -- The marks and the counts of provers can be read back.
-use Rattle.std.proofs.Common.{◌≡◌, ◌<◌, ◌^◌, ◌==◌, ◌||◌, ◌&&◌, inl, inr, ℕ, Bool, true, false, if◌then◌else◌, List, [], ◌∷◌, ◌++◌, map, get_or, refl, sym, ap, ◌∙◌, subst}
+use Rattle.std.proofs.Common.{◌≡◌, ◌==◌, ◌||◌, ◌&&◌, inl, inr, ℕ, Bool, true, false, if◌then◌else◌, List, [], ◌∷◌, map, get_or, refl, sym, ap, ◌∙◌, subst}
 use Rattle.std.specs.List.{All, list_all}
 use Rattle.std.proofs.lemmas.List.{length-map}
 use Rattle.std.proofs.lemmas.List.Elements.{All-map}
@@ -9,7 +9,7 @@ use Rattle.formula.specs.declared.definition.Definition.{Definition}
 use Rattle.formula.specs.declared.node.Node.{Node}
 use Rattle.fort_syntax.specs.declared.condition.Condition.{Condition}
 use Rattle.event_text.specs.Conditions.{condition_tree}
-use Rattle.event_text.specs.Readable.{IsAsked, is_mark}
+use Rattle.event_text.specs.Readable.{is_mark}
 use Rattle.event_text.specs.declared.marks.Marks.{Marks}
 use Rattle.prover_box.specs.Answers.{Seen, AreAsked, nothing, next, AreAskedOnce, shown, told}
 use Rattle.prover_box.proofs.Asked.{asked_marked}

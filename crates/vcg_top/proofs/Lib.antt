@@ -2,5 +2,6 @@ pub mod Fronts
 pub mod Letters
 pub mod Rests
 pub mod Marked
-pub mod Replies
+pub mod Texts
 pub mod Taken
+pub mod Numbers

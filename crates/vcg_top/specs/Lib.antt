@@ -1,4 +1,5 @@
 pub mod Marked
+pub mod Commands
 pub mod Answers
 pub mod Found
 pub mod Soundness

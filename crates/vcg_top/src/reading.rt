@@ -1,7 +1,7 @@
 // The input.
 ghost use Rattle.std.specs.Prelude.{◌≡◌, ◌≢◌, ◌≤◌, ℕ, List, take, drop, true, IfOk, IfErr, Some};
 ghost use Rattle.edge_io.specs.Causes.{Rose};
-ghost use Rattle.vcg_top.specs.Answers.{most_read};
+ghost use Rattle.vcg_top.specs.Commands.{most_read};
 ghost use Rattle.vcg_top.specs.declared.reading.ReadError.TheVariants.{Fault};
 
 use edge_io::Source;

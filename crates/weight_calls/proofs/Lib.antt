@@ -1,4 +1,4 @@
 mod CalledNames
 mod CallSteps
 mod HitNames
-mod NoteTerms
+pub mod NoteTerms

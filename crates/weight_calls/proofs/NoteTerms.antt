@@ -25,11 +25,11 @@ notes_none pool (t ∷ specs) (suc i) e = notes_none pool specs i e
 
 -- ---- terms of the pool
 
-first_of : (b d : Bool) → cond b d false ≡ true → b ≡ true
+pub first_of : (b d : Bool) → cond b d false ≡ true → b ≡ true
 first_of true d e = refl
 first_of false d e = absurd cc
 
-rest_of : (b d : Bool) → cond b d false ≡ true → d ≡ true
+pub rest_of : (b d : Bool) → cond b d false ≡ true → d ≡ true
 rest_of true d e = e
 rest_of false d e = absurd cc
 

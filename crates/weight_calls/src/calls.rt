@@ -3,7 +3,7 @@ ghost use Rattle.std.specs.Prelude.{◌≡◌, length, map, IfOk, OnOk};
 ghost use Rattle.fort_model.specs.Program.{smashed_names};
 ghost use Rattle.fort_model.specs.WalkCalls.{hits, seen_by, stands_for};
 ghost use Rattle.weight_caps.specs.Capped.{capped};
-ghost use Rattle.weight_terms.specs.Held.{held};
+ghost use Rattle.weight_terms.specs.Held.{held, marked};
 ghost use Rattle.weight_tallies.specs.Tallies as tally;
 ghost use Rattle.weight_calls.specs.Calls.{IsWeighed, ones_set};
 ghost use Rattle.weight_calls.specs.Operands.{operand_of};
@@ -216,7 +216,8 @@ pub fn refer(
 
 /// Some names weigh 1 from now on.
 fn set_ones(names: &mut NameWeights, smashed: &[Name]) -> Result<(), NoMemory>
-    ensures { OnOk result (held names.new ≡ ones_set smashed.now (held names.old)) }
+    ensures names { OnOk result (held names.new ≡ ones_set smashed.now (held names.old)) }
+    ensures marks { OnOk result (marked names.new ≡ marked names.old) }
 {
     for name in smashed {
         let Ok(()) = names.set(name, 1) else {
@@ -236,6 +237,7 @@ pub fn call(
 ) -> Result<(), NoMemory>
     ensures load { OnOk result (load.new ≡ (tally.called (sight_of subject.now) callee (held names.old) (map operand_of operands.now) load.old).load) }
     ensures names { OnOk result (held names.new ≡ (tally.called (sight_of subject.now) callee (held names.old) (map operand_of operands.now) load.old).value) }
+    ensures marks { OnOk result (marked names.new ≡ marked names.old) }
 {
     let Ok(smashed) = weigh_any(subject, callee, names, operands, load) else {
         return Err(NoMemory);

@@ -12,29 +12,8 @@ use Rattle.fort_notes.specs.declared.notes.UnitSpec.{UnitSpec}
 use Rattle.fort_model.specs.Program.{assertion_in, notes_in}
 use Rattle.path_scene.specs.Scenes.{IsAssertIn}
 use Rattle.weight_calls.specs.Inside.{are_inside, asserts_inside, ids_inside, notes_inside}
+use Rattle.weight_calls.proofs.NoteTerms.{below_of, first_of, notes_at, rest_of}
 use Rattle.weight_path.specs.Noted.{first_at}
-
--- ---- terms of the pool
-
-first_of : (b d : Bool) → cond b d false ≡ true → b ≡ true
-first_of true d e = refl
-first_of false d e = absurd cc
-
-rest_of : (b d : Bool) → cond b d false ≡ true → d ≡ true
-rest_of true d e = e
-rest_of false d e = absurd cc
-
-less : (m n : ℕ) → nat_lt m n ≡ true → m < n
-less m n e = grind (arith, nat_tests)
-
-below_of : (n : ℕ) (ids : List TermId) → ids_inside n ids ≡ true → AllBelow n ids
-below_of n [] e = tt
-below_of n (id ∷ ids) e = (less id.place n (first_of (nat_lt id.place n) (ids_inside n ids) e), below_of n ids (rest_of (nat_lt id.place n) (ids_inside n ids) e))
-
-notes_at : (n : ℕ) (specs : List UnitSpec) (i : ℕ) (s : UnitSpec) → are_inside n specs ≡ true → slice_get specs i ≡ Some s → notes_inside n s ≡ true
-notes_at n [] i s h e = absurd cc
-notes_at n (t ∷ specs) zero s h e = let same : t ≡ s = cc in ap (notes_inside n) (sym same) ∙ first_of (notes_inside n t) (are_inside n specs) h
-notes_at n (t ∷ specs) (suc i) s h e = notes_at n specs i s (rest_of (notes_inside n t) (are_inside n specs) h) e
 
 -- those of a unit are inside where all notes are
 pub asserts_below : (n : ℕ) (specs : List UnitSpec) (i : ℕ) (s : UnitSpec) → are_inside n specs ≡ true → slice_get specs i ≡ Some s → asserts_inside n s.asserts ≡ true
@@ -73,16 +52,6 @@ first_in n (x ∷ xs) pc a h e = by (x.line == pc) e (first_in n xs pc a (tail_i
     by false f later = later f
 
 -- ---- as the model has them
-
-pub notes_some : (pool : List Node) (specs : List UnitSpec) (i : ℕ) (s : UnitSpec) → slice_get specs i ≡ Some s → notes_in (slice_get (map (notes_tree pool) specs) i) ≡ notes_tree pool s
-notes_some pool [] i s e = absurd cc
-notes_some pool (t ∷ specs) zero s e = let same : t ≡ s = cc in ap (notes_tree pool) same
-notes_some pool (t ∷ specs) (suc i) s e = notes_some pool specs i s e
-
-pub notes_none : (pool : List Node) (specs : List UnitSpec) (i : ℕ) → slice_get specs i ≡ None → notes_in (slice_get (map (notes_tree pool) specs) i) ≡ notes_in None
-notes_none pool [] i e = refl
-notes_none pool (t ∷ specs) zero e = absurd cc
-notes_none pool (t ∷ specs) (suc i) e = notes_none pool specs i e
 
 first_tree : (pool : List Node) (xs : List AssertSpec) (pc : ℕ) → assertion_in (map (assertion_tree pool) xs) pc ≡ option_map (assertion_tree pool) (first_at xs pc)
 first_tree pool [] pc = refl

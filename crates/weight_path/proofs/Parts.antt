@@ -58,17 +58,3 @@ pub assert_begun : (load new : Load) (entry terms clock known all from told part
     → known ≡ capped (entry + terms) → all ≡ capped (known + clock) → new ≡ with_added load all → new ≡ with_added load (t.both (t.both from told) parts)
 assert_begun load new entry terms clock known all from told parts e f g k l m =
     m ∙ ((λ i. with_added load (l i)) ∙ ((λ i. with_added load (capped (k i + clock))) ∙ (λ i. with_added load (capped (capped (e i + f i) + g i)))))
-
-module _ (w : Sight ℕ) (steps : List Step) (end : ℕ) where
-  abbrev from : ℕ → Load → Load
-  from start load = (c.from_start w start steps end load).load
-
-  pub started : (start : ℕ) (load whole : Load) → start ≡ 0 → whole ≡ from 0 load → whole ≡ from start load
-  started start load whole f k = k ∙ (λ i. from (sym f i) load)
-
-  pub started_at : (start k : ℕ) (a : Assertion) (load whole : Load) → start ≡ suc k → Some a ≡ slice_get (c.notes_here w).asserts k
-      → whole ≡ (c.from_assert w (Some a) steps end load).load → whole ≡ from start load
-  started_at start k a load whole f at l = l ∙ ((λ i. (c.from_assert w (at i) steps end load).load) ∙ (λ i. from (sym f i) load))
-
-  pub not_started : (start k : ℕ) (load : Load) → start ≡ suc k → None ≡ slice_get (c.notes_here w).asserts k → load ≡ from start load
-  not_started start k load f at = (λ i. (c.from_assert w (at i) steps end load).load) ∙ (λ i. from (sym f i) load)

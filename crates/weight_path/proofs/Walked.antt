@@ -1,4 +1,4 @@
--- Statements of a path, one behind another.
+-- The choices behind a statement, one behind another.
 use Rattle.std.proofs.Common.{◌≡◌, ℕ, zero, suc, ◌<◌, ◌≤◌, List, [], ◌∷◌, ◌++◌, append_assoc, length, drop, get_or, Option, Some, None, slice_get, refl, sym, ap, ◌∙◌, arith}
 use Rattle.std.proofs.lemmas.List.{drop_all}
 use Rattle.fort_model.specs.Paths.{cut_at}
@@ -59,43 +59,3 @@ all_gathered steps i d found whole h is e =
 -- no step is left
 pub none_gathered : (steps : List Step) (i : ℕ) (found whole : List ℕ) → length steps ≤ i → found ++ turns (drop i steps) ≡ whole → found ≡ whole
 none_gathered steps i found whole h e = sym (append_none found) ∙ (sym (ap (λ xs. found ++ turns xs) (drop_all i steps h)) ∙ e)
-
--- ---- statements
-
-module _ (w : Sight ℕ) (clock : Option ℕ) (end : ℕ) where
-  -- what is left to be done by some steps
-  abbrev pub left : Named ℕ → Load → List Step → Load
-  left now load steps = (c.along w clock steps end now load).load
-
-  goes_on : (s : Step) (pc : ℕ) (rest : List Step) (now : Named ℕ) (load : Load) → Some pc ≡ begun_at s
-      → left (c.perform_line w (slice_get w.unit.lines pc) pc now (turns rest) load).value (c.perform_line w (slice_get w.unit.lines pc) pc now (turns rest) load).load rest ≡ left now load (s ∷ rest)
-  goes_on (At p) pc rest now load e =
-      let same = some_same pc p e in
-      λ i. left (c.perform_line w (slice_get w.unit.lines (same i)) (same i) now (turns rest) load).value (c.perform_line w (slice_get w.unit.lines (same i)) (same i) now (turns rest) load).load rest
-  goes_on (Choice k d) pc rest now load e = absurd (some_none pc e)
-
-  goes_by : (s : Step) (rest : List Step) (now : Named ℕ) (load : Load) → None ≡ begun_at s → left now load rest ≡ left now load (s ∷ rest)
-  goes_by (At p) rest now load e = absurd (none_some p e)
-  goes_by (Choice k d) rest now load e = refl
-
-  -- a statement was performed
-  pub stepped : (steps : List Step) (i n pc : ℕ) (d : Step) (behind : List Step) (now after : Named ℕ) (load new whole : Load) → n ≡ suc i → i < length steps → Some pc ≡ begun_at (get_or steps i d)
-      → behind ≡ drop n steps
-      → new ≡ (c.perform_line w (slice_get w.unit.lines pc) pc now (turns behind) load).load
-      → after ≡ (c.perform_line w (slice_get w.unit.lines pc) pc now (turns behind) load).value
-      → left now load (drop i steps) ≡ whole → left after new (drop n steps) ≡ whole
-  stepped steps i n pc d behind now after load new whole next h is rest did named e =
-      (λ j. left (named j) (did j) (sym rest j))
-      ∙ (goes_on (get_or steps i d) pc behind now load is
-      ∙ (ap (λ xs. left now load (get_or steps i d ∷ xs)) rest ∙ (sym (ap (left now load) (drop_next steps i n d next h)) ∙ e)))
-
-  -- a choice was passed
-  pub passed : (steps : List Step) (i n : ℕ) (d : Step) (now : Named ℕ) (load whole : Load) → n ≡ suc i → i < length steps → None ≡ begun_at (get_or steps i d)
-      → left now load (drop i steps) ≡ whole → left now load (drop n steps) ≡ whole
-  passed steps i n d now load whole next h is e =
-      goes_by (get_or steps i d) (drop n steps) now load is ∙ (sym (ap (left now load) (drop_next steps i n d next h)) ∙ e)
-
-  -- no step is left
-  pub arrived : (steps : List Step) (i : ℕ) (now : Named ℕ) (load new whole : Load) → length steps ≤ i → new ≡ (c.arrive w clock (cut_at w.unit (c.notes_here w) end) now load).load
-      → left now load (drop i steps) ≡ whole → new ≡ whole
-  arrived steps i now load new whole h did e = did ∙ (sym (ap (left now load) (drop_all i steps h)) ∙ e)

@@ -52,7 +52,7 @@ fn arrive_at_assert(
 
 /// A path arrives at a point, where names weigh something; where it started at an ASSERT, what the
 /// clock weighed there is told.
-pub(crate) fn arrive(
+pub fn arrive(
     subject: &Subject,
     names: &NameWeights,
     load: &mut Load,

@@ -8,7 +8,7 @@ use path_cut::Step;
 use std::alloc::Global;
 
 /// The point of the statement that begins at a step, if one does.
-pub(crate) fn begun_at(step: &Step) -> Option<usize>
+pub fn begun_at(step: &Step) -> Option<usize>
     ensures { result ≡ begun_at step.now }
 {
     match step {

@@ -59,7 +59,7 @@ pub(crate) fn assert_at<'a>(subject: &Subject<'a>, point: usize) -> Option<&'a A
 }
 
 /// The ASSERT of the unit of a number, counted from 0, where there is one.
-pub(crate) fn assert_of<'a>(subject: &Subject<'a>, number: usize) -> Option<&'a AssertSpec>
+pub fn assert_of<'a>(subject: &Subject<'a>, number: usize) -> Option<&'a AssertSpec>
     ensures tree { option_map (assertion_tree subject.now.pool.now) (option_copied result) ≡ slice_get (own_notes subject.now).asserts number }
     ensures inside { IfSome result (λ a. IsAssertIn (length subject.now.pool.now) a.now) }
 {

@@ -43,7 +43,7 @@ fn entry_weight(subject: &Subject) -> Result<u32, NoMemory>
 }
 
 /// A path begins at the entry.
-pub(crate) fn begin_at_entry(subject: &Subject, load: &mut Load) -> Result<(), NoMemory>
+pub fn begin_at_entry(subject: &Subject, load: &mut Load) -> Result<(), NoMemory>
     ensures { OnOk result (load.new ≡ with_added load.old (tally.entry_weight (sight_of subject.now))) }
 {
     let Ok(entry) = entry_weight(subject) else {
@@ -55,7 +55,7 @@ pub(crate) fn begin_at_entry(subject: &Subject, load: &mut Load) -> Result<(), N
 
 /// A path begins at an ASSERT: its terms and its clock are added, too. It answers what the clock
 /// weighs.
-pub(crate) fn begin_at_assert(
+pub fn begin_at_assert(
     subject: &Subject,
     load: &mut Load,
     assert: &AssertSpec,

@@ -1,7 +1,7 @@
 // Statements.
 ghost use Rattle.std.specs.Prelude.{◌≡◌, ◌≤◌, ◌==◌, suc, length, OnOk};
 ghost use Rattle.weight_calls.specs.Subjects.{sight_of};
-ghost use Rattle.weight_terms.specs.Held.{held};
+ghost use Rattle.weight_terms.specs.Held.{held, marked};
 ghost use Rattle.weight_tallies.specs.Tallies as tally;
 ghost use Rattle.fort_syntax.specs.Names.{is_function};
 ghost use Rattle.weight_stmt.specs.Parts.{assigned_part, call_part, computed_part, decided_part, do_part};
@@ -27,6 +27,7 @@ fn assign(
 ) -> Result<(), NoMemory>
     ensures load { OnOk result (load.new ≡ (tally.assign (sight_of subject.now) (held names.old) left.now weight load.old).load) }
     ensures names { OnOk result (held names.new ≡ (tally.assign (sight_of subject.now) (held names.old) left.now weight load.old).value) }
+    ensures marks { OnOk result (marked names.new ≡ marked names.old) }
 {
     match left {
         Expr::Var(name) => {
@@ -84,6 +85,7 @@ fn enter(
     requires { begun.now.ends ≤ length course.now.subject.now.book.now.unit.now.lines }
     ensures load { OnOk result (load.new ≡ (tally.entered (sight_of course.now.subject.now) begun.now.ends begun.now.at (held names.old) begun.now.first begun.now.last choices.now load.old).load) }
     ensures names { OnOk result (held names.new ≡ (tally.entered (sight_of course.now.subject.now) begun.now.ends begun.now.at (held names.old) begun.now.first begun.now.last choices.now load.old).value) }
+    ensures marks { OnOk result (marked names.new ≡ marked names.old) }
 {
     let Some(taken) = first_of(choices) else {
         return Ok(());
@@ -110,6 +112,7 @@ fn begin(
     requires { begun.now.ends ≤ length course.now.subject.now.book.now.unit.now.lines }
     ensures load { OnOk result (load.new ≡ (tally.begin (sight_of course.now.subject.now) course.now.subject.now.scene.now.dialect begun.now.ends begun.now.at (held names.old) begun.now.variable begun.now.first begun.now.last begun.now.step choices.now load.old).load) }
     ensures names { OnOk result (held names.new ≡ (tally.begin (sight_of course.now.subject.now) course.now.subject.now.scene.now.dialect begun.now.ends begun.now.at (held names.old) begun.now.variable begun.now.first begun.now.last begun.now.step choices.now load.old).value) }
+    ensures marks { OnOk result (marked names.new ≡ marked names.old) }
 {
     if let Dialect::Common = course.subject.scene.dialect {
         load.test(plus(plus(begun.first, begun.last), begun.step));
@@ -157,6 +160,7 @@ fn select(
     requires { selected.now.at ≤ length course.now.subject.now.book.now.unit.now.lines }
     ensures load { OnOk result (load.new ≡ (tally.selected (sight_of course.now.subject.now) selected.now.at (held names.old) selected.now.labels selected.now.weight choices.now load.old).load) }
     ensures names { OnOk result (held names.new ≡ (tally.selected (sight_of course.now.subject.now) selected.now.at (held names.old) selected.now.labels selected.now.weight choices.now load.old).value) }
+    ensures marks { OnOk result (marked names.new ≡ marked names.old) }
 {
     let Some(taken) = first_of(choices) else {
         return Ok(());
@@ -199,6 +203,7 @@ fn assigned(
     requires { spot.now.at ≤ length course.now.subject.now.book.now.unit.now.lines }
     ensures load { OnOk result (load.new ≡ (assigned_part (sight_of course.now.subject.now) spot.now.at (held names.old) sides.now.left.now sides.now.right.now spot.now.choices.now load.old).load) }
     ensures names { OnOk result (held names.new ≡ (assigned_part (sight_of course.now.subject.now) spot.now.at (held names.old) sides.now.left.now sides.now.right.now spot.now.choices.now load.old).value) }
+    ensures marks { OnOk result (marked names.new ≡ marked names.old) }
 {
     let Ok(weight) = value(course.subject, names, load, sides.right) else {
         return Err(NoMemory);
@@ -223,6 +228,7 @@ fn computed(
     requires { spot.now.at ≤ length course.now.subject.now.book.now.unit.now.lines }
     ensures load { OnOk result (load.new ≡ (computed_part (sight_of course.now.subject.now) spot.now.at (held names.old) goto.0 goto.1 spot.now.choices.now load.old).load) }
     ensures names { OnOk result (held names.new ≡ (computed_part (sight_of course.now.subject.now) spot.now.at (held names.old) goto.0 goto.1 spot.now.choices.now load.old).value) }
+    ensures marks { OnOk result (marked names.new ≡ marked names.old) }
 {
     let (labels, name) = goto;
     let weight = read(load, names.of(&name));
@@ -261,6 +267,7 @@ fn entered(
     requires { spot.now.at ≤ length course.now.subject.now.book.now.unit.now.lines }
     ensures load { OnOk result (load.new ≡ (do_part (sight_of course.now.subject.now) spot.now.at (held names.old) head.now.label head.now.variable head.now.first head.now.last head.now.step spot.now.choices.now load.old).load) }
     ensures names { OnOk result (held names.new ≡ (do_part (sight_of course.now.subject.now) spot.now.at (held names.old) head.now.label head.now.variable head.now.first head.now.last head.now.step spot.now.choices.now load.old).value) }
+    ensures marks { OnOk result (marked names.new ≡ marked names.old) }
 {
     let subject = course.subject;
     let first = parameter(subject, names, load, head.first);
@@ -299,6 +306,7 @@ fn called(
     requires { spot.now.at ≤ length course.now.subject.now.book.now.unit.now.lines }
     ensures load { OnOk result (load.new ≡ (call_part (sight_of course.now.subject.now) spot.now.at (held names.old) callee.now.name.now callee.now.args.now spot.now.choices.now load.old).load) }
     ensures names { OnOk result (held names.new ≡ (call_part (sight_of course.now.subject.now) spot.now.at (held names.old) callee.now.name.now callee.now.args.now spot.now.choices.now load.old).value) }
+    ensures marks { OnOk result (marked names.new ≡ marked names.old) }
 {
     let subject = course.subject;
     let Ok(actuals) = operands(subject, names, load, callee.args) else {
@@ -344,6 +352,7 @@ fn decided(
     requires { decision.now.spot.now.at ≤ length course.now.subject.now.book.now.unit.now.lines }
     ensures load { OnOk result (load.new ≡ (decided_part (sight_of course.now.subject.now) decision.now.spot.now.at (held names.old) decision.now.condition.now carried.now decision.now.spot.now.choices.now load.old).load) }
     ensures names { OnOk result (held names.new ≡ (decided_part (sight_of course.now.subject.now) decision.now.spot.now.at (held names.old) decision.now.condition.now carried.now decision.now.spot.now.choices.now load.old).value) }
+    ensures marks { OnOk result (marked names.new ≡ marked names.old) }
 {
     let at = decision.spot.at;
     let Some(taken) = first_of(decision.spot.choices) else {
@@ -377,6 +386,7 @@ fn perform(
     requires { spot.now.at ≤ length course.now.subject.now.book.now.unit.now.lines }
     ensures load { OnOk result (load.new ≡ (tally.performed (sight_of course.now.subject.now) spot.now.at (held names.old) stmt.now spot.now.choices.now load.old).load) }
     ensures names { OnOk result (held names.new ≡ (tally.performed (sight_of course.now.subject.now) spot.now.at (held names.old) stmt.now spot.now.choices.now load.old).value) }
+    ensures marks { OnOk result (marked names.new ≡ marked names.old) }
 {
     match stmt {
         Stmt::Assign(left, right) => assigned(course, names, load, spot, &Sides { left, right }),
@@ -436,6 +446,7 @@ pub fn performed(
     requires { work.now.at ≤ length course.now.subject.now.book.now.unit.now.lines }
     ensures load { OnOk result (load.new ≡ (tally.performed (sight_of course.now.subject.now) work.now.at (held names.old) work.now.stmt.now work.now.choices.now load.old).load) }
     ensures names { OnOk result (held names.new ≡ (tally.performed (sight_of course.now.subject.now) work.now.at (held names.old) work.now.stmt.now work.now.choices.now load.old).value) }
+    ensures marks { OnOk result (marked names.new ≡ marked names.old) }
 {
     let spot = Spot {
         at: work.at,

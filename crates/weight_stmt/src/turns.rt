@@ -2,7 +2,7 @@
 ghost use Rattle.std.specs.Prelude.{◌≡◌, ◌≤◌, ℕ, length, OnOk};
 ghost use Rattle.loop_tables.specs.Loops.{loops_told};
 ghost use Rattle.weight_calls.specs.Subjects.{sight_of};
-ghost use Rattle.weight_terms.specs.Held.{held};
+ghost use Rattle.weight_terms.specs.Held.{held, marked};
 ghost use Rattle.weight_tallies.specs.Tallies as tally;
 ghost use Rattle.weight_stmt.specs.Turns.{loop_of, turned, weight_behind};
 
@@ -35,6 +35,7 @@ fn turn(
 ) -> Result<(), NoMemory>
     ensures load { OnOk result ((at : ℕ) → load.new ≡ (turned (sight_of subject.now) (held names.old) (loop_of at found.now) choice load.old).load) }
     ensures names { OnOk result ((at : ℕ) → held names.new ≡ (turned (sight_of subject.now) (held names.old) (loop_of at found.now) choice load.old).value) }
+    ensures marks { OnOk result (marked names.new ≡ marked names.old) }
 {
     let sum = loop_tested(subject, names, load, found);
     let weight = weight_behind(subject.scene.dialect, choice, sum);
@@ -55,6 +56,7 @@ pub(crate) fn tests(
 ) -> Result<(), NoMemory>
     ensures load { OnOk result (load.new ≡ (tally.tests (sight_of subject.now) (held names.old) (loops_told subject.now.book.now.unit.now.lines points.now) choices.now load.old).load) }
     ensures names { OnOk result (held names.new ≡ (tally.tests (sight_of subject.now) (held names.old) (loops_told subject.now.book.now.unit.now.lines points.now) choices.now load.old).value) }
+    ensures marks { OnOk result (marked names.new ≡ marked names.old) }
 {
     let mut used = 0;
     for at in points {
@@ -87,6 +89,7 @@ pub(crate) fn behind(
     requires { at ≤ length course.now.subject.now.book.now.unit.now.lines }
     ensures load { OnOk result (load.new ≡ (tally.behind (sight_of course.now.subject.now) at (held names.old) choices.now load.old).load) }
     ensures names { OnOk result (held names.new ≡ (tally.behind (sight_of course.now.subject.now) at (held names.old) choices.now load.old).value) }
+    ensures marks { OnOk result (marked names.new ≡ marked names.old) }
 {
     let points = course.loops.at(course.subject.book.unit, at);
     let Ok(()) = tests(course.subject, names, load, points, choices) else {
@@ -107,6 +110,7 @@ pub(crate) fn passed_over(
     requires { ends.0 ≤ length course.now.subject.now.book.now.unit.now.lines }
     ensures load { OnOk result (load.new ≡ (tally.passed_over (sight_of course.now.subject.now) ends.0 ends.1 (held names.old) choices.now load.old).load) }
     ensures names { OnOk result (held names.new ≡ (tally.passed_over (sight_of course.now.subject.now) ends.0 ends.1 (held names.old) choices.now load.old).value) }
+    ensures marks { OnOk result (marked names.new ≡ marked names.old) }
 {
     let (last, at) = ends;
     let all = course.loops.at(course.subject.book.unit, last);

@@ -16,7 +16,7 @@ use Rattle.fort_model.specs.WalkStmt.{with_name}
 use Rattle.path_sizes.specs.Weights.{of_weights, row_weight}
 use Rattle.weight_caps.specs.Capped.{capped}
 use Rattle.weight_caps.proofs.CappedSums.{cap_first, cap_twice, sum_more}
-use Rattle.weight_terms.specs.Held.{held, Sets}
+use Rattle.weight_terms.specs.Held.{Weights, held, Sets}
 use Rattle.weight_terms.specs.Terms.{own_weight, pushed}
 
 -- ---- names
@@ -25,8 +25,8 @@ told_by : (b : Bool) (n : ℕ) (o : Option ℕ) → unwrap_or (cond b (Some n) o
 told_by true n o = refl
 told_by false n o = refl
 
-pub set_held : (old new : List (List ℕ × ℕ)) (x : Name) (n : ℕ) → Sets old new x n → held new ≡ with_name (held old) x n
-set_held old new x n e = λ i y. (ap (λ o. unwrap_or o 1) (e y) ∙ told_by (same_bytes x y) n (lookup (same_bytes y) old)) i
+pub set_held : (old new : Weights) (x : Name) (n : ℕ) → Sets old.entries new.entries x n → held new ≡ with_name (held old) x n
+set_held old new x n e = λ i y. (ap (λ o. unwrap_or o 1) (e y) ∙ told_by (same_bytes x y) n (lookup (same_bytes y) old.entries)) i
 
 -- ---- terms
 

@@ -1,6 +1,7 @@
 //! What names weigh along a path, and what terms of notes weigh by them, as far as the cap.
 #![tactic(auto)]
 
+mod log;
 mod names;
 mod notes;
 mod terms;

@@ -1,60 +1,121 @@
 // What names weigh.
-ghost use Rattle.std.specs.Prelude.{◌≡◌, [], cond, Some, OnOk};
-ghost use Rattle.std.specs.Map.{lookup};
+ghost use Rattle.std.specs.Prelude.{◌≡◌, ◌∷◌, IfOk, OnOk};
 ghost use Rattle.formula.specs.Atoms.{same_bytes};
 ghost use Rattle.fort_model.specs.WalkStmt.{with_name};
-ghost use Rattle.weight_terms.specs.Held.{held, Sets};
+ghost use Rattle.indexmap.specs.IndexMap.{set_value_at};
+ghost use Rattle.weight_terms.specs.Held.{GoesBack, Sets, Undoes, but_last, held, logged, marked, nothing_told};
 
-use edge_io::{Keys, NoMemory};
+use crate::log::Logged;
+use edge_io::{Keys, NoMemory, Stack};
 use formula::Word;
 use fort_syntax::{Name, word_of};
 use indexmap::IndexMap;
 use std::alloc::Global;
 use std::marker::Model;
 
-/// What names weigh, as far as the cap; a name of which nothing was told weighs 1. Contracts see the
-/// list of the names with their weights, and what each name weighs as `held`.
+/// What names weigh, as far as the cap; a name of which nothing was told weighs 1. Contracts see what
+/// each name weighs as `held`, and what names weighed at each mark as `marked`, the last mark first.
 #[derive(Drop)]
 pub struct NameWeights {
     map: IndexMap<Word, u32, Keys>,
+    log: Stack<Logged>,
 }
 
 impl Model for NameWeights {
-    ghost use Rattle.std.specs.Prelude.{List, ℕ};
+    ghost use Rattle.weight_terms.specs.Held.{Weights};
 
-    ghost Value = { List (List ℕ × ℕ) };
+    ghost Value = { Weights };
 
-    ghost view = { λ t. t.map.entries };
+    ghost view = { λ t. record { entries = t.map.entries; log = t.log } };
+}
+
+/// A name weighs so much from now on. It answers what undoes that.
+fn put(map: &mut IndexMap<Word, u32, Keys>, name: &Name, weight: u32) -> Result<Logged, NoMemory>
+    ensures sets { OnOk result (Sets map.old.entries map.new.entries name.now weight) }
+    ensures undoes { IfOk result (Undoes map.old.entries map.new.entries) }
+{
+    let Ok((place, was)) = map.insert_full(word_of(name), weight) else {
+        return Err(NoMemory);
+    };
+    match was {
+        Some(old) => Ok(Logged::Was(place, old)),
+        None => Ok(Logged::New),
+    }
+}
+
+/// The last name is not told any more.
+fn forget(map: &mut IndexMap<Word, u32, Keys>)
+    ensures { map.new.entries ≡ but_last map.old.entries }
+{
+    let _ = map.pop();
+}
+
+/// The name at a place weighs so much.
+fn put_back(map: &mut IndexMap<Word, u32, Keys>, place: usize, weight: u32)
+    ensures { map.new.entries ≡ set_value_at map.old.entries place weight }
+{
+    match map.get_index_mut(place) {
+        Some(held) => *held = weight,
+        None => (),
+    }
+}
+
+/// Logs what undoes something, where there is a mark.
+fn note(log: &mut Stack<Logged>, undoes: Logged) -> Result<(), NoMemory>
+    ensures { OnOk result (log.new ≡ logged undoes log.old) }
+{
+    if log.is_empty() {
+        return Ok(());
+    }
+    log.push(undoes)
 }
 
 impl NameWeights {
-    /// Each name weighs 1. It takes no memory. No answer depends on the keys.
+    /// Each name weighs 1, and there is no mark. It takes no memory. No answer depends on the keys.
     pub fn new(alloc: Global, keys: Keys) -> NameWeights
-        ensures { result ≡ [] }
+        ensures { result ≡ nothing_told }
     {
         NameWeights {
             map: IndexMap::with_hasher(alloc, keys),
+            log: Stack::new(alloc),
         }
     }
 
-    /// A name weighs so much from now on.
-    fn put(&mut self, name: &Name, weight: u32) -> Result<(), NoMemory>
-        ensures { OnOk result (Sets self.old self.new name.now weight) }
-    {
-        match self.map.insert(word_of(name), weight) {
-            Ok(_) => Ok(()),
-            Err(_) => Err(NoMemory),
-        }
-    }
-
-    /// A name weighs so much from now on. At `NoMemory` nothing is known of what names weigh.
+    /// A name weighs so much from now on; what names weighed at the marks stays. At `NoMemory`
+    /// nothing is known of what names weigh and weighed.
     pub fn set(&mut self, name: &Name, weight: u32) -> Result<(), NoMemory>
-        ensures { OnOk result (held self.new ≡ with_name (held self.old) name.now weight) }
+        ensures weights { OnOk result (held self.new ≡ with_name (held self.old) name.now weight) }
+        ensures marks { OnOk result (marked self.new ≡ marked self.old) }
     {
-        let Ok(()) = self.put(name, weight) else {
+        let Ok(undoes) = put(&mut self.map, name, weight) else {
+            return Err(NoMemory);
+        };
+        let Ok(()) = note(&mut self.log, undoes) else {
             return Err(NoMemory);
         };
         Ok(())
+    }
+
+    /// Marks what names weigh now. At `NoMemory` nothing has changed.
+    pub fn keep(&mut self) -> Result<(), NoMemory>
+        ensures weights { held self.new ≡ held self.old }
+        ensures marks { OnOk result (marked self.new ≡ held self.old ∷ marked self.old) }
+    {
+        self.log.push(Logged::Mark)
+    }
+
+    /// Names weigh what they weighed at the last mark, which is taken away. It takes time for what
+    /// was set since.
+    pub fn back(&mut self)
+        ensures { GoesBack self.old self.new }
+    {
+        while let Some(entry) = self.log.pop() {
+            match entry {
+                Logged::Mark => return,
+                Logged::New => forget(&mut self.map),
+                Logged::Was(place, weight) => put_back(&mut self.map, place, weight),
+            }
+        }
     }
 
     /// What a word weighs as a name.

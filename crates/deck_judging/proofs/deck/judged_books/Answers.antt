@@ -1,4 +1,4 @@
-use Rattle.std.proofs.Common.{◌≡◌, Err, refl, ap}
+use Rattle.std.proofs.Common.{◌≡◌, Err, length, refl, ap}
 use Rattle.fort_syntax.specs.declared.refusal.Refusal.TheVariants.{Broken}
 use Rattle.deck_judging.proofs.Faults.{scene_fault}
 use Rattle.deck_judging.proofs.Scenes.{are_conditions, found_program, is_aliased}
@@ -25,7 +25,7 @@ returns-in-Ok-clause-judged c =
     (record { dialect = known.dialect; bound = known.noted.specs.bound; books = c.args.books; notes = c.as_slice.result; smashes = c.as_slice-2.result })
     refl refl c.requires.books c.as_slice.ensures c.as_slice-2.ensures.value c.requires.calls c.requires.smashing c.requires.short in
     are_conditions known.dialect c.args.deck.now known.noted.pool known.noted.definitions known.noted.specs known.smashes.items c.requires.well c.requires.notes
-    c.in-Ok.field-0.pool c.in-Ok.field-0.conditions c.requires.table c.requires.calls c.requires.smashing
+    c.in-Ok.field-0.pool c.in-Ok.field-0.conditions c.in-Ok.field-0.paths (length c.as_slice-in-Ok.result.now) (ap length c.as_slice-in-Ok.ensures) c.requires.table c.requires.calls c.requires.smashing
     (c.in-Ok.ensures.kept p a) (c.in-Ok.ensures.conditions p a) c.in-Ok.ensures.grows c.in-Ok.ensures.inside
 
 pub returns-clause-broken : goal.returns-clause-broken

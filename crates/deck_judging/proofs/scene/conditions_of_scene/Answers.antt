@@ -20,8 +20,8 @@ returns-in-Ok-clause-kept c =
 
 pub returns-in-Ok-clause-conditions : goal.returns-in-Ok-clause-conditions
 returns-in-Ok-clause-conditions c =
-    ok_weaker (λ found. (p : Program) → IsReady c.args.pool c.args.scene.now p → AreAllConditions p found.pool found.conditions)
-    (λ found. (p : Program) → IsAliased c.args.pool c.args.scene.now p → AreAllConditions p found.pool found.conditions) c.conditions_of_ready.result
+    ok_weaker (λ found. (p : Program) → IsReady c.args.pool c.args.scene.now p → AreAllConditions p found.pool found.conditions found.paths)
+    (λ found. (p : Program) → IsAliased c.args.pool c.args.scene.now p → AreAllConditions p found.pool found.conditions found.paths) c.conditions_of_ready.result
     (λ found all p a. all p (is_ready c.args.pool c.args.scene.now p a (c.in-Ok.ensures.kept c.args.pool p a.is_scene)))
     c.conditions_of_ready.ensures.conditions
 

@@ -9,5 +9,5 @@ judged_deck-requires-clause-short c = short_in c.args.dialect c.args.bytes.now c
 
 pub returns-in-Ok-clause-judged : goal.returns-in-Ok-clause-judged
 returns-in-Ok-clause-judged c =
-    ok_weaker (λ j. AreConditionsOfDeck c.args.dialect c.in-Ok.deck j.pool j.definitions j.conditions) (λ j. IsJudgedIn c.args.dialect c.args.bytes.now j) c.judged_deck.result
+    ok_weaker (λ j. AreConditionsOfDeck c.args.dialect c.in-Ok.deck j) (λ j. IsJudgedIn c.args.dialect c.args.bytes.now j) c.judged_deck.result
     (λ j h. judged_in c.args.dialect c.args.bytes.now c.in-Ok.deck j c.in-Ok.ensures.deck h) c.judged_deck.ensures.judged

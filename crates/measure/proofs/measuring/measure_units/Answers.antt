@@ -1,7 +1,7 @@
-use Rattle.std.proofs.Common.{◌≡◌, Err, ◌+◌, ◌<◌, ◌≤◌, suc, length, ap, arith}
+use Rattle.std.proofs.Common.{◌≡◌, Err, refl, ◌+◌, ◌<◌, ◌≤◌, suc, length, ap, arith}
 use Rattle.fort_syntax.specs.declared.refusal.Refusal.TheVariants.{Broken}
 use Rattle.measure.specs.Sizes.{sizes_of}
-use Rattle.measure.proofs.Judged.{few_so_far, number_within, so_far_broken, so_far_first, so_far_last, so_far_next}
+use Rattle.measure.proofs.Judged.{few_so_far, number_within, so_far_broken, so_far_counts, so_far_first, so_far_last, so_far_next}
 use Rattle.measure.proofs.measuring.measure_units.Goals as goal
 
 pub loop-number-init : goal.loop-number-init
@@ -37,3 +37,9 @@ pub returns-clause-within : goal.returns-clause-within
 returns-clause-within c p ready =
     let past : length c.args.graphs.now ≤ c.loop-number.number = omega arith in
     so_far_last c.args.whole.now.pool.now c.args.whole.now.scene.now p ready.is_scene c.args.graphs.now (c.requires.graphs p ready) c.loop-number.number (sizes_of c.loop-number.totals) (c.loop-number.invariant p ready) past
+
+pub returns-clause-counted : goal.returns-clause-counted
+returns-clause-counted c p ready =
+    let past : length c.args.graphs.now ≤ c.loop-number.number = omega arith in
+    so_far_counts c.args.whole.now.pool.now c.args.whole.now.scene.now p ready.is_scene c.args.graphs.now (c.requires.graphs p ready) c.loop-number.number (sizes_of c.loop-number.totals) (c.loop-number.invariant p ready) past
+    (record { paths = c.loop-number.totals.paths; conditions = c.loop-number.totals.conditions }) refl refl

@@ -2,7 +2,7 @@ use Rattle.std.proofs.Common.{◌≡◌, ◌≤◌, ◌<◌, ◌++◌, ◌∙◌
 use Rattle.std.proofs.lemmas.Grind.{common_steps}
 use Rattle.std.proofs.KnownBytes.{Consumes-trans}
 use Rattle.std.specs.Io.KnownBytes.{Consumes}
-use Rattle.vcg_top.specs.Answers.{most_read}
+use Rattle.vcg_top.specs.Commands.{most_read}
 use Rattle.vcg_top.proofs.Taken.{Consumes-front, Consumes-end}
 use Rattle.vcg_top.proofs.reading.read_all.Goals as goal
 

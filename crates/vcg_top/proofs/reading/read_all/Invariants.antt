@@ -1,6 +1,6 @@
 use Rattle.std.proofs.Common.{◌≡◌, ◌≤◌, ◌-◌, vec_len}
 use Rattle.std.specs.Io.KnownBytes.{Consumes}
-use Rattle.vcg_top.specs.Answers.{most_read}
+use Rattle.vcg_top.specs.Commands.{most_read}
 use Rattle.vcg_top.proofs.reading.read_all.Given as goal
 
 abbrev pub invariant-loop-buffer : goal.invariant-loop-buffer

@@ -13,5 +13,5 @@ returns c =
     seen_so (seen_program c.args.subject.now.pool.now c.args.subject.now.scene.now) c.args.subject.now.number c.args.subject.now.book.now.unit.now c.args.unit.now c.args.weights.now now
     (held c.set_names.new.table) (held c.set.new.self) (held c.set_actuals.new.table)
     (c.in-Ok.ensures ∙ (λ i. by_names now (c.as_slice.ensures i) (held (c.new-table.ensures i))))
-    c.in-Ok-set.ensures
+    c.in-Ok-set.ensures.weights
     (c.in-Ok-set_actuals.ensures (sight_of c.args.subject.now) ∙ ap (λ ds. with_actuals (sight_of c.args.subject.now) ds c.args.weights.now (held c.set.new.self)) c.as_slice-2.ensures)

@@ -19,7 +19,7 @@ loop-left-preserved c =
       weights = omega arith;
       told = λ w.
           one_actual w (held c.args.table.now) c.args.dummies.now c.args.weights.now (c.loop-left.left - 1) c.loop-left.left c.index-dummies-left.result (held c.loop-left.table) (held c.set.new.self) next
-          c.loop-left.invariant.dummies c.loop-left.invariant.weights c.index-dummies-left.is (c.loop-left.invariant.told w) c.in-Ok.ensures;
+          c.loop-left.invariant.dummies c.loop-left.invariant.weights c.index-dummies-left.is (c.loop-left.invariant.told w) c.in-Ok.ensures.weights;
     }
 
 pub returns : goal.returns

@@ -1,7 +1,8 @@
 use Rattle.std.proofs.Common.{◌≡◌, Some, None, length, map, slice_get, sym, ap, ◌∙◌}
 use Rattle.fort_notes.specs.Assertions.{Notes, assertion_tree}
 use Rattle.weight_calls.specs.Inside.{asserts_inside}
-use Rattle.weight_path.proofs.AssertFacts.{asserts_below, notes_none, notes_some}
+use Rattle.weight_calls.proofs.NoteTerms.{notes_none, notes_some}
+use Rattle.weight_path.proofs.AssertFacts.{asserts_below}
 use Rattle.weight_path.proofs.notes.asserts.Goals as goal
 
 pub returns-in-Some-clause-asserts : goal.returns-in-Some-clause-asserts

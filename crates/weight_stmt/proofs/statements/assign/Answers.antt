@@ -17,4 +17,4 @@ returns-in-Ok-set-clause-names c =
     c.in-Ok-values.subscripts.items c.as_slice-in-Apply.result.now c.in-Ok-values.ensures.value c.as_slice-in-Apply.ensures.value
     (held c.set-in-Apply.new.self) c.of.result c.sum_of.result c.plus-old.result c.pair.result c.of.ensures
     (c.sum_of.ensures ∙ ap all (c.as_slice-in-Apply-2.ensures.value ∙ sym c.as_slice-in-Apply.ensures.value))
-    c.plus-old.ensures c.pair.ensures c.in-Ok-set.ensures
+    c.plus-old.ensures c.pair.ensures c.in-Ok-set.ensures.weights

@@ -9,6 +9,6 @@ pub returns-in-Common-clause-names : goal.returns-in-Common-clause-names
 returns-in-Common-clause-names c =
     let b = c.args.begun.now in
     let now = held c.args.names.now in
-    c.in-Ok.ensures
+    c.in-Ok.ensures.weights
     ∙ (ap (with_name now b.variable) c.next.ensures
     ∙ sym (ap (λ d. (tally.begin (sight_of c.args.course.now.subject.now) d b.ends b.at now b.variable b.first b.last b.step c.args.choices.now c.args.load.now).value) c.in-Common.is))

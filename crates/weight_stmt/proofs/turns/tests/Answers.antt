@@ -1,4 +1,4 @@
-use Rattle.std.proofs.Common.{◌≡◌, ℕ, suc, ◌+◌, ◌<◌, get_or, length, refl, ap, arith}
+use Rattle.std.proofs.Common.{◌≡◌, ℕ, suc, ◌+◌, ◌<◌, get_or, length, refl, ap, ◌∙◌, arith}
 use Rattle.fort_model.specs.Seen.{Named}
 use Rattle.weight_calls.specs.Subjects.{sight_of}
 use Rattle.weight_tallies.specs.Tallied.{Tallied}
@@ -14,7 +14,7 @@ returns-then-choice-eq1-clause-load c =
     let used : c.loop-at.used < length c.args.choices.now = omega arith in
     let one : get_or c.args.choices.now c.loop-at.used 0 ≡ 1 = omega arith in
     ap (λ (s : Tallied (Named ℕ)). s.load)
-    (round w lines (left w lines (held c.args.names.now) c.args.load.now c.args.points.now c.args.choices.now) (held c.loop-at.names) c.loop-at.load c.args.points.now c.args.choices.now c.loop-at.at-index c.loop-at.used c.loop-at.invariant
+    (round w lines (left w lines (held c.args.names.now) c.args.load.now c.args.points.now c.args.choices.now) (held c.loop-at.names) c.loop-at.load c.args.points.now c.args.choices.now c.loop-at.at-index c.loop-at.used c.loop-at.invariant.left
     at 0 c.in-Some.found c.loop-at-test.true refl c.in-Some.ensures (get_or c.args.choices.now c.loop-at.used 0) 0 used refl
     (held c.turn.new.names) c.turn.new.load (c.in-Ok.ensures.names at) (c.in-Ok.ensures.load at) one)
 
@@ -26,7 +26,7 @@ returns-then-choice-eq1-clause-names c =
     let used : c.loop-at.used < length c.args.choices.now = omega arith in
     let one : get_or c.args.choices.now c.loop-at.used 0 ≡ 1 = omega arith in
     ap (λ (s : Tallied (Named ℕ)). s.value)
-    (round w lines (left w lines (held c.args.names.now) c.args.load.now c.args.points.now c.args.choices.now) (held c.loop-at.names) c.loop-at.load c.args.points.now c.args.choices.now c.loop-at.at-index c.loop-at.used c.loop-at.invariant
+    (round w lines (left w lines (held c.args.names.now) c.args.load.now c.args.points.now c.args.choices.now) (held c.loop-at.names) c.loop-at.load c.args.points.now c.args.choices.now c.loop-at.at-index c.loop-at.used c.loop-at.invariant.left
     at 0 c.in-Some.found c.loop-at-test.true refl c.in-Some.ensures (get_or c.args.choices.now c.loop-at.used 0) 0 used refl
     (held c.turn.new.names) c.turn.new.load (c.in-Ok.ensures.names at) (c.in-Ok.ensures.load at) one)
 
@@ -38,6 +38,10 @@ loop-at-preserved c =
     let used : c.loop-at.used < length c.args.choices.now = omega arith in
     let next : c.loop-at.at-index + 1 ≡ suc c.loop-at.at-index = omega arith in
     let more : c.loop-at.used + 1 ≡ suc c.loop-at.used = omega arith in
-    on w lines (left w lines (held c.args.names.now) c.args.load.now c.args.points.now c.args.choices.now) (held c.loop-at.names) c.loop-at.load c.args.points.now c.args.choices.now c.loop-at.at-index c.loop-at.used c.loop-at.invariant
-    at 0 c.in-Some.found c.loop-at-test.true refl c.in-Some.ensures (get_or c.args.choices.now c.loop-at.used 0) 0 used refl
-    (held c.turn.new.names) c.turn.new.load (c.loop-at.at-index + 1) (c.loop-at.used + 1) next more (c.in-Ok.ensures.names at) (c.in-Ok.ensures.load at) c.if-choice-eq1.false
+    record {
+      left =
+          on w lines (left w lines (held c.args.names.now) c.args.load.now c.args.points.now c.args.choices.now) (held c.loop-at.names) c.loop-at.load c.args.points.now c.args.choices.now c.loop-at.at-index c.loop-at.used c.loop-at.invariant.left
+          at 0 c.in-Some.found c.loop-at-test.true refl c.in-Some.ensures (get_or c.args.choices.now c.loop-at.used 0) 0 used refl
+          (held c.turn.new.names) c.turn.new.load (c.loop-at.at-index + 1) (c.loop-at.used + 1) next more (c.in-Ok.ensures.names at) (c.in-Ok.ensures.load at) c.if-choice-eq1.false;
+      marks = c.in-Ok.ensures.marks ∙ c.loop-at.invariant.marks;
+    }

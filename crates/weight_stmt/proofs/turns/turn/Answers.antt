@@ -6,6 +6,6 @@ use Rattle.weight_stmt.proofs.turns.turn.Goals as goal
 
 pub returns-clause-names : goal.returns-clause-names
 returns-clause-names c at =
-    c.in-Ok.ensures
+    c.in-Ok.ensures.weights
     ∙ ap (with_name (held c.args.names.now) c.args.found.now.variable)
     (c.weight_behind-weight.ensures ∙ ap (weight_behind c.args.subject.now.scene.now.dialect c.args.choice) (c.loop_tested-sum.ensures.value at))

@@ -1,0 +1,9 @@
+pub mod Answers
+pub mod Events
+pub mod Fronts
+pub mod Lines
+pub mod Matches
+pub mod Names
+pub mod Readings
+pub mod Reads
+pub mod Rests

@@ -1,0 +1,2 @@
+mod Reckoned
+mod Starts

@@ -1,0 +1,5 @@
+mod Firsts
+mod Assignments
+mod Growth
+mod ConditionTerms
+mod LinesPut

@@ -1,0 +1,3 @@
+mod Passing
+mod Marks
+mod Starts

@@ -1,0 +1,12 @@
+//! The weights of the conditions along the paths of a unit, one path after another: what stands before
+//! the last statement that two paths share is weighed once.
+#![tactic(auto)]
+
+mod backing;
+mod following;
+mod front;
+mod going;
+mod starting;
+
+pub use following::follow;
+pub use front::Front;
