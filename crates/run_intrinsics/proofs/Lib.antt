@@ -1,2 +1,2 @@
-mod Reckoned
-mod Starts
+pub mod Reckoned
+pub mod Starts

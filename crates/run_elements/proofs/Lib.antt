@@ -1,0 +1,4 @@
+mod Counts
+mod Depths
+pub mod Obeying
+pub mod Plain

@@ -1,0 +1,9 @@
+      SUBROUTINE LOOP(N)
+C$ INPUT (DEFINED N) (ZLEQ 1 N)
+C$ OUTPUT T
+      I = 0
+C$ ASSERT (DEFINED I) (ZLEQ 0 I) (ZLESSP I N) CLOCK (ZDIFF N I)
+   10 I = I + 1
+      IF (I .LT. N) GO TO 10
+      RETURN
+      END
