@@ -7,7 +7,7 @@ use Rattle.run_state.specs.declared.machine.Frame.{Frame}
 use Rattle.run_state.specs.declared.machine.Stage.{Stage}
 use Rattle.run_state.specs.declared.machine.Stage.TheVariants as stage
 use Rattle.run_state.specs.declared.machine.State.{State}
-use Rattle.run_ranks.specs.Ranks.{cells_need, rank_at}
+use Rattle.run_ranks.specs.Needs.{cells_need, rank_at}
 use Rattle.run_ranks.specs.declared.ranks.Ranks.{Ranks}
 
 -- how much room there is for frames, values, extents and cells, and how many cells a copy has at most

@@ -1,0 +1,9 @@
+//! Room for a run, by the order of calls: where it is taken at the beginning, no work takes memory.
+#![tactic(auto)]
+
+mod laws;
+mod ranks;
+
+pub use laws::{calls_are_ready, calls_keep_room, entries_are_ready, entries_keep_room, leaves_are_ready, leaves_keep_room};
+pub use laws::{lines_keep_room, plain_is_ready, plain_keeps_room, tests_keep_room};
+pub use ranks::{Ranks, UnitRank};
