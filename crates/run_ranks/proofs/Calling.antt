@@ -1,5 +1,5 @@
 -- There is room for a call, and it keeps the room.
-use Rattle.std.proofs.Common.{◌≡◌, ℕ, suc, ◌+◌, ◌*◌, ◌-◌, ◌<◌, ◌≤◌, Bool, List, [], ◌∷◌, ◌++◌, length, sum, take, Option, Some, None, IfSome, slice_get, refl, sym, ap, ◌∙◌, subst, arith, length-append}
+use Rattle.std.proofs.Common.{◌≡◌, ℕ, suc, ◌+◌, ◌*◌, ◌-◌, ◌<◌, ◌≤◌, Bool, List, [], ◌++◌, length, take, Option, Some, None, IfSome, slice_get, refl, sym, ap, subst, arith, length-append}
 use Rattle.formula.specs.declared.value.Cell.{Cell}
 use Rattle.run_shapes.specs.declared.unit_code.CallCode.{CallCode}
 use Rattle.run_shapes.specs.declared.unit_code.Code.{Code}
@@ -15,11 +15,11 @@ use Rattle.run_state.specs.declared.machine.Stage.TheVariants as stage
 use Rattle.run_state.specs.declared.machine.State.{State}
 use Rattle.run_calls.specs.Calls.{all_cells, handed_all, put_off, called_at, called_of, referred, IsReadyFor}
 use Rattle.run_calls.proofs.Closed.{laid, seats_in, news_in, handed_closed}
-use Rattle.run_ranks.specs.Needs.{cells_need, rank_at, HoldsCall, IsRanked, IsRankedCall}
+use Rattle.run_ranks.specs.Needs.{cells_need, rank_at, IsRankedCall}
 use Rattle.run_ranks.specs.Room.{HasRoom, HasRoomIn, rooms_of}
 use Rattle.run_ranks.specs.Laws.{IsRoom}
 use Rattle.run_ranks.specs.declared.ranks.Ranks.{Ranks}
-use Rattle.run_ranks.proofs.Within.{more_times, sum_times, newest_long, newest_within, cells_within, seats_long, seats_within, news_less, extents_more}
+use Rattle.run_ranks.proofs.Within.{sum_times, newest_long, newest_within, cells_within, seats_long, seats_within, news_less, extents_more}
 use Rattle.run_ranks.proofs.Plain.{at_stage}
 
 module _ (code : Code) (ranks : Ranks) (most place : ℕ) (m : State) (r : IsRoom code ranks most m) (e : m.stage ≡ stage.Inside) (h : m.frame.place < m.frame.stop) where
@@ -46,7 +46,7 @@ module _ (code : Code) (ranks : Ranks) (most place : ℕ) (m : State) (r : IsRoo
     room_passed =
         let a : all_cells passed ≤ (unit_code code p.unit).slots.dummies * most = cells_few in
         let b : (unit_code code p.unit).slots.dummies * most + (rank_at ranks p.unit).copies * most ≤ (rank_at ranks m.frame.unit).copies * most =
-            sum_times (unit_code code p.unit).slots.dummies (rank_at ranks p.unit).copies (rank_at ranks m.frame.unit).copies most p.holds.copies in
+        sum_times (unit_code code p.unit).slots.dummies (rank_at ranks p.unit).copies (rank_at ranks m.frame.unit).copies most p.holds.copies in
         let c : (rank_at ranks m.frame.unit).cells + (rank_at ranks p.unit).plain ≤ (rank_at ranks m.frame.unit).plain = p.holds.plain in
         let d : length m.cells.items ≤ m.frame.before + (rank_at ranks m.frame.unit).cells = have.1.some in
         let f : m.frame.before + ((rank_at ranks m.frame.unit).plain + (rank_at ranks m.frame.unit).copies * most) ≤ m.cells.room = have.1.all in

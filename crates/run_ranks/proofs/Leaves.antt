@@ -1,5 +1,5 @@
 -- There is room to leave a unit, and leaving keeps the room.
-use Rattle.std.proofs.Common.{◌≡◌, ◌≢◌, ℕ, suc, ◌+◌, ◌*◌, ◌-◌, ◌<◌, ◌≤◌, ◌^◌, List, [], ◌∷◌, length, take, Option, Some, None, slice_get, refl, sym, ap, ◌∙◌, subst, arith}
+use Rattle.std.proofs.Common.{◌≡◌, ◌≢◌, ℕ, suc, ◌+◌, ◌*◌, ◌-◌, ◌<◌, ◌≤◌, ◌^◌, List, [], ◌∷◌, length, take, Option, Some, None, slice_get, refl, sym, subst, arith}
 use Rattle.formula.specs.declared.value.Cell.{Cell}
 use Rattle.run_rooms.specs.Roomy.{oldest}
 use Rattle.run_shapes.specs.declared.unit_code.Code.{Code}

@@ -9,7 +9,7 @@ use Rattle.run_state.specs.declared.machine.Frame.{Frame}
 use Rattle.run_state.specs.declared.machine.Stage.{Stage}
 use Rattle.run_state.specs.declared.machine.Stage.TheVariants as stage
 use Rattle.run_state.specs.declared.machine.State.{State}
-use Rattle.run_ranks.specs.Needs.{rank_at, IsRanked}
+use Rattle.run_ranks.specs.Needs.{rank_at}
 use Rattle.run_ranks.specs.Room.{Fits, HasCells, HasRoom, HasRoomIn, rooms_of}
 use Rattle.run_ranks.specs.Laws.{IsRoom, IsTested, line_begun}
 use Rattle.run_ranks.specs.declared.ranks.Ranks.{Ranks}
@@ -43,7 +43,7 @@ shape old new = record new {
 shape_is : (old new : State) → IsPlain old new → shape old new ≡ new
 shape_is old new p =
     ap (λ x. record new { frame = x; callers = old.callers; extents = old.extents; cells = record new.cells { room = old.cells.room }; values = record new.values { room = old.values.room } })
-        (frame_is old.frame new.frame p.frame)
+    (frame_is old.frame new.frame p.frame)
     ∙ ap (λ x. record new { callers = x; extents = old.extents; cells = record new.cells { room = old.cells.room }; values = record new.values { room = old.values.room } }) (sym p.callers)
     ∙ ap (λ x. record new { extents = x; cells = record new.cells { room = old.cells.room }; values = record new.values { room = old.values.room } }) (sym p.extents)
     ∙ ap (λ x. record new { cells = record new.cells { room = x }; values = record new.values { room = old.values.room } }) (sym p.cells_room)

@@ -1,5 +1,5 @@
 -- No extent and no item has more cells than so many.
-use Rattle.std.proofs.Common.{◌≡◌, ℕ, zero, suc, ◌+◌, ◌*◌, ◌-◌, ◌<◌, ◌≤◌, Bool, true, false, List, [], ◌∷◌, ◌++◌, length, map, drop, take, slice_index_or, refl, sym, ap, ◌∙◌, subst, arith, length-append}
+use Rattle.std.proofs.Common.{◌≡◌, ℕ, zero, suc, ◌+◌, ◌*◌, ◌-◌, ◌≤◌, Bool, true, false, List, [], ◌∷◌, ◌++◌, length, map, drop, take, slice_index_or, refl, ap, arith, length-append}
 use Rattle.fort_model.specs.Storage.{Storage, contents, side_by_side}
 use Rattle.run_rooms.specs.Roomy.{behind, oldest}
 use Rattle.run_state.specs.Near.{far, shortened}
@@ -77,7 +77,7 @@ news_less copies i (x ∷ xs) st =
     let h : length (news_in copies (suc i) xs st) ≤ all_cells xs = news_less copies (suc i) xs st in
     let s : length (held_from (copies i) x st) ≤ size_in x = held_less (copies i) x st in
     let l : length (held_from (copies i) x st ++ news_in copies (suc i) xs st) ≡ length (held_from (copies i) x st) + length (news_in copies (suc i) xs st) =
-        length-append (held_from (copies i) x st) (news_in copies (suc i) xs st) in
+    length-append (held_from (copies i) x st) (news_in copies (suc i) xs st) in
     omega arith
 
 -- ---- extents

@@ -1,3 +1,5 @@
 pub mod Needs
 pub mod Room
 pub mod Laws
+pub mod Sums
+pub mod Fitting

@@ -1,0 +1,18 @@
+// What an order of calls and well-formed units give.
+ghost use Rattle.run_ranks.specs.Fitting.{NamesAreApart, SumsRankCalls};
+ghost use Rattle.run_ranks.specs.Sums.{SumsHoldCalls};
+
+/// The needs of a unit that stands earlier are among those of each later one. It does nothing.
+pub fn sums_hold_calls()
+    ensures { SumsHoldCalls }
+{}
+
+/// Sums along the order of calls hold each call. It does nothing.
+pub fn sums_rank_calls()
+    ensures { SumsRankCalls }
+{}
+
+/// The names of a well-formed unit are apart. It does nothing.
+pub fn names_are_apart()
+    ensures { NamesAreApart }
+{}
