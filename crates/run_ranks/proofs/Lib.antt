@@ -6,3 +6,4 @@ pub mod Leaves
 pub mod Summed
 pub mod Ranked
 pub mod Apart
+pub mod Ordered

@@ -3,3 +3,4 @@ pub mod Room
 pub mod Laws
 pub mod Sums
 pub mod Fitting
+pub mod Orders

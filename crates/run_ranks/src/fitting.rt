@@ -1,5 +1,6 @@
 // What an order of calls and well-formed units give.
 ghost use Rattle.run_ranks.specs.Fitting.{NamesAreApart, SumsRankCalls};
+ghost use Rattle.run_ranks.specs.Orders.{CallersStandLater, OrdersHoldCode};
 ghost use Rattle.run_ranks.specs.Sums.{SumsHoldCalls};
 
 /// The needs of a unit that stands earlier are among those of each later one. It does nothing.
@@ -15,4 +16,14 @@ pub fn sums_rank_calls()
 /// The names of a well-formed unit are apart. It does nothing.
 pub fn names_are_apart()
     ensures { NamesAreApart }
+{}
+
+/// In an order of calls a called unit stands before its callers. It does nothing.
+pub fn callers_stand_later()
+    ensures { CallersStandLater }
+{}
+
+/// Each call of code is of a unit that stands earlier in an order of calls. It does nothing.
+pub fn orders_hold_code()
+    ensures { OrdersHoldCode }
 {}

@@ -5,7 +5,9 @@ mod fitting;
 mod laws;
 mod ranks;
 
-pub use fitting::{names_are_apart, sums_hold_calls, sums_rank_calls};
+pub use fitting::{
+    callers_stand_later, names_are_apart, orders_hold_code, sums_hold_calls, sums_rank_calls,
+};
 pub use laws::{
     calls_are_ready, calls_keep_room, entries_are_ready, entries_keep_room, leaves_are_ready,
     leaves_keep_room, lines_keep_room, plain_is_ready, plain_keeps_room, tests_keep_room,
