@@ -7,3 +7,4 @@ pub mod Summed
 pub mod Ranked
 pub mod Apart
 pub mod Ordered
+pub mod Tabled

@@ -1,7 +1,7 @@
 -- The order of calls has each called unit before its callers.
 use Rattle.std.specs.Prelude.{ℕ, ◌≡◌, List, Some, slice_get}
 use Rattle.fort_syntax.specs.declared.unit.Unit.{Unit as Routine}
-use Rattle.fort_model.specs.CallFacts.{sites_of_unit}
+use Rattle.fort_model.specs.CallFacts.{sites_of_unit, IsCalleesTable}
 use Rattle.fort_model.specs.CallOrder.{IsCallOrder}
 use Rattle.fort_model.specs.Calls.{CallSite, Calls, callee_of}
 use Rattle.fort_model.specs.Lists.{IsAmong}
@@ -25,3 +25,7 @@ CallsAreOfUnits units = (i : ℕ) (u : Routine) (s : CallSite) → slice_get uni
 -- then each call of code is of a unit that stands earlier
 abbrev pub OrdersHoldCode : Type 0
 OrdersHoldCode = (units : List Routine) (order : List ℕ) → IsCallOrder units order → CallsAreOfUnits units → CallsStandEarlier units order
+
+-- a table of callees says that each call is of a unit
+abbrev pub TablesNameUnits : Type 0
+TablesNameUnits = (units : List Routine) (rows : List (List ℕ)) → IsCalleesTable units rows → CallsAreOfUnits units

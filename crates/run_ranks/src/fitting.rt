@@ -1,6 +1,6 @@
 // What an order of calls and well-formed units give.
 ghost use Rattle.run_ranks.specs.Fitting.{NamesAreApart, SumsRankCalls};
-ghost use Rattle.run_ranks.specs.Orders.{CallersStandLater, OrdersHoldCode};
+ghost use Rattle.run_ranks.specs.Orders.{CallersStandLater, OrdersHoldCode, TablesNameUnits};
 ghost use Rattle.run_ranks.specs.Sums.{SumsHoldCalls};
 
 /// The needs of a unit that stands earlier are among those of each later one. It does nothing.
@@ -26,4 +26,9 @@ pub fn callers_stand_later()
 /// Each call of code is of a unit that stands earlier in an order of calls. It does nothing.
 pub fn orders_hold_code()
     ensures { OrdersHoldCode }
+{}
+
+/// Where there is a table of callees each call is of a unit. It does nothing.
+pub fn tables_name_units()
+    ensures { TablesNameUnits }
 {}
