@@ -8,3 +8,4 @@ pub mod Ranked
 pub mod Apart
 pub mod Ordered
 pub mod Tabled
+pub mod Whole

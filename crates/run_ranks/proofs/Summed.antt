@@ -7,12 +7,12 @@ use Rattle.run_ranks.specs.Sums.{Totals, no_totals, totals_behind, IsSummed, Are
 use Rattle.run_ranks.specs.declared.ranks.Ranks.{Ranks}
 
 -- sums are among the needs of a unit
-record IsUnder (ranks : Ranks) (t : Totals) (i : ℕ) : Type 0 where
-  frames : t.frames_sum ≤ (rank_at ranks i).frames
-  values : (rank_at ranks i).long + t.values_sum ≤ (rank_at ranks i).values
-  names : (rank_at ranks i).slots + t.names_sum ≤ (rank_at ranks i).names
-  plain : (rank_at ranks i).cells + t.plain_sum ≤ (rank_at ranks i).plain
-  copies : t.copies_sum ≤ (rank_at ranks i).copies
+pub record IsUnder (ranks : Ranks) (t : Totals) (i : ℕ) : Type 0 where
+  pub frames : t.frames_sum ≤ (rank_at ranks i).frames
+  pub values : (rank_at ranks i).long + t.values_sum ≤ (rank_at ranks i).values
+  pub names : (rank_at ranks i).slots + t.names_sum ≤ (rank_at ranks i).names
+  pub plain : (rank_at ranks i).cells + t.plain_sum ≤ (rank_at ranks i).plain
+  pub copies : t.copies_sum ≤ (rank_at ranks i).copies
 
 module _ (code : Code) (ranks : Ranks) where
   head_under : (t : Totals) (i : ℕ) → IsSummed ranks t i → IsUnder ranks t i
@@ -33,7 +33,7 @@ module _ (code : Code) (ranks : Ranks) where
       let e : t.copies_sum + (unit_code code k).slots.dummies ≤ (rank_at ranks i).copies = u.copies in
       record { frames = omega arith; values = omega arith; names = omega arith; plain = omega arith; copies = omega arith }
 
-  under : (t : Totals) (is : List ℕ) (n i : ℕ) → slice_get is n ≡ Some i → AreSummed code ranks t is → IsUnder ranks t i
+  pub under : (t : Totals) (is : List ℕ) (n i : ℕ) → slice_get is n ≡ Some i → AreSummed code ranks t is → IsUnder ranks t i
   under t [] n i at s = absurd (cc)
   under t (k ∷ is) zero i at s = let same : k ≡ i = cc in subst (IsUnder ranks t) same (head_under t k s.0)
   under t (k ∷ is) (suc n) i at s = less_under t k i (under (totals_behind code ranks k t) is n i at s.1)

@@ -4,3 +4,4 @@ pub mod Laws
 pub mod Sums
 pub mod Fitting
 pub mod Orders
+pub mod Whole

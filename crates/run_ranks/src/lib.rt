@@ -6,8 +6,8 @@ mod laws;
 mod ranks;
 
 pub use fitting::{
-    callers_stand_later, names_are_apart, orders_hold_code, sums_hold_calls, sums_rank_calls,
-    tables_name_units,
+    callers_stand_later, names_are_apart, orders_hold_code, sums_are_enough, sums_hold_calls,
+    sums_rank_calls, tables_name_units,
 };
 pub use laws::{
     calls_are_ready, calls_keep_room, entries_are_ready, entries_keep_room, leaves_are_ready,
