@@ -1,5 +1,6 @@
 -- A name of a table has the slot at which it stands.
-use Rattle.std.proofs.Common.{◌≡◌, ◌<◌, ℕ, suc, ◌+◌, Bool, true, false, cond, List, [], ◌∷◌, length, refl, sym, ap, subst, ◌∙◌, rules, arith}
+use Rattle.std.proofs.Common.{◌≡◌, ◌<◌, ℕ, suc, ◌+◌, Bool, true, false, cond, List, [], ◌∷◌, length, refl, sym, ap, subst, ◌∙◌}
+use Rattle.std.proofs.Common.{rules, arith}
 use Rattle.std.specs.Prelude.{◌||◌, Option, Some, None, get_or}
 use Rattle.formula.specs.Atoms.{same_bytes, is_among}
 use Rattle.fort_syntax.specs.declared.name.Name.{Name}

@@ -14,13 +14,16 @@ at xs x table o t h e = subst (IsAt xs x) (sym (e ∙ ap (λ t. first_of t x) t)
 
 pub returns-in-Some-clause-within : goal.returns-in-Some-clause-within
 returns-in-Some-clause-within c =
-    (at c.args.names.now c.args.name.now c.self.inside.table (Some c.in-Some.slot.now) (c.self.view_is ∙ c.requires.table) c.requires.there (ap option_copied (sym c.in-Some.is) ∙ c.get.ensures)).0
+    (at c.args.names.now c.args.name.now c.self.inside.table (Some c.in-Some.slot.now) (c.self.view_is ∙ c.requires.table) c.requires.there
+    (ap option_copied (sym c.in-Some.is) ∙ c.get.ensures)).0
 
 pub returns-in-Some-clause-told : goal.returns-in-Some-clause-told
 returns-in-Some-clause-told c =
-    (at c.args.names.now c.args.name.now c.self.inside.table (Some c.in-Some.slot.now) (c.self.view_is ∙ c.requires.table) c.requires.there (ap option_copied (sym c.in-Some.is) ∙ c.get.ensures)).1
+    (at c.args.names.now c.args.name.now c.self.inside.table (Some c.in-Some.slot.now) (c.self.view_is ∙ c.requires.table) c.requires.there
+    (ap option_copied (sym c.in-Some.is) ∙ c.get.ensures)).1
 
 pub returns-in-None-clause-told : goal.returns-in-None-clause-told
 returns-in-None-clause-told c =
-    let no : true ≡ false = at c.args.names.now c.args.name.now c.self.inside.table None (c.self.view_is ∙ c.requires.table) c.requires.there (ap option_copied (sym c.in-None.is) ∙ c.get.ensures) in
+    let no : true ≡ false = at c.args.names.now c.args.name.now c.self.inside.table None (c.self.view_is ∙ c.requires.table) c.requires.there
+    (ap option_copied (sym c.in-None.is) ∙ c.get.ensures) in
     search rules
