@@ -48,6 +48,7 @@ abbrev mutual
 -- the pushed instructions of an expression stand for its code, before any other code
 abbrev pub PushedIsCode : Type 0
 PushedIsCode =
-    (u : Routine) (units : List Routine) (slots : Slots) (tests : List Test) (calls : List CallCode) (targets : List ℕ) (reads : Bool) (k : ℕ) (e : Expr) (is : List code.Instr)
+    (u : Routine) (units : List Routine) (slots : Slots) (tests : List Test) (calls : List CallCode) (targets : List ℕ) (reads : Bool) (k : ℕ) (e : Expr)
+    (is : List code.Instr)
     → AreSlotsOf u slots → IsHere u units slots.names calls k e
     → map (seen slots tests calls targets) (pushed u slots.names reads k e) ++ is ≡ code.code u units reads k e is

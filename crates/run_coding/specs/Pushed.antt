@@ -15,7 +15,8 @@ use Rattle.run_code.specs.Code as code
 use Rattle.run_shapes.specs.declared.instr.Function.{Function}
 use Rattle.run_shapes.specs.declared.instr.Function.TheVariants.{Absolute, Modulo, Greatest, Least}
 use Rattle.run_shapes.specs.declared.instr.Instr.{Instr}
-use Rattle.run_shapes.specs.declared.instr.Instr.TheVariants.{Number, Truth, Place, Load, Value, Negate, Raise, Operation, Comparison, Negation, SkipFalse, Both, SkipTrue, Either, Array, BuiltIn, Refer}
+use Rattle.run_shapes.specs.declared.instr.Instr.TheVariants.{Number, Truth, Place, Load, Value, Negate, Raise, Operation, Comparison, Negation}
+use Rattle.run_shapes.specs.declared.instr.Instr.TheVariants.{SkipFalse, Both, SkipTrue, Either, Array, BuiltIn, Refer}
 use Rattle.run_slots.specs.Slotted.{slotted}
 
 -- the first slot at which a name stands; 0 where it stands at none
@@ -57,8 +58,10 @@ abbrev mutual
   pushed u names reads k (expr.Pos' _ (only a)) = pushed u names true k a
   pushed u names reads k (expr.Neg' _ (only a)) = pushed u names true k a ++ Negate ∷ []
   pushed u names reads k (expr.Power' _ (only a) n) = pushed u names true k a ++ Raise n ∷ []
-  pushed u names reads k (expr.Bin' o _ (only a) _ (only b)) = pushed u names true k a ++ (pushed u names true (k + length (sites_in u a)) b ++ Operation o ∷ [])
-  pushed u names reads k (expr.Rel' o _ (only a) _ (only b)) = pushed u names true k a ++ (pushed u names true (k + length (sites_in u a)) b ++ Comparison o ∷ [])
+  pushed u names reads k (expr.Bin' o _ (only a) _ (only b)) =
+      pushed u names true k a ++ (pushed u names true (k + length (sites_in u a)) b ++ Operation o ∷ [])
+  pushed u names reads k (expr.Rel' o _ (only a) _ (only b)) =
+      pushed u names true k a ++ (pushed u names true (k + length (sites_in u a)) b ++ Comparison o ∷ [])
   pushed u names reads k (expr.Not' _ (only a)) = pushed u names true k a ++ Negation ∷ []
   pushed u names reads k (expr.And' _ (only a) _ (only b)) =
       let right = pushed u names true (k + length (sites_in u a)) b in

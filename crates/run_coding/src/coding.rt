@@ -3,7 +3,7 @@ ghost use Rattle.std.specs.Prelude.{◌≡◌, ◌<◌, true, suc, [], ◌∷◌
 ghost use Rattle.fort_model.specs.Calls.{sites_in};
 ghost use Rattle.fort_syntax.specs.Names.{applied};
 ghost use Rattle.run_coding.specs.Pushed.{actuals_listed, closing, function_of, name_pushed, pushed, values_listed};
-ghost use Rattle.run_coding.specs.Scopes.{unit_of, with_calls};
+ghost use Rattle.run_coding.specs.Scopes.{next_call, unit_of, with_calls};
 
 use crate::scope::Scope;
 use edge_io::NoMemory;
@@ -26,7 +26,7 @@ fn push_call(
     actuals: usize,
 ) -> Result<usize, NoMemory>
     ensures place { IfOk result (λ place. place ≡ length calls.old.items) }
-    ensures listed { OnOk result (calls.new.items ≡ calls.old.items ++ record { number = suc (length calls.old.items); callee = callee; actuals = actuals } ∷ []) }
+    ensures listed { OnOk result (calls.new.items ≡ calls.old.items ++ next_call calls.old.items callee actuals ∷ []) }
 {
     let place = calls.len();
     let call = CallCode {
