@@ -1,4 +1,4 @@
-mod Slots
-mod Meant
-mod Rows
-mod Composed
+pub mod Slots
+pub mod Meant
+pub mod Rows
+pub mod Composed

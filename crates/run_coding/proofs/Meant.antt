@@ -202,7 +202,7 @@ module _ (u : Routine) (units : List Routine) (slots : Slots) (tests : List Test
         ∙ ap (λ zs. saw first ++ (code.skip_true (suc (code.size u true b)) ∷ zs)) (meant true (k + calls_in u a) b (code.either ∷ is) h.1)
         ∙ meant true k a _ h.0
 
-    values_meant : (k : ℕ) {m : Count} (es : Row_of-Expr m) (is : List code.Instr) → AreHere u units slots.names calls k es
+    pub values_meant : (k : ℕ) {m : Count} (es : Row_of-Expr m) (is : List code.Instr) → AreHere u units slots.names calls k es
         → saw (values_pushed u slots.names k es) ++ is ≡ code.values_code u units k es is
     values_meant k end_of-Expr is h = refl
     values_meant k (more_of-Expr e es) is h =
@@ -211,7 +211,7 @@ module _ (u : Routine) (units : List Routine) (slots : Slots) (tests : List Test
         ∙ ap (λ zs. saw (pushed u slots.names true k e) ++ zs) (values_meant (k + calls_in u e) es is h.1)
         ∙ meant true k e _ h.0
 
-    actuals_meant : (k : ℕ) {m : Count} (es : Row_of-Expr m) (is : List code.Instr) → AreHere u units slots.names calls k es
+    pub actuals_meant : (k : ℕ) {m : Count} (es : Row_of-Expr m) (is : List code.Instr) → AreHere u units slots.names calls k es
         → saw (actuals_pushed u slots.names k es) ++ is ≡ code.actuals_code u units k es is
     actuals_meant k end_of-Expr is h = refl
     actuals_meant k (more_of-Expr e es) is h =
