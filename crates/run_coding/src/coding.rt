@@ -20,7 +20,7 @@ fn push(out: &mut Vec<Instr>, instr: Instr) -> Result<(), NoMemory>
 }
 
 /// Lists a call: its number is one more than that of the call before it. It answers its place.
-fn push_call(
+pub fn push_call(
     calls: &mut Vec<CallCode>,
     callee: Option<usize>,
     actuals: usize,

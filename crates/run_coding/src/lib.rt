@@ -6,7 +6,7 @@ ghost use Rattle.run_coding.specs.Meanings.{PushedIsCode};
 mod coding;
 mod scope;
 
-pub use coding::{code_actuals, code_of};
+pub use coding::{code_actuals, code_of, push_call};
 pub use scope::Scope;
 
 /// The instructions that are pushed for an expression stand for its code, where its names have slots
