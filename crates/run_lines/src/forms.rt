@@ -42,7 +42,7 @@ pub(crate) fn code_sides(
 ) -> Result<(), NoMemory>
     ensures targets { OnOk result (draft.new.targets.items ≡ draft.old.targets.items) }
     ensures calls { OnOk result (draft.new.calls.items ≡ with_calls scope.now (sites_in (unit_of scope.now) left.now ++ sites_in (unit_of scope.now) right.now) draft.old.calls.items) }
-    ensures code { let k = length draft.old.calls.items in OnOk result (draft.new.instrs.items ≡ draft.old.instrs.items ++ (pushed (unit_of scope.now) scope.now.names.now true (k + length (sites_in (unit_of scope.now) left.now)) right.now ++ (pushed (unit_of scope.now) scope.now.names.now false k left.now ++ [])) ) }
+    ensures code { let k = length draft.old.calls.items in OnOk result (draft.new.instrs.items ≡ draft.old.instrs.items ++ (pushed (unit_of scope.now) scope.now.names.now true (k + length (sites_in (unit_of scope.now) left.now)) right.now ++ pushed (unit_of scope.now) scope.now.names.now false k left.now)) }
 {
     let mut side = Vec::new(alloc);
     code_of(scope, &mut draft.calls, &mut side, false, left)?;
