@@ -181,13 +181,19 @@ def all_earlier():
     return cards
 
 
-def common():
-    """40 blocks of 90 entities; no path comes to the CALLs of a unit that declares all blocks and changes one entity."""
+def common(changed=1):
+    """40 blocks of 90 entities; no path comes to the CALLs of a unit that declares all blocks and changes some entities."""
     blocks = [[integer(300 + 90 * block + item) for item in range(90)] for block in range(40)]
     declared = [f"COMMON/B{number}/" + ",".join(names) for number, names in enumerate(blocks)]
-    cards = unit("S", [f"      {blocks[0][0]}=1"], declared=declared)
+    entities = [entity for names in blocks for entity in names]
+    cards = unit("S", [f"      {entity}=1" for entity in entities[:changed]], declared=declared)
     lines = ["      GOTO1"] + ["      CALL S"] * 4000 + ["    1 CONTINUE"]
     return cards + unit("P", lines, declared=declared)
+
+
+def changed_common():
+    """The same, where the called unit changes all entities."""
+    return common(3600)
 
 
 def calls_with_outputs():
@@ -253,6 +259,7 @@ DECKS = [
     Deck("passed-on", "vc", None, "300 units in a chain, each passing on 400 dummies", passed_on),
     Deck("all-earlier", "vc", None, "100 units that each call all earlier ones", all_earlier),
     Deck("common", "vc", None, "4,000 CALLs under 3,600 COMMON entities, on no path", common),
+    Deck("common-changed", "vc", None, "the same CALLs of a unit that changes all of them", changed_common),
     Deck("outputs", "vc", None, "10,000 CALLs with their OUTPUTs", calls_with_outputs),
     Deck("paths-behind", "vc", None, "4,096 paths behind 30,000 statements", paths_behind),
     Deck("paths-with", "vc", None, "4,096 paths with 30,000 statements each", paths_with),
