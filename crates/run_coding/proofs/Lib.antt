@@ -1,0 +1,4 @@
+mod Slots
+mod Meant
+mod Rows
+mod Composed
