@@ -85,7 +85,12 @@ pub fn code_stmt(lines: &Lines, spot: &Spot, draft: &mut Draft, stmt: &Stmt) -> 
         }
         Stmt::ArithIf(e, l, m, n) => {
             let place = draft.targets.len();
-            push_three(&mut draft.targets, lines.points, lines.lines(), (*l, *m, *n))?;
+            push_three(
+                &mut draft.targets,
+                lines.points,
+                lines.lines(),
+                (*l, *m, *n),
+            )?;
             code_of(scope, &mut draft.calls, &mut draft.instrs, true, e)?;
             push(&mut draft.instrs, Instr::Signs(place))
         }
@@ -97,7 +102,10 @@ pub fn code_stmt(lines: &Lines, spot: &Spot, draft: &mut Draft, stmt: &Stmt) -> 
         }
         Stmt::Do(_, x, first, last, by) => {
             code_values(scope, &mut draft.instrs, *first, *last, *by)?;
-            push(&mut draft.instrs, Instr::BeginDo(scope.slot(x), spot.point + 1))?;
+            push(
+                &mut draft.instrs,
+                Instr::BeginDo(scope.slot(x), spot.point + 1),
+            )?;
             push(&mut draft.instrs, spot.over)
         }
         Stmt::Call(f, actuals) => {
