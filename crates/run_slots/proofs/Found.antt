@@ -29,7 +29,7 @@ behind : (y : Name) (ys : List Name) (x : Name) (o : Option ℕ) → IsAt ys x o
 behind y ys x None h = h
 behind y ys x (Some k) h = (let a = h.0 in omega arith, h.1)
 
-stands : (xs : List Name) (x : Name) → is_among x xs ≡ true → IsAt xs x (first_of (slotted xs 0) x)
+pub stands : (xs : List Name) (x : Name) → is_among x xs ≡ true → IsAt xs x (first_of (slotted xs 0) x)
 stands [] x h = search rules
 stands (y ∷ ys) x h = by (same_bytes x y) refl (stands ys x)
   where

@@ -1,7 +1,7 @@
 // A table of slots by name.
 ghost use Rattle.std.specs.Prelude.{◌≡◌, ◌<◌, true, [], length, get_or, IfOk};
 ghost use Rattle.formula.specs.Atoms.{is_among};
-ghost use Rattle.name_tables.specs.Tables.{all_told};
+ghost use Rattle.name_tables.specs.Tables.{all_told, first_of};
 ghost use Rattle.run_slots.specs.Slotted.{slotted};
 
 use edge_io::{Keys, NoMemory};
@@ -38,6 +38,16 @@ impl SlotTable {
             };
         }
         Ok(SlotTable { table })
+    }
+
+    /// The slot of a name, where the table has one.
+    pub fn find(&self, name: &Name) -> Option<usize>
+        ensures { result ≡ first_of self.now name.now }
+    {
+        match self.table.get(name) {
+            Some(slot) => Some(*slot),
+            None => None,
+        }
     }
 
     /// The slot of one of the names of the table.

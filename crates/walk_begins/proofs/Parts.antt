@@ -202,12 +202,6 @@ module _ (s : Setting) (label pc c : ℕ) (cs : List ℕ) (w0 w1 : Walk) (i1 i2 
   entered_by choices e m h =
       subst (λ (xs : List ℕ). PerformsIn w0.pool s (moment w0) (λ w. entered w (target w.unit.lines label) pc (moment w0).now (tree_of w0.pool i1) (tree_of w0.pool i2) xs) m) (sym e) h
 
--- where there is no choice, nothing is done
-pub no_choice : (s : Setting) (label pc : ℕ) (w : Walk) (a b : Tree) (choices : List ℕ) → choices ≡ []
-    → PerformsIn w.pool s (moment w) (λ v. entered v (target v.unit.lines label) pc (moment w).now a b choices) (moment w)
-no_choice s label pc w a b choices e =
-    subst (λ (xs : List ℕ). PerformsIn w.pool s (moment w) (λ v. entered v (target v.unit.lines label) pc (moment w).now a b xs) (moment w)) (sym e) (performs_not w.pool s (moment w) (moment w) refl)
-
 -- the tests of the DOs around one that is passed over, at the card of its last statement
 pub passes_over : (s : Setting) (label pc card : ℕ) (cs : List ℕ) (w0 : Walk) (m : Moment) → card ≡ card_in (slice_get s.book.now.unit.now.lines (target s.book.now.unit.now.lines label))
     → PerformsIn w0.pool s (moment w0) (λ w. tests w card (moment w0).now (loops_around s.book.now.unit.now (target s.book.now.unit.now.lines label) pc) cs) m

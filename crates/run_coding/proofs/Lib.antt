@@ -1,0 +1,4 @@
+pub mod Slots
+pub mod Meant
+pub mod Rows
+pub mod Composed

@@ -1,0 +1,2 @@
+mod Stood
+mod Joined

@@ -1,0 +1,11 @@
+pub mod Within
+pub mod Plain
+pub mod Calling
+pub mod Entries
+pub mod Leaves
+pub mod Summed
+pub mod Ranked
+pub mod Apart
+pub mod Ordered
+pub mod Tabled
+pub mod Whole
