@@ -17,7 +17,8 @@ IsFirstIn p (rules ∷ stages) f = IsFirstBroken p rules f ⊎ (KeepsAll p rules
 
 -- a fault in the calls of a deck, which units alone decide: no table of smashed names is looked at
 abbrev pub IsCallFault : Dialect → Deck → Fault → Type 0
-IsCallFault dialect deck f = (r : Remarks) × (remarks_of deck ≡ Ok r) × IsFirstBroken (program_of dialect deck r []) rules_of_calls f
+IsCallFault dialect deck f = (r : Remarks) × (remarks_of deck ≡ Ok r) × IsFirstBroken
+    (program_of dialect deck r []) rules_of_calls f
 
 -- the stages behind that of calls: what calls smash, the ranges of DOs and the clocks, and the flow
 abbrev pub later_stages : List (List Rule)

@@ -30,8 +30,10 @@ pub(crate) fn smashing(
     requires well { (dialect : Dialect) × IsWellFormed dialect deck.now }
     requires order { IsCallOrder deck.now.units ordered.order }
     requires callees { IsCalleesTable deck.now.units ordered.callees }
-    ensures facts { IfOk result (λ facts. (p : Program) → p.units ≡ deck.now.units → p.smashes ≡ facts.smashes → AreCallFacts p facts) }
-    ensures kept { IfOk result (λ facts. (p : Program) → p.units ≡ deck.now.units → p.smashes ≡ facts.smashes → KeepsAll p rules_of_smashing) }
+    ensures facts { IfOk result (λ facts. (p : Program) → p.units ≡ deck.now.units
+        → p.smashes ≡ facts.smashes → AreCallFacts p facts) }
+    ensures kept { IfOk result (λ facts. (p : Program) → p.units ≡ deck.now.units
+        → p.smashes ≡ facts.smashes → KeepsAll p rules_of_smashing) }
     ensures broken { (f : Fault) → result ≡ Err (Broken f) → IsSmashFault deck.now.units f }
 {
     let Ok(book) = DeckBook::new(alloc, keys, deck.units.as_slice()) else {

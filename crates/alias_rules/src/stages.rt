@@ -26,9 +26,12 @@ use std::alloc::Global;
 /// wanted and not had. No answer depends on the keys.
 pub fn calls(alloc: Global, keys: Keys, deck: &Deck) -> Result<CallFacts, Refusal>
     requires { (dialect : Dialect) × IsWellFormed dialect deck.now }
-    ensures facts { IfOk result (λ facts. (p : Program) → p.units ≡ deck.now.units → p.smashes ≡ facts.smashes → AreCallFacts p facts) }
-    ensures calls_kept { IfOk result (λ facts. (p : Program) → p.units ≡ deck.now.units → KeepsAll p rules_of_calls) }
-    ensures smashing_kept { IfOk result (λ facts. (p : Program) → p.units ≡ deck.now.units → p.smashes ≡ facts.smashes → KeepsAll p rules_of_smashing) }
+    ensures facts { IfOk result (λ facts. (p : Program) → p.units ≡ deck.now.units
+        → p.smashes ≡ facts.smashes → AreCallFacts p facts) }
+    ensures calls_kept { IfOk result (λ facts. (p : Program) → p.units ≡ deck.now.units
+        → KeepsAll p rules_of_calls) }
+    ensures smashing_kept { IfOk result (λ facts. (p : Program) → p.units ≡ deck.now.units
+        → p.smashes ≡ facts.smashes → KeepsAll p rules_of_smashing) }
     ensures broken { (f : Fault) → result ≡ Err (Broken f) → IsAliasFault deck.now.units f }
 {
     match call_stage(alloc, keys, deck) {

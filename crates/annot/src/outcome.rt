@@ -19,8 +19,11 @@ pub(crate) fn outcome(
     noted: Vec<Noted>,
     missing: Option<Fault>,
 ) -> Result<Specs, Refusal>
-    ensures tells { (pool : List Node) → Tells (remarks_tree pool (definitions_among noted.items)) result (remarks_if deck.now.units (judged_or_fault (Ok (judged_trees pool noted.items)) missing)) }
-    ensures inside { IfOk result (λ s. (pool : List Node) → AreNotedIn pool noted.items → AreIn pool s.units s.proofs) }
+    ensures tells { (pool : List Node) → Tells (remarks_tree pool (definitions_among noted.items))
+        result (remarks_if deck.now.units (judged_or_fault (Ok (judged_trees pool noted.items))
+        missing)) }
+    ensures inside { IfOk result (λ s. (pool : List Node) → AreNotedIn pool noted.items
+        → AreIn pool s.units s.proofs) }
 {
     if let Some(fault) = missing {
         return Err(Refusal::Broken(fault));

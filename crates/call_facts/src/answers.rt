@@ -20,7 +20,8 @@ use walk_terms::{cell_sort, defined};
 pub fn smash(walk: &mut Walk, number: u32, names: &[Name]) -> Result<(), NoMemory>
     requires { IsWalk walk.old }
     ensures on { Follows walk.old walk.new }
-    ensures smashed { OnOk result ((w : Sight Tree) → moment walk.new ≡ with_names (moment walk.old) (changed w names.now (called number) (moment walk.old).now)) }
+    ensures smashed { OnOk result ((w : Sight Tree) → moment walk.new ≡ with_names (moment walk.old)
+        (changed w names.now (called number) (moment walk.old).now)) }
 {
     for name in names {
         let symbol = walk.answer(number, name)?;
@@ -34,7 +35,9 @@ pub fn take_result(walk: &mut Walk, sort: Option<Sort>, value: TermId) -> Result
     requires well { IsWalk walk.old }
     requires value { IsIn walk.old.pool value }
     ensures on { Follows walk.old walk.new }
-    ensures did { OnOk result (Does (moment walk.old) (λ w. meet (takes (result_facts w sort (tree_of walk.old.pool value)))) (moment walk.new) tt) }
+    ensures did { OnOk result (Does (moment walk.old)
+        (λ w. meet (takes (result_facts w sort (tree_of walk.old.pool value))))
+        (moment walk.new) tt) }
 {
     let Some(sort) = sort else {
         return Ok(());

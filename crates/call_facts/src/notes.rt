@@ -30,7 +30,9 @@ pub fn check_input(
     requires ids { AllBelow (length walk.old.pool) ids.now }
     requires known { are_known_terms frame.now.table entry.now (trees_in walk.old.pool ids.now) ≡ true }
     ensures on { Follows walk.old walk.new }
-    ensures did { OnOk result (Did (moment walk.old) (meet (checks InputCheck card (map (stated walk.old.pool frame.now entry.now) (trees_in walk.old.pool ids.now)))) (moment walk.new) tt) }
+    ensures did { OnOk result (Did (moment walk.old)
+        (meet (checks InputCheck card (map (stated walk.old.pool frame.now entry.now)
+        (trees_in walk.old.pool ids.now)))) (moment walk.new) tt) }
 {
     for id in ids {
         let Ok(goal) = note_term(walk.alloc, &mut walk.pool, frame, entry, *id) else {
@@ -54,7 +56,9 @@ pub fn take_output(
     requires ids { AllBelow (length walk.old.pool) ids.now }
     requires known { are_known_terms frame.now.table entry.now (trees_in walk.old.pool ids.now) ≡ true }
     ensures on { Follows walk.old walk.new }
-    ensures did { OnOk result (Did (moment walk.old) (meet (takes (map (stated walk.old.pool frame.now entry.now) (trees_in walk.old.pool ids.now)))) (moment walk.new) tt) }
+    ensures did { OnOk result (Did (moment walk.old)
+        (meet (takes (map (stated walk.old.pool frame.now entry.now)
+        (trees_in walk.old.pool ids.now)))) (moment walk.new) tt) }
 {
     for id in ids {
         let Ok(fact) = note_term(walk.alloc, &mut walk.pool, frame, entry, *id) else {

@@ -20,7 +20,9 @@ pub fn take_sorts(walk: &mut Walk, caller: &Book, names: &[Name]) -> Result<(), 
     requires well { IsWalk walk.old }
     requires shapes { (x : Text) → IfSome (data_name caller.now.unit.now x) (λ d. IsGoodShape d.dims) }
     ensures on { Follows walk.old walk.new }
-    ensures did { OnOk result (Did (moment walk.old) (meet (takes (sorts of_terms caller.now.unit.now (moment walk.old).now names.now))) (moment walk.new) tt) }
+    ensures did { OnOk result (Did (moment walk.old)
+        (meet (takes (sorts of_terms caller.now.unit.now (moment walk.old).now names.now)))
+        (moment walk.new) tt) }
 {
     for name in names {
         let entity = caller.data(name);

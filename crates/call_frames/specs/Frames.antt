@@ -64,14 +64,16 @@ pub record IsPut (old_nodes : List Node) (old : Names) (new_nodes : List Node) (
   pub extends : Extends old.table new.table
 
 -- some names were put, each for its own term
-pub record IsFilled (old_nodes : List Node) (old : Names) (new_nodes : List Node) (new : Names) (xs : List Name) (own : Named Tree) : Type 0 where
+pub record IsFilled (old_nodes : List Node) (old : Names) (new_nodes : List Node) (new : Names) (xs : List Name)
+    (own : Named Tree) : Type 0 where
   pub kept : IsNames new_nodes new
   pub now : named new_nodes new ≡ filled xs own (named old_nodes old)
   pub known : (x : Name) → is_among x xs ≡ true → is_among x new.table ≡ true
   pub extends : Extends old.table new.table
 
 -- dummies were put for actuals
-pub record IsPlaced (old_nodes : List Node) (old : Names) (new_nodes : List Node) (new : Names) (ds : List Name) (ts : List Tree) : Type 0 where
+pub record IsPlaced (old_nodes : List Node) (old : Names) (new_nodes : List Node) (new : Names) (ds : List Name)
+    (ts : List Tree) : Type 0 where
   pub kept : IsNames new_nodes new
   pub now : named new_nodes new ≡ with_terms ds ts (named old_nodes old)
   pub extends : Extends old.table new.table
@@ -90,7 +92,8 @@ pub record Fills (old : List (List ℕ)) (nodes : List Node) (names : Names) (g 
   pub extends : Extends old names.table
 
 -- the terms at the entry tell these names too
-pub record HasEntry (nodes : List Node) (table : List (List ℕ)) (entry : List TermId) (g : Routine) (told : Named Tree) : Type 0 where
+pub record HasEntry (nodes : List Node) (table : List (List ℕ)) (entry : List TermId) (g : Routine)
+    (told : Named Tree) : Type 0 where
   pub below : AllBelow (length nodes) entry
   pub known : (x : Name) → is_shared g x ≡ true → has_entry table entry x ≡ true
   pub tells : (x : Name) → is_shared g x ≡ true → named_by nodes table entry x ≡ told x

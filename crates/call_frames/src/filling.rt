@@ -40,7 +40,9 @@ fn put_data(
     requires value { IsIn walk.old.pool value }
     ensures on { Follows walk.old walk.new }
     ensures same { moment walk.new ≡ moment walk.old }
-    ensures filled { OnOk result (IsFilled walk.old.pool frame.old walk.new.pool frame.new (shared_in entity.now) (own_of callee.now.unit.now (moment walk.old).now (tree_of walk.old.pool value))) }
+    ensures filled { OnOk result (IsFilled walk.old.pool frame.old walk.new.pool frame.new
+        (shared_in entity.now) (own_of callee.now.unit.now (moment walk.old).now
+        (tree_of walk.old.pool value))) }
 {
     if is_local(entity) {
         return Ok(());
@@ -63,7 +65,9 @@ fn put_names(
     requires value { IsIn walk.old.pool value }
     ensures on { Follows walk.old walk.new }
     ensures same { moment walk.new ≡ moment walk.old }
-    ensures filled { OnOk result (IsFilled walk.old.pool frame.old walk.new.pool frame.new (all_shared names.now) (own_of callee.now.unit.now (moment walk.old).now (tree_of walk.old.pool value))) }
+    ensures filled { OnOk result (IsFilled walk.old.pool frame.old walk.new.pool frame.new
+        (all_shared names.now) (own_of callee.now.unit.now (moment walk.old).now
+        (tree_of walk.old.pool value))) }
 {
     for entity in names {
         put_data(walk, frame, callee, value, entity)?;
@@ -83,7 +87,8 @@ fn put_actuals(
     requires actuals { AllBelow (length walk.old.pool) actuals.now }
     ensures on { Follows walk.old walk.new }
     ensures same { moment walk.new ≡ moment walk.old }
-    ensures placed { OnOk result (IsPlaced walk.old.pool frame.old walk.new.pool frame.new dummies.now (trees_in walk.old.pool actuals.now)) }
+    ensures placed { OnOk result (IsPlaced walk.old.pool frame.old walk.new.pool frame.new
+        dummies.now (trees_in walk.old.pool actuals.now)) }
 {
     let mut k = dummies.len().min(actuals.len());
     while k > 0 {
@@ -108,7 +113,9 @@ pub(crate) fn fill(
     requires value { IsIn walk.old.pool value }
     ensures on { Follows walk.old walk.new }
     ensures same { moment walk.new ≡ moment walk.old }
-    ensures fills { OnOk result (Fills frame.old.table walk.new.pool frame.new callee.now.unit.now (told_by callee.now.unit.now (trees_in walk.old.pool actuals.now) (moment walk.old).now (tree_of walk.old.pool value))) }
+    ensures fills { OnOk result (Fills frame.old.table walk.new.pool frame.new callee.now.unit.now
+        (told_by callee.now.unit.now (trees_in walk.old.pool actuals.now) (moment walk.old).now
+        (tree_of walk.old.pool value))) }
 {
     put_names(walk, frame, callee, value, callee.unit.names.as_slice())?;
     put_actuals(walk, frame, callee.unit.dummies.as_slice(), actuals)?;

@@ -47,7 +47,9 @@ pub fn enter(walk: &mut Walk, callee: &Book, actuals: &[TermId]) -> Result<Frame
     requires actuals { AllBelow (length walk.old.pool) actuals.now }
     ensures on { Follows walk.old walk.new }
     ensures same { moment walk.new ≡ moment walk.old }
-    ensures enters { IfOk result (λ frame. Enters walk.new.pool frame callee.now.unit.now (told_by callee.now.unit.now (trees_in walk.old.pool actuals.now) (moment walk.old).now (no_value of_terms))) }
+    ensures enters { IfOk result (λ frame. Enters walk.new.pool frame callee.now.unit.now
+        (told_by callee.now.unit.now (trees_in walk.old.pool actuals.now) (moment walk.old).now
+        (no_value of_terms))) }
 {
     let Ok(none) = undefined(&mut walk.pool) else {
         return Err(NoMemory);
@@ -75,8 +77,13 @@ pub fn leave(
     requires value { IsIn walk.old.pool value }
     ensures on { Follows walk.old walk.new }
     ensures same { moment walk.new ≡ moment walk.old }
-    ensures tells { OnOk result (IsFrame walk.new.pool frame.new.names callee.now.unit.now (told_by callee.now.unit.now (trees_in walk.old.pool actuals.now) (moment walk.old).now (tree_of walk.old.pool value))) }
-    ensures entry { OnOk result ((told : Named Tree) → HasEntry walk.old.pool frame.old.names.table frame.old.entry.items callee.now.unit.now told → HasEntry walk.new.pool frame.new.names.table frame.new.entry.items callee.now.unit.now told) }
+    ensures tells { OnOk result (IsFrame walk.new.pool frame.new.names callee.now.unit.now
+        (told_by callee.now.unit.now (trees_in walk.old.pool actuals.now) (moment walk.old).now
+        (tree_of walk.old.pool value))) }
+    ensures entry { OnOk result ((told : Named Tree) → HasEntry walk.old.pool frame.old.names.table
+        frame.old.entry.items callee.now.unit.now told
+        → HasEntry walk.new.pool frame.new.names.table frame.new.entry.items callee.now.unit.now
+        told) }
 {
     fill(walk, &mut frame.names, callee, actuals, value)?;
     Ok(())

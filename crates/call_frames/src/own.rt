@@ -37,7 +37,8 @@ pub(crate) fn own_term(
     ensures on { Follows walk.old walk.new }
     ensures same { moment walk.new ≡ moment walk.old }
     ensures is_in { IfOk result (λ id. IsIn walk.new.pool id) }
-    ensures tree { IfOk result (λ id. tree_of walk.new.pool id ≡ own_of callee.now.unit.now (moment walk.old).now (tree_of walk.old.pool value) name.now) }
+    ensures tree { IfOk result (λ id. tree_of walk.new.pool id ≡ own_of callee.now.unit.now
+        (moment walk.old).now (tree_of walk.old.pool value) name.now) }
 {
     if callee.unit.name == *name {
         return Ok(value);
@@ -63,7 +64,8 @@ pub(crate) fn put(
     requires id { IsIn walk.old.pool id }
     ensures on { Follows walk.old walk.new }
     ensures same { moment walk.new ≡ moment walk.old }
-    ensures put { OnOk result (IsPut walk.old.pool frame.old walk.new.pool frame.new name.now (tree_of walk.old.pool id)) }
+    ensures put { OnOk result (IsPut walk.old.pool frame.old walk.new.pool frame.new name.now
+        (tree_of walk.old.pool id)) }
 {
     let Ok(()) = frame.know(walk.alloc, &mut walk.pool, name) else {
         return Err(NoMemory);

@@ -31,14 +31,15 @@ is_hit smashed g x = has_common g x && smashed x
 
 abbrev pub item_hits : (Name → Bool) → Routine → List Item → List Name
 item_hits smashed g [] = []
-item_hits smashed g (item ∷ items) = cond (is_hit smashed g item.name) (item.name ∷ item_hits smashed g items) (item_hits smashed g items)
+item_hits smashed g (item ∷ items) = cond (is_hit smashed g item.name) (item.name ∷ item_hits smashed g items)
+    (item_hits smashed g items)
 
 abbrev pub group_hits : (Name → Bool) → Routine → List Group → List Name
 group_hits smashed g [] = []
 group_hits smashed g (group ∷ groups) = item_hits smashed g group.items ++ group_hits smashed g groups
 
--- names are those that a call of a unit smashes in another one, in every program where the called unit smashes these, and whatever
--- the actuals stand for
+-- names are those that a call of a unit smashes in another one, in every program where the called unit smashes
+-- these, and whatever the actuals stand for
 abbrev pub AreHits : (u g : Routine) (smashed : List Name) (bare : List (Option Name)) → List Name → Type 0
 AreHits u g smashed bare names =
     (w : Sight Tree) (i : ℕ) (xs : List (Operand Tree)) → w.unit ≡ u → smashed_names w.program i ≡ smashed → map bare_of xs ≡ bare

@@ -16,7 +16,8 @@ fn push_hit(
     dummy: &Name,
     bare: &Option<Name>,
 ) -> Result<(), NoMemory>
-    ensures { OnOk result (all.new.items ≡ all.old.items ++ hit (λ x. is_among x smashed.now) dummy.now bare.now) }
+    ensures { OnOk result (all.new.items ≡ all.old.items ++ hit (λ x. is_among x smashed.now)
+        dummy.now bare.now) }
 {
     match bare {
         Some(name) => {
@@ -39,7 +40,8 @@ fn push_actuals(
     dummies: &[Name],
     bare: &[Option<Name>],
 ) -> Result<(), NoMemory>
-    ensures { OnOk result (all.new.items ≡ all.old.items ++ actual_hits (λ x. is_among x smashed.now) dummies.now bare.now) }
+    ensures { OnOk result (all.new.items ≡ all.old.items ++ actual_hits
+        (λ x. is_among x smashed.now) dummies.now bare.now) }
 {
     let count = dummies.len().min(bare.len());
     for i in 0..count {
@@ -71,7 +73,8 @@ fn push_group(
     callee: &Book,
     group: &Group,
 ) -> Result<(), NoMemory>
-    ensures { OnOk result (all.new.items ≡ all.old.items ++ item_hits (λ x. is_among x smashed.now) callee.now.unit.now group.now.items) }
+    ensures { OnOk result (all.new.items ≡ all.old.items ++ item_hits (λ x. is_among x smashed.now)
+        callee.now.unit.now group.now.items) }
 {
     let items = group.items.as_slice();
     for item in items {
@@ -91,7 +94,8 @@ fn push_commons(
     callee: &Book,
     groups: &[Group],
 ) -> Result<(), NoMemory>
-    ensures { OnOk result (all.new.items ≡ all.old.items ++ group_hits (λ x. is_among x smashed.now) callee.now.unit.now groups.now) }
+    ensures { OnOk result (all.new.items ≡ all.old.items ++ group_hits (λ x. is_among x smashed.now)
+        callee.now.unit.now groups.now) }
 {
     for group in groups {
         let Ok(()) = push_group(all, smashed, callee, group) else {

@@ -26,7 +26,8 @@ after_call after (Part v) = v
 after_call after (Computed v) = v
 
 -- the names of a called unit stand for the actuals, and its INPUT was checked
-pub record Entered (w : Sight Tree) (card i : ℕ) (g : Routine) (xs : List (Operand Tree)) (old : Moment) (pool : List Node) (new : Moment) (frame : Frame) : Type 0 where
+pub record Entered (w : Sight Tree) (card i : ℕ) (g : Routine) (xs : List (Operand Tree)) (old : Moment)
+    (pool : List Node) (new : Moment) (frame : Frame) : Type 0 where
   pub frame_is : Enters pool frame g (before_call w g xs old.now)
   pub did : Did old (meet (checks InputCheck card (notes_told w (before_call w g xs old.now) (before_call w g xs old.now) (notes_of w.program i).input))) new tt
 
@@ -38,4 +39,5 @@ TakesFacts w g smashed answer old new =
 -- so are the terms of OUTPUT, by what the unit's names stood for at its entry, and do now
 abbrev pub TakesOutput : Sight Tree → ℕ → Routine → List (Operand Tree) → Named Tree → Tree → Moment → Moment → Type 0
 TakesOutput w i g xs before value old new =
-    Did old (meet (takes (notes_told w before (seen_by w g (map (after_call old.now) xs) old.now value) (notes_of w.program i).output))) new tt
+    Did old (meet (takes (notes_told w before (seen_by w g (map (after_call old.now) xs) old.now value)
+        (notes_of w.program i).output))) new tt

@@ -22,7 +22,10 @@ use walk_state::Walk;
 
 /// The names of the caller that the call smashes.
 fn names_hit(walk: &Walk, called: &Called, operands: &[Operand]) -> Result<List<Name>, NoMemory>
-    ensures { IfOk result (λ names. (p : Program) → IsScene walk.now.pool called.now.setting.now.scene.now p → names ≡ hits (seen_from called.now.setting.now p) called.now.number called.now.callee.now.unit.now (operand_trees walk.now.pool operands.now)) }
+    ensures { IfOk result (λ names. (p : Program)
+        → IsScene walk.now.pool called.now.setting.now.scene.now p
+        → names ≡ hits (seen_from called.now.setting.now p) called.now.number
+        called.now.callee.now.unit.now (operand_trees walk.now.pool operands.now)) }
 {
     let Ok(bare) = bare_names(walk.alloc, operands) else {
         return Err(NoMemory);
@@ -46,8 +49,13 @@ pub fn smash_names(
 ) -> Result<List<Name>, NoMemory>
     requires well { IsWalk walk.old }
     ensures on { Follows walk.old walk.new }
-    ensures names { IfOk result (λ names. (p : Program) → IsScene walk.old.pool called.now.setting.now.scene.now p → names ≡ hits (seen_from called.now.setting.now p) called.now.number called.now.callee.now.unit.now (operand_trees walk.old.pool operands.now)) }
-    ensures smashed { IfOk result (λ names. (p : Program) → moment walk.new ≡ with_names (moment walk.old) (changed (seen_from called.now.setting.now p) names (answered call) (moment walk.old).now)) }
+    ensures names { IfOk result (λ names. (p : Program)
+        → IsScene walk.old.pool called.now.setting.now.scene.now p
+        → names ≡ hits (seen_from called.now.setting.now p) called.now.number
+        called.now.callee.now.unit.now (operand_trees walk.old.pool operands.now)) }
+    ensures smashed { IfOk result (λ names. (p : Program) → moment walk.new ≡ with_names
+        (moment walk.old) (changed (seen_from called.now.setting.now p) names (answered call)
+        (moment walk.old).now)) }
 {
     let names = names_hit(walk, called, operands)?;
     smash(walk, call, names.as_slice())?;
@@ -65,8 +73,11 @@ pub fn take_facts(
     requires ready { (p : Program) × IsReady walk.old.pool called.now.setting.now.scene.now p }
     ensures on { Follows walk.old walk.new }
     ensures is_in { IfOk result (λ id. IsIn walk.new.pool id) }
-    ensures tree { IfOk result (λ id. tree_of walk.new.pool id ≡ answered call called.now.callee.now.unit.now.name) }
-    ensures facts { OnOk result ((p : Program) → TakesFacts (seen_from called.now.setting.now p) called.now.callee.now.unit.now names.now (answered call) (moment walk.old) (moment walk.new)) }
+    ensures tree { IfOk result (λ id. tree_of walk.new.pool id
+        ≡ answered call called.now.callee.now.unit.now.name) }
+    ensures facts { OnOk result ((p : Program) → TakesFacts (seen_from called.now.setting.now p)
+        called.now.callee.now.unit.now names.now (answered call) (moment walk.old)
+        (moment walk.new)) }
 {
     let value = walk.answer(call, &called.callee.unit.name)?;
     take_sorts(walk, called.setting.book, names)?;

@@ -21,7 +21,11 @@ pub fn enter_unit(walk: &mut Walk, called: &Called, operands: &[Operand]) -> Res
     requires ready { (p : Program) × IsReady walk.old.pool called.now.setting.now.scene.now p }
     requires operands { AreOperandsIn (length walk.old.pool) operands.now }
     ensures on { Follows walk.old walk.new }
-    ensures entered { IfOk result (λ frame. (p : Program) → IsReady walk.old.pool called.now.setting.now.scene.now p → Entered (seen_from called.now.setting.now p) called.now.card called.now.number called.now.callee.now.unit.now (operand_trees walk.old.pool operands.now) (moment walk.old) walk.new.pool (moment walk.new) frame) }
+    ensures entered { IfOk result (λ frame. (p : Program)
+        → IsReady walk.old.pool called.now.setting.now.scene.now p
+        → Entered (seen_from called.now.setting.now p) called.now.card called.now.number
+        called.now.callee.now.unit.now (operand_trees walk.old.pool operands.now)
+        (moment walk.old) walk.new.pool (moment walk.new) frame) }
 {
     let Ok(terms) = terms_of(walk.alloc, operands) else {
         return Err(NoMemory);

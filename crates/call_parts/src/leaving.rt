@@ -28,7 +28,8 @@ fn term_after(walk: &mut Walk, operand: &Operand) -> Result<TermId, NoMemory>
     ensures on { Follows walk.old walk.new }
     ensures same { moment walk.new ≡ moment walk.old }
     ensures is_in { IfOk result (λ id. IsIn walk.new.pool id) }
-    ensures tree { IfOk result (λ id. tree_of walk.new.pool id ≡ after_call (moment walk.old).now (operand_tree walk.old.pool operand.now)) }
+    ensures tree { IfOk result (λ id. tree_of walk.new.pool id ≡ after_call (moment walk.old).now
+        (operand_tree walk.old.pool operand.now)) }
 {
     match operand {
         Operand::Bare(name, _) => walk.term(name),
@@ -44,7 +45,8 @@ fn terms_after(walk: &mut Walk, operands: &[Operand]) -> Result<Vec<TermId>, NoM
     ensures on { Follows walk.old walk.new }
     ensures same { moment walk.new ≡ moment walk.old }
     ensures below { IfOk result (λ terms. AllBelow (length walk.new.pool) terms.items) }
-    ensures trees { IfOk result (λ terms. map (tree_of walk.new.pool) terms.items ≡ map (after_call (moment walk.old).now) (operand_trees walk.old.pool operands.now)) }
+    ensures trees { IfOk result (λ terms. map (tree_of walk.new.pool) terms.items
+        ≡ map (after_call (moment walk.old).now) (operand_trees walk.old.pool operands.now)) }
 {
     let mut all = Vec::new(walk.alloc);
     for operand in operands {
@@ -70,9 +72,15 @@ pub fn leave_unit(
     requires operands { AreOperandsIn (length walk.old.pool) operands.now }
     requires value { IsIn walk.old.pool value }
     requires names { IsNames walk.old.pool frame.old.names }
-    requires entry { (told : Named Tree) × HasEntry walk.old.pool frame.old.names.table frame.old.entry.items called.now.callee.now.unit.now told }
+    requires entry { (told : Named Tree) × HasEntry walk.old.pool frame.old.names.table
+        frame.old.entry.items called.now.callee.now.unit.now told }
     ensures on { Follows walk.old walk.new }
-    ensures output { OnOk result ((p : Program) (told : Named Tree) → IsReady walk.old.pool called.now.setting.now.scene.now p → HasEntry walk.old.pool frame.old.names.table frame.old.entry.items called.now.callee.now.unit.now told → TakesOutput (seen_from called.now.setting.now p) called.now.number called.now.callee.now.unit.now (operand_trees walk.old.pool operands.now) told (tree_of walk.old.pool value) (moment walk.old) (moment walk.new)) }
+    ensures output { OnOk result ((p : Program) (told : Named Tree)
+        → IsReady walk.old.pool called.now.setting.now.scene.now p
+        → HasEntry walk.old.pool frame.old.names.table frame.old.entry.items
+        called.now.callee.now.unit.now told → TakesOutput (seen_from called.now.setting.now p)
+        called.now.number called.now.callee.now.unit.now (operand_trees walk.old.pool operands.now)
+        told (tree_of walk.old.pool value) (moment walk.old) (moment walk.new)) }
 {
     let terms = terms_after(walk, operands)?;
     leave(walk, frame, called.callee, terms.as_slice(), value)?;

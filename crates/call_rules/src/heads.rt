@@ -52,7 +52,8 @@ pub(crate) fn head_rule(
     number: usize,
     name: &Name,
 ) -> Option<Rule>
-    ensures { result ≡ first_of_two UnitTwice Recursion (is_taken earlier.now blocks.now name.now) (is_number recursive.now number) }
+    ensures { result ≡ first_of_two UnitTwice Recursion (is_taken earlier.now blocks.now name.now)
+        (is_number recursive.now number) }
 {
     if is_taken(earlier, blocks, name) {
         Some(Rule::UnitTwice)

@@ -19,7 +19,8 @@ fn unit_fault(
     number: usize,
     book: &Book,
 ) -> Result<Option<Fault>, NoMemory>
-    ensures { IfOk result (λ fault. fault ≡ unit_scan deck.now.units.now taken.now.earlier taken.now.blocks taken.now.recursive number book.now.unit.now) }
+    ensures { IfOk result (λ fault. fault ≡ unit_scan deck.now.units.now taken.now.earlier
+        taken.now.blocks taken.now.recursive number book.now.unit.now) }
 {
     let unit = book.unit;
     if let Some(rule) = head_rule(
@@ -47,7 +48,8 @@ struct Taken {
 }
 
 fn scanned(alloc: Global, deck: &DeckBook, taken: &mut Taken) -> Result<Option<Fault>, NoMemory>
-    ensures { IfOk result (λ fault. fault ≡ scan deck.now.units.now taken.old.blocks taken.old.recursive taken.old.earlier 0 deck.now.units.now) }
+    ensures { IfOk result (λ fault. fault ≡ scan deck.now.units.now taken.old.blocks
+        taken.old.recursive taken.old.earlier 0 deck.now.units.now) }
 {
     for i in 0..deck.units.len() {
         let book = deck.book(i);

@@ -63,7 +63,8 @@ pub fn call_stage(alloc: Global, keys: Keys, deck: &Deck) -> Result<Ordered, Ref
     ensures order { IfOk result (λ found. IsCallOrder deck.now.units found.order) }
     ensures callees { IfOk result (λ found. IsCalleesTable deck.now.units found.callees) }
     ensures kept { IfOk result (λ _. (p : Program) → p.units ≡ deck.now.units → KeepsAll p rules_of_calls) }
-    ensures broken { (f : Fault) → result ≡ Err (Broken f) → (p : Program) → p.units ≡ deck.now.units → IsFirstBroken p rules_of_calls f }
+    ensures broken { (f : Fault) → result ≡ Err (Broken f) → (p : Program)
+        → p.units ≡ deck.now.units → IsFirstBroken p rules_of_calls f }
 {
     units_stage(alloc, keys, deck.units.as_slice())
 }

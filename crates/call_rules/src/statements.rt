@@ -14,7 +14,8 @@ use std::alloc::Global;
 
 /// Whether the actuals of a call do not match; a call of no unit has none that could.
 fn does_mismatch(deck: &DeckBook, caller: &Book, site: &Site) -> bool
-    ensures { result ≡ of_unit (program_of deck.now.units.now) (callee_of deck.now.units.now site.now) (mismatches caller.now.unit.now site.now) }
+    ensures { result ≡ of_unit (program_of deck.now.units.now)
+        (callee_of deck.now.units.now site.now) (mismatches caller.now.unit.now site.now) }
 {
     match deck.callee(site) {
         Some(number) => mismatches(deck.book(number), caller, site),
@@ -55,7 +56,8 @@ fn does_lack(
     site: &Site,
 ) -> Result<bool, NoMemory>
     requires { AreCleared deck.now.units.now caller.now.unit.now cleared.old }
-    ensures lacks { IfOk result (λ lacks. lacks ≡ of_unit (program_of deck.now.units.now) (callee_of deck.now.units.now site.now) (lacks_block caller.now.unit.now)) }
+    ensures lacks { IfOk result (λ lacks. lacks ≡ of_unit (program_of deck.now.units.now)
+        (callee_of deck.now.units.now site.now) (lacks_block caller.now.unit.now)) }
     ensures cleared { OnOk result (AreCleared deck.now.units.now caller.now.unit.now cleared.new) }
 {
     match deck.callee(site) {
@@ -104,7 +106,8 @@ fn some_lack(
     sites: &[Site],
 ) -> Result<bool, NoMemory>
     requires { AreCleared deck.now.units.now caller.now.unit.now cleared.old }
-    ensures lacks { IfOk result (λ lacks. lacks ≡ some_lack deck.now.units.now caller.now.unit.now sites.now) }
+    ensures lacks { IfOk result (λ lacks. lacks ≡ some_lack deck.now.units.now caller.now.unit.now
+        sites.now) }
     ensures cleared { OnOk result (AreCleared deck.now.units.now caller.now.unit.now cleared.new) }
 {
     for site in sites {
@@ -173,7 +176,8 @@ pub(crate) fn lines_fault(
     caller: &Book,
     lines: &[Line],
 ) -> Result<Option<Fault>, NoMemory>
-    ensures { IfOk result (λ fault. fault ≡ first_at_lines (stmt_rule deck.now.units.now caller.now.unit.now) lines.now) }
+    ensures { IfOk result (λ fault. fault ≡ first_at_lines
+        (stmt_rule deck.now.units.now caller.now.unit.now) lines.now) }
 {
     let mut cleared = UnitSet::new(alloc, keys);
     for line in lines {

@@ -95,7 +95,8 @@ fn fits_data(
     dummy: &DataName,
     actual: &Expr,
 ) -> bool
-    ensures { result ≡ fits_dummy callee.now.unit.now actuals.now caller.now.unit.now (Some dummy.now) actual.now }
+    ensures { result ≡ fits_dummy callee.now.unit.now actuals.now caller.now.unit.now
+        (Some dummy.now) actual.now }
 {
     same_sort_as(dummy.sort, caller.sort_of(actual))
         && dims_agree(
@@ -107,7 +108,8 @@ fn fits_data(
 }
 
 fn fits_dummy(callee: &Book, actuals: &[Expr], caller: &Book, dummy: &Name, actual: &Expr) -> bool
-    ensures { result ≡ fits_dummy callee.now.unit.now actuals.now caller.now.unit.now (data_name callee.now.unit.now dummy.now) actual.now }
+    ensures { result ≡ fits_dummy callee.now.unit.now actuals.now caller.now.unit.now
+        (data_name callee.now.unit.now dummy.now) actual.now }
 {
     match callee.data(dummy) {
         Some(data) => fits_data(callee, actuals, caller, data, actual),

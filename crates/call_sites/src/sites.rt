@@ -16,7 +16,8 @@ fn push<'a>(
     callee: Name,
     actuals: &'a [Expr],
 ) -> Result<(), NoMemory>
-    ensures { OnOk result (all.new.items ≡ all.old.items ++ record { reference = reference; callee = callee; actuals = actuals.now } ∷ []) }
+    ensures { OnOk result (all.new.items ≡ all.old.items ++ record { reference = reference;
+        callee = callee; actuals = actuals.now } ∷ []) }
 {
     match all.push(Site::new(reference, callee, actuals)) {
         Ok(()) => Ok(()),
@@ -31,7 +32,8 @@ fn push_own<'a>(
     name: &Name,
     actuals: &'a [Expr],
 ) -> Result<(), NoMemory>
-    ensures { OnOk result (all.new.items ≡ all.old.items ++ own_site (applied book.now.unit.now name.now) name.now actuals.now) }
+    ensures { OnOk result (all.new.items ≡ all.old.items ++ own_site
+        (applied book.now.unit.now name.now) name.now actuals.now) }
 {
     if book.is_call(name) {
         push(all, true, *name, actuals)

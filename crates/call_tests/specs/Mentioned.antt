@@ -6,7 +6,8 @@ use Rattle.fort_syntax.specs.declared.expr.Expr.{Expr, Row_of-Expr, end_of-Expr,
 use Rattle.fort_syntax.specs.declared.expr.Expr.TheVariants.{Const, Truth, Var, Apply', Paren', Pos', Neg', Power', Bin', Rel', Not', And', Or'}
 use Rattle.fort_syntax.specs.declared.name.Name.{Name}
 
--- each as often as it stands there; the name of an array or a function before its brackets is one, and so are those in the brackets
+-- each as often as it stands there; the name of an array or a function before its brackets is one, and so are
+-- those in the brackets
 abbrev mutual
   pub names_in : Expr → List Name
   names_in (Const n) = []

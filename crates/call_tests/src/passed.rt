@@ -42,7 +42,8 @@ fn gets_bare(smashed: &NameSet, set: &NameSet, dummy: &Name, actual: &Expr) -> b
 /// Whether a call passes something else than a bare name to a smashed dummy. The dummies and their actuals stand in the same
 /// order; what has no partner does not count.
 pub fn passes_no_name(smashed: &NameSet, dummies: &[Name], actuals: &[Expr]) -> bool
-    ensures { result ≡ some_smashed (λ d. is_among d smashed.now) (λ n e. not (is_bare_name e)) 0 dummies.now actuals.now }
+    ensures { result ≡ some_smashed (λ d. is_among d smashed.now) (λ n e. not (is_bare_name e))
+        0 dummies.now actuals.now }
 {
     let mut at = 0;
     while at < dummies.len() && at < actuals.len() {
@@ -61,7 +62,8 @@ pub(crate) fn passes_bare(
     dummies: &[Name],
     actuals: &[Expr],
 ) -> bool
-    ensures { result ≡ some_smashed (λ d. is_among d smashed.now) (λ n e. bare_in set.now e) 0 dummies.now actuals.now }
+    ensures { result ≡ some_smashed (λ d. is_among d smashed.now) (λ n e. bare_in set.now e)
+        0 dummies.now actuals.now }
 {
     let mut at = 0;
     while at < dummies.len() && at < actuals.len() {

@@ -52,7 +52,8 @@ pub fn passes_twice(
     dummies: &[Name],
     actuals: &[Expr],
 ) -> Result<bool, NoMemory>
-    ensures { IfOk result (λ twice. twice ≡ some_smashed (λ d. is_among d smashed.now) (bare_elsewhere actuals.now) 0 dummies.now actuals.now) }
+    ensures { IfOk result (λ twice. twice ≡ some_smashed (λ d. is_among d smashed.now)
+        (bare_elsewhere actuals.now) 0 dummies.now actuals.now) }
 {
     let again = named_twice(alloc, keys, actuals)?;
     Ok(passes_bare(smashed, &again, dummies, actuals))

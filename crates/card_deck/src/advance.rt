@@ -17,7 +17,9 @@ use std::alloc::Global;
 /// What is held behind a comment card: a note is done.
 fn comment(held: Held, done: &mut Vec<Entry>) -> Result<Held, NoMemory>
     requires fits { count_of held ≤ 19 }
-    ensures entries { IfOk result (λ h. (card : Card) (rest : List Card) → kind_of card ≡ CommentCard → done.new.items ++ finished h rest ≡ done.old.items ++ finished held (card ∷ rest)) }
+    ensures entries { IfOk result (λ h. (card : Card) (rest : List Card)
+        → kind_of card ≡ CommentCard → done.new.items ++ finished h rest
+        ≡ done.old.items ++ finished held (card ∷ rest)) }
     ensures before { IfOk result (λ h. before_of h ≡ commented (before_of held)) }
     ensures fits { IfOk result (λ h. count_of h ≤ 19) }
 {
@@ -41,7 +43,9 @@ fn go_on(
     requires long { length card.now ≡ 72 }
     requires fits { count_of held ≤ 19 }
     requires clean { broken_by (before_of held) card.now ≡ None }
-    ensures entries { IfOk result (λ h. (rest : List Card) → done.new.items ++ finished h rest ≡ done.old.items ++ finished held (card.now ∷ rest) ++ begun_by (kind_of card.now) number card.now rest) }
+    ensures entries { IfOk result (λ h. (rest : List Card) → done.new.items ++ finished h rest
+        ≡ done.old.items ++ finished held (card.now ∷ rest) ++ begun_by (kind_of card.now)
+        number card.now rest) }
     ensures before { IfOk result (λ h. before_of h ≡ behind (kind_of card.now) (before_of held)) }
     ensures fits { IfOk result (λ h. count_of h ≤ 19) }
 {
@@ -71,11 +75,17 @@ pub(crate) fn take(
     bytes: &[u8],
 ) -> Result<Held, Refusal>
     requires fits { count_of held ≤ 19 }
-    ensures clean { let card = columns (without_return bytes.now) in IfOk result (λ h. broken_by (before_of held) card ≡ None) }
-    ensures entries { let card = columns (without_return bytes.now) in IfOk result (λ h. (rest : List Card) → done.new.items ++ finished h rest ≡ done.old.items ++ finished held (card ∷ rest) ++ begun_by (kind_of card) number card rest) }
-    ensures before { let card = columns (without_return bytes.now) in IfOk result (λ h. before_of h ≡ behind (kind_of card) (before_of held)) }
+    ensures clean { let card = columns (without_return bytes.now) in IfOk result
+        (λ h. broken_by (before_of held) card ≡ None) }
+    ensures entries { let card = columns (without_return bytes.now) in IfOk result
+        (λ h. (rest : List Card) → done.new.items ++ finished h rest ≡ done.old.items ++
+        finished held (card ∷ rest) ++ begun_by (kind_of card) number card rest) }
+    ensures before { let card = columns (without_return bytes.now) in IfOk result
+        (λ h. before_of h ≡ behind (kind_of card) (before_of held)) }
     ensures fits { IfOk result (λ h. count_of h ≤ 19) }
-    ensures broken { let card = columns (without_return bytes.now) in (f : Fault) → result ≡ Err (Refusal.Broken f) → (broken_by (before_of held) card ≡ Some f.rule) × (f.card ≡ number) }
+    ensures broken { let card = columns (without_return bytes.now) in (f : Fault)
+        → result ≡ Err (Refusal.Broken f) → (broken_by (before_of held) card ≡ Some f.rule)
+        × (f.card ≡ number) }
 {
     let bytes = without_return(bytes);
     if begins_blank(bytes) {

@@ -28,7 +28,8 @@ fn label_on(card: &[u8]) -> u32
 pub(crate) fn statement(alloc: Global, number: u32, card: &[u8]) -> Result<Held, NoMemory>
     requires long { length card.now ≡ 72 }
     requires good { is_label (label_field card.now) ≡ true }
-    ensures entries { IfOk result (λ h. (rest : List Card) → finished h rest ≡ begun_by InitialCard number card.now rest) }
+    ensures entries { IfOk result (λ h. (rest : List Card) → finished h rest
+        ≡ begun_by InitialCard number card.now rest) }
     ensures before { IfOk result (λ h. before_of h ≡ rules.statement 0) }
     ensures fits { IfOk result (λ h. count_of h ≡ 0) }
 {
@@ -49,7 +50,8 @@ pub(crate) fn statement(alloc: Global, number: u32, card: &[u8]) -> Result<Held,
 pub(crate) fn note(alloc: Global, number: u32, card: &[u8]) -> Result<Held, NoMemory>
     requires long { length card.now ≡ 72 }
     requires first { is_plus card.now ≡ false }
-    ensures entries { IfOk result (λ h. (rest : List Card) → finished h rest ≡ begun_by NoteCard number card.now rest) }
+    ensures entries { IfOk result (λ h. (rest : List Card) → finished h rest
+        ≡ begun_by NoteCard number card.now rest) }
     ensures before { IfOk result (λ h. before_of h ≡ note) }
     ensures fits { IfOk result (λ h. count_of h ≡ 0) }
 {
@@ -68,7 +70,8 @@ pub(crate) fn longer_statement(held: Held, card: &[u8]) -> Result<Held, NoMemory
     requires goes_on { rules.no_statement (before_of held) ≡ false }
     requires fits { count_of held < 19 }
     requires kind { kind_of card.now ≡ ContinuationCard }
-    ensures entries { IfOk result (λ h. (rest : List Card) → finished h rest ≡ finished held (card.now ∷ rest)) }
+    ensures entries { IfOk result (λ h. (rest : List Card) → finished h rest ≡ finished held
+        (card.now ∷ rest)) }
     ensures before { IfOk result (λ h. before_of h ≡ behind ContinuationCard (before_of held)) }
     ensures fits { IfOk result (λ h. count_of h ≤ 19) }
 {
@@ -87,7 +90,8 @@ pub(crate) fn longer_note(held: Held, card: &[u8]) -> Result<Held, NoMemory>
     requires goes_on { rules.no_note (before_of held) ≡ false }
     requires more { is_plus card.now ≡ true }
     requires kind { kind_of card.now ≡ NoteCard }
-    ensures entries { IfOk result (λ h. (rest : List Card) → finished h rest ≡ finished held (card.now ∷ rest)) }
+    ensures entries { IfOk result (λ h. (rest : List Card) → finished h rest ≡ finished held
+        (card.now ∷ rest)) }
     ensures before { IfOk result (λ h. before_of h ≡ note) }
     ensures fits { IfOk result (λ h. count_of h ≡ 0) }
 {

@@ -23,11 +23,16 @@ pub(crate) struct Reading {
 fn read(alloc: Global, reading: &mut Reading, bytes: &[u8]) -> Result<(), Refusal>
     requires fits { count_of reading.old.held ≤ 19 }
     requires room { reading.old.number + 1 < 2 ^ 32 }
-    ensures entries { let card = columns (without_return bytes.now) in OnOk result ((rest : List Card) → entries_with reading.new rest ≡ entries_with reading.old (card ∷ rest)) }
-    ensures faults { let card = columns (without_return bytes.now) in OnOk result ((rest : List Card) → fault_with reading.new rest ≡ fault_with reading.old (card ∷ rest)) }
+    ensures entries { let card = columns (without_return bytes.now) in OnOk result
+        ((rest : List Card) → entries_with reading.new rest ≡ entries_with reading.old
+        (card ∷ rest)) }
+    ensures faults { let card = columns (without_return bytes.now) in OnOk result
+        ((rest : List Card) → fault_with reading.new rest ≡ fault_with reading.old (card ∷ rest)) }
     ensures fits { OnOk result (count_of reading.new.held ≤ 19) }
     ensures number { OnOk result (reading.new.number ≡ reading.old.number + 1) }
-    ensures broken { let card = columns (without_return bytes.now) in (f : Fault) → result ≡ Err (Refusal.Broken f) → (rest : List Card) → fault_with reading.old (card ∷ rest) ≡ Some f }
+    ensures broken { let card = columns (without_return bytes.now) in (f : Fault)
+        → result ≡ Err (Refusal.Broken f) → (rest : List Card) → fault_with reading.old
+        (card ∷ rest) ≡ Some f }
 {
     let held = replace(&mut reading.held, Held::Nothing);
     match take(alloc, reading.number, held, &mut reading.done, bytes) {
@@ -49,11 +54,16 @@ pub(crate) fn read_byte(
 ) -> Result<(), Refusal>
     requires fits { count_of reading.old.held ≤ 19 }
     requires room { reading.old.number + 1 < 2 ^ 32 }
-    ensures entries { OnOk result ((rest : List ℕ) → entries_with reading.new (cards_from rest card.new.items) ≡ entries_with reading.old (cards_from (byte ∷ rest) card.old.items)) }
-    ensures faults { OnOk result ((rest : List ℕ) → fault_with reading.new (cards_from rest card.new.items) ≡ fault_with reading.old (cards_from (byte ∷ rest) card.old.items)) }
+    ensures entries { OnOk result ((rest : List ℕ) → entries_with reading.new
+        (cards_from rest card.new.items) ≡ entries_with reading.old
+        (cards_from (byte ∷ rest) card.old.items)) }
+    ensures faults { OnOk result ((rest : List ℕ) → fault_with reading.new
+        (cards_from rest card.new.items) ≡ fault_with reading.old
+        (cards_from (byte ∷ rest) card.old.items)) }
     ensures fits { OnOk result (count_of reading.new.held ≤ 19) }
     ensures number { OnOk result (reading.new.number ≤ reading.old.number + 1) }
-    ensures broken { (f : Fault) → result ≡ Err (Refusal.Broken f) → (rest : List ℕ) → fault_with reading.old (cards_from (byte ∷ rest) card.old.items) ≡ Some f }
+    ensures broken { (f : Fault) → result ≡ Err (Refusal.Broken f) → (rest : List ℕ)
+        → fault_with reading.old (cards_from (byte ∷ rest) card.old.items) ≡ Some f }
 {
     if byte == b'\n' {
         let answer = read(alloc, reading, card);
@@ -71,9 +81,11 @@ pub(crate) fn read_byte(
 pub(crate) fn read_last(alloc: Global, reading: &mut Reading, card: &[u8]) -> Result<(), Refusal>
     requires fits { count_of reading.old.held ≤ 19 }
     requires room { reading.old.number + 1 < 2 ^ 32 }
-    ensures entries { OnOk result (entries_with reading.new [] ≡ entries_with reading.old (last_card card.now)) }
+    ensures entries { OnOk result (entries_with reading.new [] ≡ entries_with reading.old
+        (last_card card.now)) }
     ensures faults { OnOk result (fault_with reading.new [] ≡ fault_with reading.old (last_card card.now)) }
-    ensures broken { (f : Fault) → result ≡ Err (Refusal.Broken f) → fault_with reading.old (last_card card.now) ≡ Some f }
+    ensures broken { (f : Fault) → result ≡ Err (Refusal.Broken f) → fault_with reading.old
+        (last_card card.now) ≡ Some f }
 {
     if card.is_empty() {
         return Ok(());

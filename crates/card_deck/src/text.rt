@@ -19,7 +19,8 @@ pub(crate) fn put(text: &mut Vec<u8>, bytes: &[u8]) -> Result<(), NoMemory>
 
 /// Puts bytes but for blanks behind a text, in upper case.
 pub(crate) fn put_dense(text: &mut Vec<u8>, bytes: &[u8]) -> Result<(), NoMemory>
-    ensures { OnOk result (text.new.items ≡ text.old.items ++ map to_ascii_uppercase (without_blanks bytes.now)) }
+    ensures { OnOk result (text.new.items ≡ text.old.items ++ map to_ascii_uppercase
+        (without_blanks bytes.now)) }
 {
     for byte in bytes {
         if *byte != b' ' && text.push(byte.to_ascii_uppercase()).is_err() {

@@ -63,7 +63,9 @@ pieces_of (Note card text ∷ entries) lines = remarked card text ∷ pieces_of 
 
 -- of all entries some are left, and the others were read as these statements and notes, which end at a spot:
 -- whatever the rest is read as continues them
-pub record HasRead (dialect : Dialect) (all left : List Entry) (lines : List Line) (notes : List Placed) (spot : Spot) : Type 0 where
-  pub pieces : (more : List Line) → AreReadAs dialect left (pieces_of left more) → AreReadAs dialect all (pieces_of all (lines ++ more))
+pub record HasRead (dialect : Dialect) (all left : List Entry) (lines : List Line) (notes : List Placed)
+    (spot : Spot) : Type 0 where
+  pub pieces : (more : List Line) → AreReadAs dialect left (pieces_of left more)
+      → AreReadAs dialect all (pieces_of all (lines ++ more))
   pub placed : (more : List Line) → notes ++ notes_at spot (pieces_of left more) ≡ notes_at top (pieces_of all (lines ++ more))
   pub faults : (fault : Fault) → IsFirstMisspelled dialect left fault → IsFirstMisspelled dialect all fault

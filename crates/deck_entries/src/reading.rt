@@ -32,7 +32,9 @@ pub struct Reading {
 /// The statement that a text spells, or its fault.
 fn spelled(alloc: Global, dialect: Dialect, card: u32, text: &[u8]) -> Result<Stmt, Refusal>
     ensures spelled { IfOk result (λ s. Spells dialect text.now s) }
-    ensures broken { (f : Fault) → result ≡ Err (Broken f) → ((s : Stmt) → ¬ Spells dialect text.now s) × (f ≡ record { rule = refusal_of dialect text.now; card = card }) }
+    ensures broken { (f : Fault) → result ≡ Err (Broken f)
+        → ((s : Stmt) → ¬ Spells dialect text.now s)
+        × (f ≡ record { rule = refusal_of dialect text.now; card = card }) }
 {
     match statement(alloc, dialect, text) {
         Ok(stmt) => Ok(stmt),
@@ -89,7 +91,8 @@ impl Reading {
 
     fn add_note(&mut self, alloc: Global, card: u32, text: &List<u8>) -> Result<(), NoMemory>
         ensures lines { OnOk result (self.new.lines.items ≡ self.old.lines.items) }
-        ensures notes { OnOk result (self.new.notes.items ≡ self.old.notes.items ++ placed_at self.old.spot card text.now ∷ []) }
+        ensures notes { OnOk result (self.new.notes.items ≡ self.old.notes.items ++ placed_at
+            self.old.spot card text.now ∷ []) }
         ensures spot { OnOk result (self.new.spot ≡ self.old.spot) }
     {
         let Ok(bytes) = Vec::from_slice(alloc, text.as_slice()) else {
@@ -112,8 +115,12 @@ impl Reading {
     ) -> Result<(), Refusal>
         requires { IsBefore card self.old.spot }
         ensures within { OnOk result (IsWithin card self.new.spot) }
-        ensures read { OnOk result ((all left : List Entry) → HasRead dialect all (entry.Statement card label text.now ∷ left) self.old.lines.items self.old.notes.items self.old.spot → HasRead dialect all left self.new.lines.items self.new.notes.items self.new.spot) }
-        ensures broken { (f : Fault) → result ≡ Err (Broken f) → IsMisspelled dialect (entry.Statement card label text.now) f }
+        ensures read { OnOk result ((all left : List Entry) → HasRead dialect all
+            (entry.Statement card label text.now ∷ left) self.old.lines.items self.old.notes.items
+            self.old.spot → HasRead dialect all left self.new.lines.items self.new.notes.items
+            self.new.spot) }
+        ensures broken { (f : Fault) → result ≡ Err (Broken f) → IsMisspelled dialect
+            (entry.Statement card label text.now) f }
     {
         let stmt = match spelled(alloc, dialect, card, text) {
             Ok(stmt) => stmt,
@@ -128,7 +135,10 @@ impl Reading {
     fn read_note(&mut self, alloc: Global, card: u32, text: &List<u8>) -> Result<(), NoMemory>
         requires { IsBefore card self.old.spot }
         ensures within { OnOk result (IsWithin card self.new.spot) }
-        ensures read { OnOk result ((d : Dialect) (all left : List Entry) → HasRead d all (entry.Note card text.now ∷ left) self.old.lines.items self.old.notes.items self.old.spot → HasRead d all left self.new.lines.items self.new.notes.items self.new.spot) }
+        ensures read { OnOk result ((d : Dialect) (all left : List Entry)
+            → HasRead d all (entry.Note card text.now ∷ left) self.old.lines.items
+            self.old.notes.items self.old.spot → HasRead d all left self.new.lines.items
+            self.new.notes.items self.new.spot) }
     {
         let Ok(()) = self.add_note(alloc, card, text) else {
             return Err(NoMemory);
@@ -139,7 +149,9 @@ impl Reading {
     fn read(&mut self, alloc: Global, dialect: Dialect, entry: &Entry) -> Result<(), Refusal>
         requires { IsBefore (card_of_entry entry.now) self.old.spot }
         ensures within { OnOk result (IsWithin (card_of_entry entry.now) self.new.spot) }
-        ensures read { OnOk result ((all left : List Entry) → HasRead dialect all (entry.now ∷ left) self.old.lines.items self.old.notes.items self.old.spot → HasRead dialect all left self.new.lines.items self.new.notes.items self.new.spot) }
+        ensures read { OnOk result ((all left : List Entry) → HasRead dialect all
+            (entry.now ∷ left) self.old.lines.items self.old.notes.items self.old.spot
+            → HasRead dialect all left self.new.lines.items self.new.notes.items self.new.spot) }
         ensures broken { (f : Fault) → result ≡ Err (Broken f) → IsMisspelled dialect entry.now f }
     {
         match entry {

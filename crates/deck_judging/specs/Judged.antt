@@ -18,9 +18,10 @@ abbrev pub count_of_paths : List (List Path) → ℕ
 count_of_paths [] = 0
 count_of_paths (paths ∷ rest) = length paths + count_of_paths rest
 
--- Bytes are accepted in a dialect; the definitions are those of their notes, and the conditions those of their program along all
--- its paths, all with terms of the pool, to which the definitions were added one after another. The counts are those of its units and
--- of these paths, and the assignments to conditions are those that the notes tell.
+-- Bytes are accepted in a dialect; the definitions are those of their notes, and the conditions those of their
+-- program along all its paths, all with terms of the pool, to which the definitions were added one after
+-- another. The counts are those of its units and of these paths, and the assignments to conditions are those
+-- that the notes tell.
 pub record IsJudgedIn (d : Dialect) (bytes : List ℕ) (j : Judged) : Type 0 where
   pub deck : Deck
   pub r : Remarks

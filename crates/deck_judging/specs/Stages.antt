@@ -93,8 +93,8 @@ pub record AreAllConditions (p : Program) (pool : List Node) (cs : List Conditio
 
 -- ---- a deck
 
--- a deck is accepted, and this is found of it: its definitions and its conditions, as terms of a pool, its counts of units and of paths,
--- and the assignments to conditions that its notes tell
+-- a deck is accepted, and this is found of it: its definitions and its conditions, as terms of a pool, its
+-- counts of units and of paths, and the assignments to conditions that its notes tell
 pub record AreConditionsOfDeck (dialect : Dialect) (deck : Deck) (j : Judged) : Type 0 where
   pub r : Remarks
   pub p : Program

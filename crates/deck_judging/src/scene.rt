@@ -42,8 +42,10 @@ fn conditions_of_graphs(
     requires graphs { (p : Program) → IsReady pool scene.now p → AreGraphsOf p graphs.now }
     ensures grows { IfOk result (λ c. Grows pool c.pool) }
     ensures inside { IfOk result (λ c. All (IsConditionIn c.pool) c.conditions) }
-    ensures conditions { IfOk result (λ c. (p : Program) → IsReady pool scene.now p → AreAllConditions p c.pool c.conditions c.paths) }
-    ensures broken { (f : Fault) → result ≡ Err (Broken f) → (p : Program) → IsReady pool scene.now p → IsSizeFault p f }
+    ensures conditions { IfOk result (λ c. (p : Program) → IsReady pool scene.now p
+        → AreAllConditions p c.pool c.conditions c.paths) }
+    ensures broken { (f : Fault) → result ≡ Err (Broken f) → (p : Program)
+        → IsReady pool scene.now p → IsSizeFault p f }
 {
     match measure(alloc, keys, &pool, scene, graphs) {
         Err(refusal) => Err(refusal),
@@ -70,8 +72,10 @@ fn conditions_of_ready(
     ensures grows { IfOk result (λ c. Grows pool c.pool) }
     ensures inside { IfOk result (λ c. All (IsConditionIn c.pool) c.conditions) }
     ensures kept { IfOk result (λ c. (p : Program) → IsReady pool scene.now p → KeepsFlow p) }
-    ensures conditions { IfOk result (λ c. (p : Program) → IsReady pool scene.now p → AreAllConditions p c.pool c.conditions c.paths) }
-    ensures broken { (f : Fault) → result ≡ Err (Broken f) → (p : Program) → IsReady pool scene.now p → IsFlowFault p f }
+    ensures conditions { IfOk result (λ c. (p : Program) → IsReady pool scene.now p
+        → AreAllConditions p c.pool c.conditions c.paths) }
+    ensures broken { (f : Fault) → result ≡ Err (Broken f) → (p : Program)
+        → IsReady pool scene.now p → IsFlowFault p f }
 {
     match graphs(alloc, keys, scene) {
         Ok(graphs) => conditions_of_graphs(alloc, keys, pool, scene, graphs.as_slice()),
@@ -91,8 +95,10 @@ pub(crate) fn conditions_of_scene(
     ensures grows { IfOk result (λ c. Grows pool c.pool) }
     ensures inside { IfOk result (λ c. All (IsConditionIn c.pool) c.conditions) }
     ensures kept { IfOk result (λ c. (p : Program) → IsAliased pool scene.now p → KeepsScene p) }
-    ensures conditions { IfOk result (λ c. (p : Program) → IsAliased pool scene.now p → AreAllConditions p c.pool c.conditions c.paths) }
-    ensures broken { (f : Fault) → result ≡ Err (Broken f) → (p : Program) → IsAliased pool scene.now p → IsSceneFault p f }
+    ensures conditions { IfOk result (λ c. (p : Program) → IsAliased pool scene.now p
+        → AreAllConditions p c.pool c.conditions c.paths) }
+    ensures broken { (f : Fault) → result ≡ Err (Broken f) → (p : Program)
+        → IsAliased pool scene.now p → IsSceneFault p f }
 {
     match check_units(alloc, scene) {
         Ok(()) => conditions_of_ready(alloc, keys, pool, scene),

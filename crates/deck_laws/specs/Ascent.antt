@@ -25,4 +25,5 @@ do_ascend pieces = pieces_ascend_above 0 pieces
 -- the cards of entries ascend from above one
 abbrev pub entries_ascend_above : ℕ → List Entry → Bool
 entries_ascend_above card [] = true
-entries_ascend_above card (entry ∷ entries) = nat_lt card (card_of_entry entry) && entries_ascend_above (card_of_entry entry) entries
+entries_ascend_above card (entry ∷ entries) = nat_lt card (card_of_entry entry) && entries_ascend_above
+    (card_of_entry entry) entries

@@ -20,8 +20,9 @@ DecksWithoutFaultAreWellFormed =
     (d : Dialect) (pieces : List Piece) → AreSpelled d (statements pieces) → do_ascend pieces ≡ true
     → unit_fault d pieces ≡ None → IsWellFormed d (deck_of pieces)
 
--- on ascending cards the fault that is told of units is the first of the rules on units that the statements break, and without one
--- they break none
+-- on ascending cards the fault that is told of units is the first of the rules on units that the statements
+-- break, and without one they break none
 abbrev pub FirstUnitFaultIsLeast : Type 0
 FirstUnitFaultIsLeast =
-    (d : Dialect) (pieces : List Piece) → do_ascend pieces ≡ true → TellsFirst (IsUnitRuleBroken d (statements pieces)) (unit_fault d pieces)
+    (d : Dialect) (pieces : List Piece) → do_ascend pieces ≡ true
+        → TellsFirst (IsUnitRuleBroken d (statements pieces)) (unit_fault d pieces)

@@ -19,7 +19,8 @@ use stmt_names::{dummies_by, groups_by};
 use unit_scope::{Kept, Scoped, are_members, has_adjustable, members_of, scope_of};
 
 fn differs(earlier: &Table<List<Kept>>, scope: &Scoped, names: &[Name], block: &BlockName) -> bool
-    ensures { result ≡ differs (first_of earlier.now (name_of_block block.now)) (map (member_of (scope_by scope.now)) names.now) }
+    ensures { result ≡ differs (first_of earlier.now (name_of_block block.now))
+        (map (member_of (scope_by scope.now)) names.now) }
 {
     match earlier.get_block(block) {
         None => false,
@@ -28,7 +29,8 @@ fn differs(earlier: &Table<List<Kept>>, scope: &Scoped, names: &[Name], block: &
 }
 
 fn is_bad(earlier: &Table<List<Kept>>, scope: &Scoped, names: &[Name], block: &BlockName) -> bool
-    ensures { result ≡ is_bad_with earlier.now (map (member_of (scope_by scope.now)) names.now) (name_of_block block.now) }
+    ensures { result ≡ is_bad_with earlier.now (map (member_of (scope_by scope.now)) names.now)
+        (name_of_block block.now) }
 {
     differs(earlier, scope, names, block) || has_adjustable(scope, names)
 }
@@ -54,7 +56,9 @@ fn mark(
     block: &BlockName,
 ) -> Result<(), NoMemory>
     ensures seen { OnOk result (seen.new ≡ with_name seen.old (name_of_block block.now)) }
-    ensures bad { OnOk result (bad.new ≡ cond (not (is_among (name_of_block block.now) seen.old) && is_bad_by earlier.now (scope_by scope.now) table.now (name_of_block block.now)) (with_name bad.old (name_of_block block.now)) bad.old) }
+    ensures bad { OnOk result (bad.new ≡ cond (not (is_among (name_of_block block.now) seen.old)
+        && is_bad_by earlier.now (scope_by scope.now) table.now (name_of_block block.now))
+        (with_name bad.old (name_of_block block.now)) bad.old) }
 {
     let Ok(new) = seen.add(block) else {
         return Err(NoMemory);
@@ -75,8 +79,10 @@ fn mark_groups(
     bad: &mut BlockSet,
     groups: &[Group],
 ) -> Result<(), NoMemory>
-    ensures seen { OnOk result (seen.new ≡ with_names seen.old (map (λ g. name_of_block g.block) groups.now)) }
-    ensures bad { OnOk result (bad.new ≡ bad_in (is_bad_by earlier.now (scope_by scope.now) table.now) seen.old bad.old (map (λ g. name_of_block g.block) groups.now)) }
+    ensures seen { OnOk result (seen.new ≡ with_names seen.old
+        (map (λ g. name_of_block g.block) groups.now)) }
+    ensures bad { OnOk result (bad.new ≡ bad_in (is_bad_by earlier.now (scope_by scope.now)
+        table.now) seen.old bad.old (map (λ g. name_of_block g.block) groups.now)) }
 {
     for group in groups {
         let Ok(()) = mark(earlier, scope, table, seen, bad, &group.block) else {
@@ -95,7 +101,8 @@ fn mark_stmt(
     line: &Line,
 ) -> Result<(), NoMemory>
     ensures seen { OnOk result (seen.new ≡ with_names seen.old (blocks_by line.now.stmt)) }
-    ensures bad { OnOk result (bad.new ≡ bad_in (is_bad_by earlier.now (scope_by scope.now) table.now) seen.old bad.old (blocks_by line.now.stmt)) }
+    ensures bad { OnOk result (bad.new ≡ bad_in (is_bad_by earlier.now (scope_by scope.now)
+        table.now) seen.old bad.old (blocks_by line.now.stmt)) }
 {
     mark_groups(earlier, scope, table, seen, bad, groups_by(&line.stmt))
 }
@@ -108,7 +115,8 @@ fn bad_blocks(
     table: &CommonTable,
     unit: &[Line],
 ) -> Result<BlockSet, NoMemory>
-    ensures { IfOk result (λ bad. bad ≡ bad_from (is_bad_by earlier.now (scope_by scope.now) table.now) [] [] unit.now) }
+    ensures { IfOk result (λ bad. bad ≡ bad_from (is_bad_by earlier.now (scope_by scope.now)
+        table.now) [] [] unit.now) }
 {
     let mut seen = BlockSet::new(alloc, keys);
     let mut bad = BlockSet::new(alloc, keys);
@@ -140,7 +148,8 @@ pub(crate) fn known_of(
     earlier: &Table<List<Kept>>,
     unit: &[Line],
 ) -> Result<Known, NoMemory>
-    ensures facts { IfOk result (λ known. facts_by known (own_name unit.now) ≡ facts_with earlier.now unit.now) }
+    ensures facts { IfOk result (λ known. facts_by known (own_name unit.now)
+        ≡ facts_with earlier.now unit.now) }
     ensures members { IfOk result (λ known. members_by known ≡ members unit.now) }
 {
     let Ok(scope) = scope_of(alloc, keys, unit) else {
@@ -170,7 +179,8 @@ fn remember(
     known: &Known,
     block: &BlockName,
 ) -> Result<(), NoMemory>
-    ensures { OnOk result (earlier.new ≡ told earlier.old (name_of_block block.now) (members_by known.now (name_of_block block.now))) }
+    ensures { OnOk result (earlier.new ≡ told earlier.old (name_of_block block.now)
+        (members_by known.now (name_of_block block.now))) }
 {
     if earlier.get_block(block).is_some() {
         return Ok(());
@@ -187,7 +197,8 @@ fn remember_groups(
     known: &Known,
     groups: &[Group],
 ) -> Result<(), NoMemory>
-    ensures { OnOk result (earlier.new ≡ remembered (members_by known.now) earlier.old (map (λ g. name_of_block g.block) groups.now)) }
+    ensures { OnOk result (earlier.new ≡ remembered (members_by known.now) earlier.old
+        (map (λ g. name_of_block g.block) groups.now)) }
 {
     for group in groups {
         let Ok(()) = remember(alloc, earlier, known, &group.block) else {
@@ -203,7 +214,8 @@ fn remember_stmt(
     known: &Known,
     line: &Line,
 ) -> Result<(), NoMemory>
-    ensures { OnOk result (earlier.new ≡ remembered (members_by known.now) earlier.old (blocks_by line.now.stmt)) }
+    ensures { OnOk result (earlier.new ≡ remembered (members_by known.now) earlier.old
+        (blocks_by line.now.stmt)) }
 {
     remember_groups(alloc, earlier, known, groups_by(&line.stmt))
 }

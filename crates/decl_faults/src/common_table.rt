@@ -61,7 +61,8 @@ impl CommonTable {
     /// Takes the names out of a block, which stays.
     fn emptied(&mut self, alloc: Global, block: &BlockName) -> Result<List<Name>, NoMemory>
         ensures names { IfOk result (λ names. names ≡ listed self.old (name_of_block block.now)) }
-        ensures after { OnOk result (self.new ≡ insert_entry same_bytes self.old (name_of_block block.now) []) }
+        ensures after { OnOk result (self.new ≡ insert_entry same_bytes self.old
+            (name_of_block block.now) []) }
     {
         match self
             .map
@@ -84,7 +85,8 @@ impl CommonTable {
 
     /// Adds the names of items to a block.
     fn append(&mut self, alloc: Global, block: &BlockName, items: &[Item]) -> Result<(), NoMemory>
-        ensures { OnOk result (self.new ≡ appended self.old (name_of_block block.now) (names_of_items items.now)) }
+        ensures { OnOk result (self.new ≡ appended self.old (name_of_block block.now)
+            (names_of_items items.now)) }
     {
         let Ok(names) = self.emptied(alloc, block) else {
             return Err(NoMemory);

@@ -25,7 +25,8 @@ fn judged(
     earlier: &mut Table<List<Kept>>,
     unit: &[Line],
 ) -> Result<Option<Fault>, NoMemory>
-    ensures fault { IfOk result (λ fault. fault ≡ name_scan dialect (facts_with earlier.old unit.now) nothing_done [] unit.now) }
+    ensures fault { IfOk result (λ fault. fault ≡ name_scan dialect
+        (facts_with earlier.old unit.now) nothing_done [] unit.now) }
     ensures earlier { OnOk result (earlier.new ≡ remembered_from (members unit.now) earlier.old unit.now) }
 {
     let Ok(known) = known_of(alloc, keys, earlier, unit) else {

@@ -53,7 +53,8 @@ fn meets(set: &NameSet, names: &[Name]) -> bool
 
 #[tactic(auto, using(crate::proofs::Among::among_four))]
 fn mentions_itself(own: &[u8], stmt: &Stmt, given: &Given) -> bool
-    ensures { result ≡ is_among own.now (dummies_by stmt.now ++ given.now.typed ++ given.now.dimensioned ++ given.now.commons) }
+    ensures { result ≡ is_among own.now (dummies_by stmt.now ++ given.now.typed ++
+        given.now.dimensioned ++ given.now.commons) }
 {
     names_itself(own, dummies_by(stmt))
         || names_itself(own, given.typed.as_slice())
@@ -69,7 +70,8 @@ fn names_twice(
     stmt: &Stmt,
     given: &Given,
 ) -> Result<bool, NoMemory>
-    ensures twice { IfOk result (λ twice. twice ≡ names_twice (facts_by known.now own.now) done.old stmt.now given.now) }
+    ensures twice { IfOk result (λ twice. twice ≡ names_twice (facts_by known.now own.now)
+        done.old stmt.now given.now) }
     ensures after { OnOk result (done.new ≡ done_with done.old stmt.now given.now) }
 {
     let Ok(twice) = done.does_twice(stmt, given) else {
@@ -103,7 +105,8 @@ fn has_bad_shape(dialect: Dialect, items: &[Item]) -> bool
 }
 
 fn has_new_bad(bad: &BlockSet, blocks: &BlockSet, groups: &[Group]) -> bool
-    ensures { result ≡ has_new_bad (λ b. is_among b bad.now) blocks.now (map (λ g. name_of_block g.block) groups.now) }
+    ensures { result ≡ has_new_bad (λ b. is_among b bad.now) blocks.now
+        (map (λ g. name_of_block g.block) groups.now) }
 {
     for group in groups {
         if !blocks.has(&group.block) && bad.has(&group.block) {
@@ -125,7 +128,8 @@ fn add_blocks(blocks: &mut BlockSet, groups: &[Group]) -> Result<(), NoMemory>
 }
 
 fn has_bad_name(dummies: &NameSet, scope: &Scoped, is_dummy: bool, dims: &[Dim]) -> bool
-    ensures { result ≡ list_any (λ x. not is_dummy || not (is_among x dummies.now && is_integer_scalar (scope_by scope.now) x)) (names_in_dims dims.now) }
+    ensures { result ≡ list_any (λ x. not is_dummy || not (is_among x dummies.now
+        && is_integer_scalar (scope_by scope.now) x)) (names_in_dims dims.now) }
 {
     for dim in dims {
         if let Dim::Named(name) = dim {
@@ -195,7 +199,8 @@ fn stmt_is_twice(
     items: &[Item],
 ) -> Result<bool, NoMemory>
     requires { items.now ≡ items_by stmt.now }
-    ensures twice { IfOk result (λ twice. twice ≡ names_twice (facts_by known.now own.now) done.old stmt.now (given_of stmt.now)) }
+    ensures twice { IfOk result (λ twice. twice ≡ names_twice (facts_by known.now own.now)
+        done.old stmt.now (given_of stmt.now)) }
     ensures after { OnOk result (done.new ≡ done_with done.old stmt.now (given_of stmt.now)) }
 {
     let Ok(given) = given_by(alloc, stmt, items) else {
@@ -227,7 +232,8 @@ fn rule_with(
     items: &[Item],
 ) -> Result<Option<Rule>, NoMemory>
     requires { items.now ≡ items_by stmt.now }
-    ensures rule { IfOk result (λ rule. rule ≡ name_rule dialect (facts_by known.now own.now) done.old blocks.now stmt.now) }
+    ensures rule { IfOk result (λ rule. rule ≡ name_rule dialect (facts_by known.now own.now)
+        done.old blocks.now stmt.now) }
     ensures done { OnOk result (done.new ≡ done_with done.old stmt.now (given_of stmt.now)) }
 {
     let Ok(twice) = stmt_is_twice(alloc, known, own, done, stmt, items) else {
@@ -252,7 +258,8 @@ fn name_rule(
     blocks: &mut BlockSet,
     stmt: &Stmt,
 ) -> Result<Option<Rule>, NoMemory>
-    ensures rule { IfOk result (λ rule. rule ≡ name_rule dialect (facts_by known.now own.now) done.old blocks.old stmt.now) }
+    ensures rule { IfOk result (λ rule. rule ≡ name_rule dialect (facts_by known.now own.now)
+        done.old blocks.old stmt.now) }
     ensures done { OnOk result (done.new ≡ done_with done.old stmt.now (given_of stmt.now)) }
     ensures blocks { OnOk result (blocks.new ≡ with_names blocks.old (blocks_by stmt.now)) }
 {
@@ -286,7 +293,8 @@ pub(crate) fn scan_names(
     unit: &[Line],
     own: &[u8],
 ) -> Result<Option<Fault>, NoMemory>
-    ensures { IfOk result (λ fault. fault ≡ name_scan dialect (facts_by known.now own.now) nothing_done [] unit.now) }
+    ensures { IfOk result (λ fault. fault ≡ name_scan dialect (facts_by known.now own.now)
+        nothing_done [] unit.now) }
 {
     let mut done = Done::new(alloc, keys);
     let mut blocks = BlockSet::new(alloc, keys);

@@ -34,7 +34,8 @@ impl Ranges {
     fn enters_point(&self, from: usize, to: usize) -> bool
         requires ranges { AreRanges self.now }
         requires to { to < length self.now.ends.items }
-        ensures { result ≡ (nat_lt from (get_or self.now.covers.firsts.items to 0) || nat_lt (get_or self.now.covers.lasts.items to 0) from) }
+        ensures { result ≡ (nat_lt from (get_or self.now.covers.firsts.items to 0)
+            || nat_lt (get_or self.now.covers.lasts.items to 0) from) }
     {
         from < self.covers.firsts[to] || self.covers.lasts[to] < from
     }

@@ -75,7 +75,9 @@ fn hits_actual(kept: &Kept, smashed: bool, actual: &Expr) -> bool
 
 /// Whether a smashed dummy gets a kept name.
 fn hits_actuals(kept: &Kept, called: &Called, dummies: &[Name], actuals: &[Expr]) -> bool
-    ensures { result ≡ list_any (is_kept kept.now.guards.now kept.now.at) (bare_names (λ d. is_among d (row_of called.now.rows.now called.now.number)) dummies.now actuals.now) }
+    ensures { result ≡ list_any (is_kept kept.now.guards.now kept.now.at)
+        (bare_names (λ d. is_among d (row_of called.now.rows.now called.now.number)) dummies.now
+        actuals.now) }
 {
     let mut at = 0;
     while at < dummies.len() && at < actuals.len() {
@@ -89,14 +91,16 @@ fn hits_actuals(kept: &Kept, called: &Called, dummies: &[Name], actuals: &[Expr]
 
 /// Whether a name is kept and a COMMON entity of both units of a call.
 fn hits_name(kept: &Kept, caller: &Book, callee: &Book, name: &Name) -> bool
-    ensures { result ≡ (is_kept kept.now.guards.now kept.now.at name.now && (has_common callee.now.unit.now name.now && has_common caller.now.unit.now name.now)) }
+    ensures { result ≡ (is_kept kept.now.guards.now kept.now.at name.now
+        && (has_common callee.now.unit.now name.now && has_common caller.now.unit.now name.now)) }
 {
     kept.has(name) && (has_common(callee, name) && has_common(caller, name))
 }
 
 /// Whether one of the names that a called unit smashes is so.
 fn hits_names(kept: &Kept, caller: &Book, callee: &Book, names: &[Name]) -> bool
-    ensures { result ≡ list_any (is_kept kept.now.guards.now kept.now.at) (shared_row caller.now.unit.now callee.now.unit.now names.now) }
+    ensures { result ≡ list_any (is_kept kept.now.guards.now kept.now.at)
+        (shared_row caller.now.unit.now callee.now.unit.now names.now) }
 {
     for name in names {
         if hits_name(kept, caller, callee, name) {
@@ -108,7 +112,9 @@ fn hits_names(kept: &Kept, caller: &Book, callee: &Book, names: &[Name]) -> bool
 
 /// Whether a called unit smashes a kept name that is a COMMON entity of both units.
 fn hits_shared(kept: &Kept, caller: &Book, called: &Called) -> bool
-    ensures { result ≡ list_any (is_kept kept.now.guards.now kept.now.at) (shared_row caller.now.unit.now called.now.book.now.unit.now (row_of called.now.rows.now called.now.number)) }
+    ensures { result ≡ list_any (is_kept kept.now.guards.now kept.now.at)
+        (shared_row caller.now.unit.now called.now.book.now.unit.now
+        (row_of called.now.rows.now called.now.number)) }
 {
     match called.rows.get(called.number) {
         Some(row) => hits_names(kept, caller, called.book, row.names()),
@@ -125,9 +131,12 @@ fn hits_commons(
     called: &Called,
 ) -> Result<bool, NoMemory>
     requires called { IsCalled caller.now called.now }
-    requires clear { AreClear (program_of caller.now) (unit_of caller.now) kept.now.guards.now kept.now.at clear.old }
-    ensures hit { IfOk result (λ hit. hit ≡ list_any (is_kept kept.now.guards.now kept.now.at) (shared_by (program_of caller.now) (unit_of caller.now) called.now.number)) }
-    ensures clear { OnOk result (AreClear (program_of caller.now) (unit_of caller.now) kept.now.guards.now kept.now.at clear.new) }
+    requires clear { AreClear (program_of caller.now) (unit_of caller.now) kept.now.guards.now
+        kept.now.at clear.old }
+    ensures hit { IfOk result (λ hit. hit ≡ list_any (is_kept kept.now.guards.now kept.now.at)
+        (shared_by (program_of caller.now) (unit_of caller.now) called.now.number)) }
+    ensures clear { OnOk result (AreClear (program_of caller.now) (unit_of caller.now)
+        kept.now.guards.now kept.now.at clear.new) }
 {
     if clear.has(called.number) {
         return Ok(false);
@@ -150,9 +159,13 @@ fn hits_call(
     actuals: &[Expr],
 ) -> Result<bool, NoMemory>
     requires called { IsCalled caller.now called.now }
-    requires clear { AreClear (program_of caller.now) (unit_of caller.now) kept.now.guards.now kept.now.at clear.old }
-    ensures hit { IfOk result (λ hit. hit ≡ list_any (is_kept kept.now.guards.now kept.now.at) (names_of_callee (program_of caller.now) (unit_of caller.now) actuals.now (Some called.now.number))) }
-    ensures clear { OnOk result (AreClear (program_of caller.now) (unit_of caller.now) kept.now.guards.now kept.now.at clear.new) }
+    requires clear { AreClear (program_of caller.now) (unit_of caller.now) kept.now.guards.now
+        kept.now.at clear.old }
+    ensures hit { IfOk result (λ hit. hit ≡ list_any (is_kept kept.now.guards.now kept.now.at)
+        (names_of_callee (program_of caller.now) (unit_of caller.now) actuals.now
+        (Some called.now.number))) }
+    ensures clear { OnOk result (AreClear (program_of caller.now) (unit_of caller.now)
+        kept.now.guards.now kept.now.at clear.new) }
 {
     let dummies = called.book.unit.dummies.as_slice();
     if hits_actuals(kept, called, dummies, actuals) {
@@ -171,9 +184,12 @@ fn hits_site(
     clear: &mut UnitSet,
     site: &Site,
 ) -> Result<bool, NoMemory>
-    requires { AreClear (program_of caller.now) (unit_of caller.now) kept.now.guards.now kept.now.at clear.old }
-    ensures hit { IfOk result (λ hit. hit ≡ list_any (is_kept kept.now.guards.now kept.now.at) (site_names (program_of caller.now) (unit_of caller.now) site.now)) }
-    ensures clear { OnOk result (AreClear (program_of caller.now) (unit_of caller.now) kept.now.guards.now kept.now.at clear.new) }
+    requires { AreClear (program_of caller.now) (unit_of caller.now) kept.now.guards.now
+        kept.now.at clear.old }
+    ensures hit { IfOk result (λ hit. hit ≡ list_any (is_kept kept.now.guards.now kept.now.at)
+        (site_names (program_of caller.now) (unit_of caller.now) site.now)) }
+    ensures clear { OnOk result (AreClear (program_of caller.now) (unit_of caller.now)
+        kept.now.guards.now kept.now.at clear.new) }
 {
     match caller.deck.callee(site) {
         Some(number) => {
@@ -198,9 +214,12 @@ pub(crate) fn hits_sites(
     clear: &mut UnitSet,
     sites: &[Site],
 ) -> Result<bool, NoMemory>
-    requires { AreClear (program_of caller.now) (unit_of caller.now) kept.now.guards.now kept.now.at clear.old }
-    ensures hit { IfOk result (λ hit. hit ≡ list_any (is_kept kept.now.guards.now kept.now.at) (flat_map (site_names (program_of caller.now) (unit_of caller.now)) sites.now)) }
-    ensures clear { OnOk result (AreClear (program_of caller.now) (unit_of caller.now) kept.now.guards.now kept.now.at clear.new) }
+    requires { AreClear (program_of caller.now) (unit_of caller.now) kept.now.guards.now
+        kept.now.at clear.old }
+    ensures hit { IfOk result (λ hit. hit ≡ list_any (is_kept kept.now.guards.now kept.now.at)
+        (flat_map (site_names (program_of caller.now) (unit_of caller.now)) sites.now)) }
+    ensures clear { OnOk result (AreClear (program_of caller.now) (unit_of caller.now)
+        kept.now.guards.now kept.now.at clear.new) }
 {
     for site in sites {
         let Ok(hit) = hits_site(kept, caller, clear, site) else {

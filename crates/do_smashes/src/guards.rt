@@ -53,7 +53,8 @@ impl Guards {
 
     /// Keeps a name up to a point, in the stead of the one that it had.
     fn put(&mut self, name: Name, end: usize) -> Result<(), NoMemory>
-        ensures { OnOk result ((x : List ℕ) → kept_to self.new x ≡ cond (same_bytes name x) end (kept_to self.old x)) }
+        ensures { OnOk result ((x : List ℕ) → kept_to self.new x ≡ cond (same_bytes name x) end
+            (kept_to self.old x)) }
     {
         match self.map.insert(name, end) {
             Ok(_) => Ok(()),

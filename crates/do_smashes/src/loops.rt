@@ -67,7 +67,8 @@ struct Named<'a> {
 
 /// Keeps the parameters of a DO.
 fn keep_params(guards: &mut Guards, named: &Named, end: usize) -> Result<(), NoMemory>
-    ensures { OnOk result (Keeps guards.old guards.new (param_names named.now.first.now ++ param_names named.now.last.now ++ step_names named.now.step.now) end) }
+    ensures { OnOk result (Keeps guards.old guards.new (param_names named.now.first.now
+        ++ param_names named.now.last.now ++ step_names named.now.step.now) end) }
 {
     let Ok(()) = guards.keep_param(named.first, end) else {
         return Err(NoMemory);
@@ -80,7 +81,9 @@ fn keep_params(guards: &mut Guards, named: &Named, end: usize) -> Result<(), NoM
 
 /// Keeps the names of a DO.
 fn keep_names(guards: &mut Guards, named: &Named, end: usize) -> Result<(), NoMemory>
-    ensures { OnOk result (Keeps guards.old guards.new (named.now.variable.now ∷ param_names named.now.first.now ++ param_names named.now.last.now ++ step_names named.now.step.now) end) }
+    ensures { OnOk result (Keeps guards.old guards.new (named.now.variable.now ∷ param_names
+        named.now.first.now ++ param_names named.now.last.now ++ step_names named.now.step.now)
+        end) }
 {
     let Ok(()) = guards.keep(*named.variable, end) else {
         return Err(NoMemory);
@@ -97,7 +100,8 @@ pub(crate) fn keep_do(
     stmt: &Stmt,
 ) -> Result<(), NoMemory>
     requires { AreLabelsOf unit.now.lines labels.now }
-    ensures { OnOk result ((x : List ℕ) → kept_to guards.new x ≡ kept_by (do_of unit.now at stmt.now) x (kept_to guards.old x)) }
+    ensures { OnOk result ((x : List ℕ) → kept_to guards.new x ≡ kept_by
+        (do_of unit.now at stmt.now) x (kept_to guards.old x)) }
 {
     let Stmt::Do(label, variable, first, last, step) = stmt else {
         return Ok(());

@@ -49,9 +49,12 @@ fn hits_stmt(
     clear: &mut UnitSet,
     stmt: &Stmt,
 ) -> Result<bool, NoMemory>
-    requires { AreClear (program_of caller.now) (unit_of caller.now) kept.now.guards.now kept.now.at clear.old }
-    ensures hit { IfOk result (λ hit. hit ≡ list_any (is_kept kept.now.guards.now kept.now.at) (stmt_names (program_of caller.now) (unit_of caller.now) stmt.now)) }
-    ensures clear { OnOk result (AreClear (program_of caller.now) (unit_of caller.now) kept.now.guards.now kept.now.at clear.new) }
+    requires { AreClear (program_of caller.now) (unit_of caller.now) kept.now.guards.now
+        kept.now.at clear.old }
+    ensures hit { IfOk result (λ hit. hit ≡ list_any (is_kept kept.now.guards.now kept.now.at)
+        (stmt_names (program_of caller.now) (unit_of caller.now) stmt.now)) }
+    ensures clear { OnOk result (AreClear (program_of caller.now) (unit_of caller.now)
+        kept.now.guards.now kept.now.at clear.new) }
 {
     if sets_kept(kept, stmt) {
         return Ok(true);
@@ -76,9 +79,12 @@ pub(crate) fn breaks_do(
 ) -> Result<bool, NoMemory>
     requires well { (d : Dialect) × IsWellFormedUnit d (unit_of caller.now) }
     requires kept { AreKept (unit_of caller.now) kept.now.at kept.now.guards.now }
-    requires clear { AreClear (program_of caller.now) (unit_of caller.now) kept.now.guards.now kept.now.at clear.old }
-    ensures broken { IfOk result (λ broken. broken ≡ breaks_do (program_of caller.now) (unit_of caller.now) kept.now.at stmt.now) }
-    ensures clear { OnOk result (AreClear (program_of caller.now) (unit_of caller.now) kept.now.guards.now kept.now.at clear.new) }
+    requires clear { AreClear (program_of caller.now) (unit_of caller.now) kept.now.guards.now
+        kept.now.at clear.old }
+    ensures broken { IfOk result (λ broken. broken ≡ breaks_do (program_of caller.now)
+        (unit_of caller.now) kept.now.at stmt.now) }
+    ensures clear { OnOk result (AreClear (program_of caller.now) (unit_of caller.now)
+        kept.now.guards.now kept.now.at clear.new) }
 {
     if uses_itself(stmt) {
         return Ok(true);

@@ -32,7 +32,8 @@ fn first_smash(
 ) -> Result<Option<Fault>, NoMemory>
     requires labels { AreLabelsOf (unit_of caller.now).lines labels.now }
     requires well { (d : Dialect) × IsWellFormedUnit d (unit_of caller.now) }
-    ensures { IfOk result (λ fault. fault ≡ first_at DoSmashed (breaks_do (program_of caller.now) (unit_of caller.now)) 0 (unit_of caller.now).lines) }
+    ensures { IfOk result (λ fault. fault ≡ first_at DoSmashed (breaks_do (program_of caller.now)
+        (unit_of caller.now)) 0 (unit_of caller.now).lines) }
 {
     let unit = caller.book.unit;
     let lines = unit.lines.as_slice();
@@ -86,7 +87,9 @@ pub fn smashed_in_do(
     caller: &Book,
 ) -> Result<Option<Fault>, NoMemory>
     requires { (d : Dialect) × IsWellFormedUnit d caller.now.unit.now }
-    ensures { IfOk result (λ fault. (p : Program) → p.units ≡ deck.now.units.now → p.smashes ≡ rows.now → fault ≡ first_at DoSmashed (breaks_do p caller.now.unit.now) 0 caller.now.unit.now.lines) }
+    ensures { IfOk result (λ fault. (p : Program) → p.units ≡ deck.now.units.now
+        → p.smashes ≡ rows.now → fault ≡ first_at DoSmashed (breaks_do p caller.now.unit.now)
+        0 caller.now.unit.now.lines) }
 {
     let lines = caller.unit.lines.as_slice();
     if !has_do(lines) {

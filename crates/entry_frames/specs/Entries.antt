@@ -42,7 +42,8 @@ AreGoodShapes [] = Unit {0}
 AreGoodShapes (d ∷ ds) = HasGoodShape d × AreGoodShapes ds
 
 -- one name, which the table has now, stands for something new
-pub record IsOneSet (old_nodes : List Node) (old : Names) (new_nodes : List Node) (new : Names) (x : Name) (t : Tree) : Type 0 where
+pub record IsOneSet (old_nodes : List Node) (old : Names) (new_nodes : List Node) (new : Names) (x : Name)
+    (t : Tree) : Type 0 where
   pub grows : Grows old_nodes new_nodes
   pub kept : IsNames new_nodes new
   pub now : named new_nodes new ≡ with_name (named old_nodes old) x t
@@ -55,7 +56,8 @@ abbrev pub HasNames : List DataName → List Name → Type 0
 HasNames ds table = (x : Name) → has_role any_role (data_name_in ds x) ≡ true → is_among x table ≡ true
 
 -- names stand for what they do at the entry
-pub record IsEntered (old_nodes : List Node) (old : Names) (new_nodes : List Node) (new : Names) (ds : List DataName) : Type 0 where
+pub record IsEntered (old_nodes : List Node) (old : Names) (new_nodes : List Node) (new : Names)
+    (ds : List DataName) : Type 0 where
   pub grows : Grows old_nodes new_nodes
   pub kept : IsNames new_nodes new
   pub now : named new_nodes new ≡ at_entry_in ds

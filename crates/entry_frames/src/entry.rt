@@ -73,7 +73,8 @@ fn set_entry(
 ) -> Result<(), NoMemory>
     requires kept { IsNames pool.old names.old }
     requires shape { HasGoodShape entity.now }
-    ensures { OnOk result (IsOneSet pool.old names.old pool.new names.new entity.now.name (value_of entity.now)) }
+    ensures { OnOk result (IsOneSet pool.old names.old pool.new names.new entity.now.name
+        (value_of entity.now)) }
 {
     let Ok(value) = value_of(alloc, keys, pool, entity) else {
         return Err(NoMemory);

@@ -16,11 +16,13 @@ use Rattle.event_reading.specs.Fronts.{IsCounting}
 
 -- bytes that are the text of no list that can be read
 abbrev pub IsNoText : List ℕ → Type 0
-IsNoText bytes = (ds : List Function) (cs : List ConditionTree) (marks : Marks) → IsReadable ds cs marks → bytes ≡ event_text ds cs marks → ⊥
+IsNoText bytes = (ds : List Function) (cs : List ConditionTree) (marks : Marks) → IsReadable ds cs marks
+    → bytes ≡ event_text ds cs marks → ⊥
 
 -- lines that the closing line makes the text of a list that can be read
 abbrev pub IsFront : List ℕ → Type 0
-IsFront lines = (ds : List Function) × (cs : List ConditionTree) × (marks : Marks) × IsReadable ds cs marks × (lines ++ closing_line (length cs) ≡ event_text ds cs marks)
+IsFront lines = (ds : List Function) × (cs : List ConditionTree) × (marks : Marks) × IsReadable ds cs marks
+    × (lines ++ closing_line (length cs) ≡ event_text ds cs marks)
 
 -- the first n bytes are the longest prefix of such lines
 pub record IsLongestFront (bytes : List ℕ) (n : ℕ) : Type 0 where

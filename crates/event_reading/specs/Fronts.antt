@@ -20,7 +20,8 @@ pub record AreDefinitions (text : List ℕ) (ds : List Function) (rest : List �
   pub is : (later : List (List ℕ)) → text ≡ flat_map (definition_line (names_of ds ++ later)) ds ++ rest
 
 -- lines of conditions with marks
-pub record AreConditions (hs : List Heading) (text : List ℕ) (cs : List ConditionTree) (ls : List ℕ) (rest : List ℕ) : Type 0 where
+pub record AreConditions (hs : List Heading) (text : List ℕ) (cs : List ConditionTree) (ls : List ℕ)
+    (rest : List ℕ) : Type 0 where
   pub readable : All (IsReadableCondition hs) cs
   pub count : length ls ≡ length cs
   pub letters : list_all is_mark ls ≡ true

@@ -1,4 +1,5 @@
--- The lines that begin a text: of a definition, of a condition with its mark, of a prover. Each reader answers what it read and the text behind it.
+-- The lines that begin a text: of a definition, of a condition with its mark, of a prover. Each reader answers
+-- what it read and the text behind it.
 use Rattle.std.specs.Prelude.{ℕ, zero, suc, pos, ◌&&◌, Bool, false, if◌then◌else◌, Option, Some, None, List, [], ◌∷◌, ◌++◌, length, drop, codes}
 use Rattle.std.specs.Ordering.{int_eq}
 use Rattle.formula.specs.declared.definition.Heading.{Heading}
@@ -89,7 +90,8 @@ faultless None d rest = Some (d, rest)
 faultless (Some f) d rest = None
 
 abbrev pub defined : List Heading → List ℕ → List (List ℕ) → FunctionBody → List ℕ → Reading Function
-defined hs name params body rest = faultless (adding_fault hs name params body) (record { name = name; params = params; body = body }) rest
+defined hs name params body rest = faultless (adding_fault hs name params body)
+    (record { name = name; params = params; body = body }) rest
 
 -- what stands behind the heading of a definition
 unfoldable pub body_at : List Heading → List ℕ → List (List ℕ) → List ℕ → Reading Tree
@@ -160,7 +162,8 @@ condition_at hs t = do
   parts ← implication_at hs behind
   second ← after (codes ") ; ") parts.1
   note ← note_at second
-  Some ((record { unit = name.0.0; path = name.0.1; check = name.0.2; kind = note.0.0; card = note.0.1; hyps = parts.0.0; goal = parts.0.1 }, note.0.2), note.1)
+  Some ((record { unit = name.0.0; path = name.0.1; check = name.0.2; kind = note.0.0; card = note.0.1;
+      hyps = parts.0.0; goal = parts.0.1 }, note.0.2), note.1)
 
 -- ---- provers
 

@@ -25,7 +25,8 @@ pub record ReadsDefinitions (pool : List Node) (text : List ℕ) (ds : List Defi
   pub added : AreAdded pool ds
 
 -- all conditions that begin a text were read, with their marks
-pub record ReadsConditions (pool : List Node) (hs : List Heading) (text : List ℕ) (cs : List Condition) (ls : List ℕ) (rest : List ℕ) : Type 0 where
+pub record ReadsConditions (pool : List Node) (hs : List Heading) (text : List ℕ) (cs : List Condition)
+    (ls : List ℕ) (rest : List ℕ) : Type 0 where
   pub lines : AreConditions hs text (map (condition_tree pool) cs) ls rest
   pub none : condition_at hs rest ≡ None
   pub inside : All (IsConditionIn pool) cs

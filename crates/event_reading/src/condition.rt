@@ -87,7 +87,8 @@ fn implication_at<'a>(
     text: &'a [u8],
 ) -> Result<((List<TermId>, TermId), &'a [u8]), Lack>
     requires { known.now.next ≡ None }
-    ensures value { Gives (λ r. ((map (tree_of pool.new) r.0.0, tree_of pool.new r.0.1), r.1.now)) result (implication_at known.now.headings.now text.now) }
+    ensures value { Gives (λ r. ((map (tree_of pool.new) r.0.0, tree_of pool.new r.0.1), r.1.now))
+        result (implication_at known.now.headings.now text.now) }
     ensures inside { IfOk result (λ r. AllBelow (length pool.new) r.0.0 × IsIn pool.new r.0.1) }
     ensures grows { Grows pool.old pool.new }
 {
@@ -104,7 +105,8 @@ pub fn condition_at<'a>(
     headings: &Headings,
     text: &'a [u8],
 ) -> Result<((Condition, u8), &'a [u8]), Lack>
-    ensures value { Gives (λ r. ((condition_tree pool.new r.0.0, r.0.1), r.1.now)) result (condition_at headings.now text.now) }
+    ensures value { Gives (λ r. ((condition_tree pool.new r.0.0, r.0.1), r.1.now)) result
+        (condition_at headings.now text.now) }
     ensures inside { IfOk result (λ r. IsConditionIn pool.new r.0.0) }
     ensures grows { Grows pool.old pool.new }
 {

@@ -98,7 +98,9 @@ fn body_at<'a>(
     known: &Known<'_>,
     text: &'a [u8],
 ) -> Result<(TermId, &'a [u8]), Lack>
-    ensures body { (name : List ℕ) (params : List (List ℕ)) → known.now.next ≡ Some (heading_with name params) → Gives (λ r. (tree_of pool.new r.0, r.1.now)) result (body_at known.now.headings.now name params text.now) }
+    ensures body { (name : List ℕ) (params : List (List ℕ)) → known.now.next ≡ Some
+        (heading_with name params) → Gives (λ r. (tree_of pool.new r.0, r.1.now)) result
+        (body_at known.now.headings.now name params text.now) }
     ensures is_in { IfOk result (λ r. IsIn pool.new r.0) }
     ensures grows { Grows pool.old pool.new }
 {
@@ -131,8 +133,10 @@ pub fn definition_at<'a>(
     definitions: &mut Definitions,
     text: &'a [u8],
 ) -> Result<&'a [u8], Lack>
-    ensures ok { IfOk result (λ rest. ReadsDefinition pool.new definitions.old definitions.new text.now rest.now) }
-    ensures none { IfErr result (λ l. l ≡ Lack.Spelling → definition_at (headings_of definitions.old) text.now ≡ None) }
+    ensures ok { IfOk result (λ rest. ReadsDefinition pool.new definitions.old definitions.new
+        text.now rest.now) }
+    ensures none { IfErr result (λ l. l ≡ Lack.Spelling
+        → definition_at (headings_of definitions.old) text.now ≡ None) }
     ensures unchanged { OnErr result (definitions.new ≡ definitions.old) }
     ensures added { AreAdded pool.old definitions.old → AreAdded pool.new definitions.new }
     ensures grows { Grows pool.old pool.new }

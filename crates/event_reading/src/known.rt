@@ -16,7 +16,8 @@ impl<'a> Known<'a> {
     #[tactic(auto, using(crate::proofs::KnownNames::no_number, crate::proofs::KnownNames::earlier_number, crate::proofs::KnownNames::next_number, crate::proofs::KnownNames::behind_none, crate::proofs::KnownNames::behind_next))]
     /// The name of the definition of number k, counted from 1.
     pub fn name(&self, k: usize) -> Option<Word>
-        ensures { MatchOption result (name_at (known_names self.now) k ≡ []) (λ w. name_at (known_names self.now) k ≡ w) }
+        ensures { MatchOption result (name_at (known_names self.now) k ≡ [])
+            (λ w. name_at (known_names self.now) k ≡ w) }
     {
         let count = self.headings.count();
         if k == 0 {

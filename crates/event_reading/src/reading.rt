@@ -72,7 +72,8 @@ fn conditions_at<'a>(
     headings: &Headings,
     text: &'a [u8],
 ) -> Result<(Marked, &'a [u8]), NoMemory>
-    ensures ok { IfOk result (λ r. ReadsConditions pool.new headings.now text.now r.0.conditions r.0.letters r.1.now) }
+    ensures ok { IfOk result (λ r. ReadsConditions pool.new headings.now text.now r.0.conditions
+        r.0.letters r.1.now) }
     ensures few { IfOk result (λ r. length r.0.conditions < 2 ^ 64) }
     ensures grows { Grows pool.old pool.new }
 {

@@ -15,7 +15,8 @@ use std::alloc::Global;
 // The arguments of a term that is this function of them.
 fn call_of(pool: &TermPool, function: BuiltIn, id: TermId) -> Option<&[TermId]>
     requires { IsIn pool.now id }
-    ensures value { option_map (λ ids. map (tree_of pool.now) ids.now) result ≡ call_of function (tree_of pool.now id) }
+    ensures value { option_map (λ ids. map (tree_of pool.now) ids.now) result ≡ call_of function
+        (tree_of pool.now id) }
     ensures inside { MatchOption result (Unit {0}) (λ ids. AllBelow (length pool.now) ids.now) }
 {
     match pool.node(id) {
@@ -50,7 +51,8 @@ fn is_zero(pool: &TermPool, id: TermId) -> bool
 
 // Two ids.
 fn two(ids: &[TermId]) -> Option<(TermId, TermId)>
-    ensures { MatchOption result ((a : TermId) (b : TermId) → ids.now ≢ a ∷ b ∷ []) (λ p. ids.now ≡ p.0 ∷ p.1 ∷ []) }
+    ensures { MatchOption result ((a : TermId) (b : TermId) → ids.now ≢ a ∷ b ∷ [])
+        (λ p. ids.now ≡ p.0 ∷ p.1 ∷ []) }
 {
     match ids {
         [a, b] => Some((*a, *b)),
@@ -60,7 +62,8 @@ fn two(ids: &[TermId]) -> Option<(TermId, TermId)>
 
 // Three ids.
 fn three(ids: &[TermId]) -> Option<(TermId, TermId, TermId)>
-    ensures { MatchOption result ((a : TermId) (b : TermId) (c : TermId) → ids.now ≢ a ∷ b ∷ c ∷ []) (λ p. ids.now ≡ p.0 ∷ p.1 ∷ p.2 ∷ []) }
+    ensures { MatchOption result ((a : TermId) (b : TermId) (c : TermId) → ids.now ≢ a ∷ b ∷ c ∷ [])
+        (λ p. ids.now ≡ p.0 ∷ p.1 ∷ p.2 ∷ []) }
 {
     match ids {
         [a, b, c] => Some((*a, *b, *c)),
@@ -111,7 +114,8 @@ pub fn implication(
     id: TermId,
 ) -> Result<(List<TermId>, TermId), Lack>
     requires { IsIn pool.now id }
-    ensures value { Gives (λ r. (map (tree_of pool.now) r.0, tree_of pool.now r.1)) result (implication (tree_of pool.now id)) }
+    ensures value { Gives (λ r. (map (tree_of pool.now) r.0, tree_of pool.now r.1)) result
+        (implication (tree_of pool.now id)) }
     ensures inside { IfOk result (λ r. AllBelow (length pool.now) r.0 × IsIn pool.now r.1) }
 {
     let Some(args) = call_of(pool, BuiltIn::Implies, id) else {

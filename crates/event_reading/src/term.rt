@@ -20,7 +20,8 @@ pub fn term_at<'a>(
     known: &Known<'_>,
     text: &'a [u8],
 ) -> Result<(TermId, &'a [u8]), Lack>
-    ensures term { Gives (λ r. (tree_of pool.new r.0, r.1.now)) result (term_at (known_names known.now) known.now.headings.now known.now.next text.now) }
+    ensures term { Gives (λ r. (tree_of pool.new r.0, r.1.now)) result
+        (term_at (known_names known.now) known.now.headings.now known.now.next text.now) }
     ensures is_in { IfOk result (λ r. IsIn pool.new r.0) }
     ensures grows { Grows pool.old pool.new }
 {

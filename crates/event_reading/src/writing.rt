@@ -48,8 +48,10 @@ fn put_function(out: &mut Comparing<'_>, known: &Known<'_>, function: Func)
 /// The next argument of an open bracket, and the bracket behind it.
 fn next_argument(pool: &TermPool, bracket: Bracket) -> Option<(TermId, Bracket)>
     requires { IsIn pool.now bracket.id }
-    ensures rest { MatchOption result (rest_of pool.now bracket ≡ []) (λ p. rest_of pool.now bracket ≡ p.0 ∷ rest_of pool.now p.1) }
-    ensures below { MatchOption result (Unit {0}) (λ p. (p.0.place < bracket.id.place) × (p.1.id ≡ bracket.id)) }
+    ensures rest { MatchOption result (rest_of pool.now bracket ≡ []) (λ p. rest_of pool.now bracket
+        ≡ p.0 ∷ rest_of pool.now p.1) }
+    ensures below { MatchOption result (Unit {0}) (λ p. (p.0.place < bracket.id.place)
+        × (p.1.id ≡ bracket.id)) }
 {
     let args = pool.arguments(bracket.id);
     if bracket.at >= args.len() {
@@ -73,7 +75,9 @@ fn begin_term(
 ) -> Result<(), NoMemory>
     requires id { IsIn pool.now id }
     requires inside { AreOpen pool.now stack.old }
-    ensures nears { OnOk result (Nears out.old out.new (term_text (known_names known.now) (tree_of pool.now id) ++ pending (known_names known.now) pool.now stack.old) (pending (known_names known.now) pool.now stack.new)) }
+    ensures nears { OnOk result (Nears out.old out.new (term_text (known_names known.now)
+        (tree_of pool.now id) ++ pending (known_names known.now) pool.now stack.old)
+        (pending (known_names known.now) pool.now stack.new)) }
     ensures shorter { OnOk result (length (pending (known_names known.now) pool.now stack.new) < length (codes " " ++ (term_text (known_names known.now) (tree_of pool.now id) ++ pending (known_names known.now) pool.now stack.old))) }
     ensures inside { OnOk result (AreOpen pool.now stack.new) }
 {
@@ -105,8 +109,10 @@ fn go_on(
     bracket: Bracket,
 ) -> Result<(), NoMemory>
     requires inside { AreOpen pool.now (bracket ∷ stack.old) }
-    ensures nears { OnOk result (Nears out.old out.new (pending (known_names known.now) pool.now (bracket ∷ stack.old)) (pending (known_names known.now) pool.now stack.new)) }
-    ensures shorter { OnOk result (length (pending (known_names known.now) pool.now stack.new) < length (pending (known_names known.now) pool.now (bracket ∷ stack.old))) }
+    ensures nears { OnOk result (Nears out.old out.new (pending (known_names known.now) pool.now
+        (bracket ∷ stack.old)) (pending (known_names known.now) pool.now stack.new)) }
+    ensures shorter { OnOk result (length (pending (known_names known.now) pool.now stack.new)
+        < length (pending (known_names known.now) pool.now (bracket ∷ stack.old))) }
     ensures inside { OnOk result (AreOpen pool.now stack.new) }
 {
     let Some((id, behind)) = next_argument(pool, bracket) else {
@@ -127,7 +133,8 @@ pub fn is_term_text(
     text: &[u8],
 ) -> Result<bool, NoMemory>
     requires { IsIn pool.now id }
-    ensures { IfOk result (λ b. b ≡ same_bytes (term_text (known_names known.now) (tree_of pool.now id)) text.now) }
+    ensures { IfOk result (λ b. b ≡ same_bytes (term_text (known_names known.now)
+        (tree_of pool.now id)) text.now) }
 {
     let mut out = Comparing {
         rest: text,

@@ -37,7 +37,8 @@ pub record IsReadableDefinition (earlier : List Heading) (d : Function) : Type 0
 -- one after another, behind those of earlier headings
 abbrev pub AreReadableAfter : List Heading → List Function → Type 0
 AreReadableAfter earlier [] = Unit {0}
-AreReadableAfter earlier (d ∷ rest) = IsReadableDefinition earlier d × AreReadableAfter (earlier ++ heading_with d.name d.params ∷ []) rest
+AreReadableAfter earlier (d ∷ rest) = IsReadableDefinition earlier d × AreReadableAfter
+    (earlier ++ heading_with d.name d.params ∷ []) rest
 
 abbrev pub headings_with : List Function → List Heading
 headings_with ds = map (λ d. heading_with d.name d.params) ds

@@ -26,4 +26,5 @@ pending names pool (b ∷ outer) = row_text names (row_in (trees pool) (rest_of 
 abbrev pub IsNested : List Node → List Bracket → Type 0
 IsNested pool [] = Unit {0}
 IsNested pool (b ∷ outer) =
-    IsIn pool b.id × (row_depth (row_in (trees pool) (rest_of pool b)) + length (b ∷ outer) ≤ deepest (trees pool)) × IsNested pool outer
+    IsIn pool b.id × (row_depth (row_in (trees pool) (rest_of pool b)) + length (b ∷ outer) ≤ deepest (trees pool))
+        × IsNested pool outer

@@ -16,7 +16,8 @@ use fort_syntax::Condition;
 
 /// Puts the name of a condition: its unit, path and check.
 fn put_lemma_name<K: Sink>(out: &mut Out, sink: &mut K, condition: &Condition)
-    ensures { (pool : _) → Goes (K.written sink.old) (K.written sink.new) (K.faults sink.old) (K.faults sink.new) out.old out.new (lemma_name (condition_tree pool condition.now)) }
+    ensures { (pool : _) → Goes (K.written sink.old) (K.written sink.new) (K.faults sink.old)
+        (K.faults sink.new) out.old out.new (lemma_name (condition_tree pool condition.now)) }
 {
     out.put(sink, condition.unit.as_bytes());
     out.put(sink, b"-");
@@ -27,7 +28,8 @@ fn put_lemma_name<K: Sink>(out: &mut Out, sink: &mut K, condition: &Condition)
 
 /// Puts what stands behind a condition: its kind, its card and its mark.
 fn put_note<K: Sink>(out: &mut Out, sink: &mut K, condition: &Condition, mark: u8)
-    ensures { (pool : _) → Goes (K.written sink.old) (K.written sink.new) (K.faults sink.old) (K.faults sink.new) out.old out.new (note_text (condition_tree pool condition.now) mark) }
+    ensures { (pool : _) → Goes (K.written sink.old) (K.written sink.new) (K.faults sink.old)
+        (K.faults sink.new) out.old out.new (note_text (condition_tree pool condition.now) mark) }
 {
     out.put(sink, condition.kind.word());
     out.put(sink, b" CARD ");
@@ -49,7 +51,9 @@ fn put_condition<K: Sink>(
     requires inside { IsConditionIn pool.now condition.now }
     requires room { deepest (trees pool.now) ≤ stack.old.room }
     ensures room { stack.old.room ≤ stack.new.room }
-    ensures goes { Goes (K.written sink.old) (K.written sink.new) (K.faults sink.old) (K.faults sink.new) out.old out.new (condition_line (map (λ d. d.name) definitions.now) (condition_tree pool.now condition.now) mark) }
+    ensures goes { Goes (K.written sink.old) (K.written sink.new) (K.faults sink.old)
+        (K.faults sink.new) out.old out.new (condition_line (map (λ d. d.name) definitions.now)
+        (condition_tree pool.now condition.now) mark) }
 {
     out.put(sink, b"(PROVE-LEMMA ");
     put_lemma_name(out, sink, condition);
@@ -83,7 +87,10 @@ pub fn put_conditions<K: Sink>(
     requires letters { length letters.now ≡ length conditions.now }
     requires room { deepest (trees pool.now) ≤ stack.old.room }
     ensures room { stack.old.room ≤ stack.new.room }
-    ensures goes { Goes (K.written sink.old) (K.written sink.new) (K.faults sink.old) (K.faults sink.new) out.old out.new (flat_map (λ p. condition_line (map (λ d. d.name) definitions.now) (condition_tree pool.now p.0) p.1) (zip conditions.now letters.now)) }
+    ensures goes { Goes (K.written sink.old) (K.written sink.new) (K.faults sink.old)
+        (K.faults sink.new) out.old out.new (flat_map (λ p. condition_line
+        (map (λ d. d.name) definitions.now) (condition_tree pool.now p.0) p.1)
+        (zip conditions.now letters.now)) }
 {
     for (k, condition) in conditions.iter().enumerate() {
         put_condition(out, sink, pool, definitions, stack, condition, letters[k]);

@@ -17,7 +17,8 @@ use formula::{Body, Definition, Definitions, TermPool, Word};
 
 /// Puts words, with a blank between them.
 fn put_words<K: Sink>(out: &mut Out, sink: &mut K, words: &[Word])
-    ensures { Goes (K.written sink.old) (K.written sink.new) (K.faults sink.old) (K.faults sink.new) out.old out.new (spaced words.now) }
+    ensures { Goes (K.written sink.old) (K.written sink.new) (K.faults sink.old)
+        (K.faults sink.new) out.old out.new (spaced words.now) }
 {
     if let [first, rest @ ..] = words {
         out.put(sink, first.as_bytes());
@@ -37,7 +38,8 @@ fn put_more_words<K: Sink>(out: &mut Out, sink: &mut K, words: &[Word])
 
 /// Puts the first word, and nothing where there is none.
 fn put_first_word<K: Sink>(out: &mut Out, sink: &mut K, words: &[Word])
-    ensures { Goes (K.written sink.old) (K.written sink.new) (K.faults sink.old) (K.faults sink.new) out.old out.new (first_word words.now) }
+    ensures { Goes (K.written sink.old) (K.written sink.new) (K.faults sink.old)
+        (K.faults sink.new) out.old out.new (first_word words.now) }
 {
     if let [first, ..] = words {
         out.put(sink, first.as_bytes());
@@ -56,7 +58,9 @@ fn put_body<K: Sink>(
     requires inside { IsBodyIn pool.now definition.now.body }
     requires room { deepest (trees pool.now) ≤ stack.old.room }
     ensures room { stack.old.room ≤ stack.new.room }
-    ensures goes { Goes (K.written sink.old) (K.written sink.new) (K.faults sink.old) (K.faults sink.new) out.old out.new (body_text (map (λ d. d.name) definitions.now) definition.now.params (body_of pool.now definition.now.body)) }
+    ensures goes { Goes (K.written sink.old) (K.written sink.new) (K.faults sink.old)
+        (K.faults sink.new) out.old out.new (body_text (map (λ d. d.name) definitions.now)
+        definition.now.params (body_of pool.now definition.now.body)) }
 {
     match definition.body {
         Body::Plain(term) => put_term(out, sink, pool, definitions, stack, term),
@@ -84,7 +88,9 @@ fn put_definition<K: Sink>(
     requires inside { IsDefinitionIn pool.now definition.now }
     requires room { deepest (trees pool.now) ≤ stack.old.room }
     ensures room { stack.old.room ≤ stack.new.room }
-    ensures goes { Goes (K.written sink.old) (K.written sink.new) (K.faults sink.old) (K.faults sink.new) out.old out.new (definition_line (map (λ d. d.name) definitions.now) (function_of pool.now definition.now)) }
+    ensures goes { Goes (K.written sink.old) (K.written sink.new) (K.faults sink.old)
+        (K.faults sink.new) out.old out.new (definition_line (map (λ d. d.name) definitions.now)
+        (function_of pool.now definition.now)) }
 {
     out.put(sink, b"(DEFN ");
     out.put(sink, definition.name.as_bytes());
@@ -106,7 +112,9 @@ pub fn put_definitions<K: Sink>(
     requires inside { All (IsDefinitionIn pool.now) definitions.now }
     requires room { deepest (trees pool.now) ≤ stack.old.room }
     ensures room { stack.old.room ≤ stack.new.room }
-    ensures goes { Goes (K.written sink.old) (K.written sink.new) (K.faults sink.old) (K.faults sink.new) out.old out.new (flat_map (λ d. definition_line (map (λ d. d.name) definitions.now) (function_of pool.now d)) definitions.now) }
+    ensures goes { Goes (K.written sink.old) (K.written sink.new) (K.faults sink.old)
+        (K.faults sink.new) out.old out.new (flat_map (λ d. definition_line
+        (map (λ d. d.name) definitions.now) (function_of pool.now d)) definitions.now) }
 {
     for k in 0..definitions.count() {
         put_definition(out, sink, pool, definitions, stack, definitions.get(k + 1));

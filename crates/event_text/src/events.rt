@@ -21,7 +21,8 @@ use fort_syntax::Condition;
 
 /// Puts a line for each prover.
 fn put_asked<K: Sink>(out: &mut Out, sink: &mut K, asked: &[(u8, u64)])
-    ensures { Goes (K.written sink.old) (K.written sink.new) (K.faults sink.old) (K.faults sink.new) out.old out.new (flat_map asked_line asked.now) }
+    ensures { Goes (K.written sink.old) (K.written sink.new) (K.faults sink.old)
+        (K.faults sink.new) out.old out.new (flat_map asked_line asked.now) }
 {
     for (letter, count) in asked {
         out.put(sink, b"; ASKED ");
@@ -34,7 +35,8 @@ fn put_asked<K: Sink>(out: &mut Out, sink: &mut K, asked: &[(u8, u64)])
 
 /// Puts the closing line.
 fn put_closing<K: Sink>(out: &mut Out, sink: &mut K, count: usize)
-    ensures { Goes (K.written sink.old) (K.written sink.new) (K.faults sink.old) (K.faults sink.new) out.old out.new (closing_line count) }
+    ensures { Goes (K.written sink.old) (K.written sink.new) (K.faults sink.old)
+        (K.faults sink.new) out.old out.new (closing_line count) }
 {
     out.put(sink, b"; ");
     out.put_number(sink, count as u64);
@@ -55,7 +57,9 @@ fn put_events<K: Sink>(
     requires conditions { All (IsConditionIn pool.now) conditions.now }
     requires letters { length marks.now.letters ≡ length conditions.now }
     requires room { deepest (trees pool.now) ≤ stack.old.room }
-    ensures { Goes (K.written sink.old) (K.written sink.new) (K.faults sink.old) (K.faults sink.new) out.old out.new (event_text (map (function_of pool.now) definitions.now) (map (condition_tree pool.now) conditions.now) marks.now) }
+    ensures { Goes (K.written sink.old) (K.written sink.new) (K.faults sink.old)
+        (K.faults sink.new) out.old out.new (event_text (map (function_of pool.now) definitions.now)
+        (map (condition_tree pool.now) conditions.now) marks.now) }
 {
     put_definitions(out, sink, pool, definitions, stack);
     put_conditions(
@@ -88,10 +92,14 @@ pub fn write_events<K: Sink>(
     requires conditions { All (IsConditionIn pool.now) conditions.now }
     requires letters { length marks.now.letters ≡ length conditions.now }
     requires room { deepest (trees pool.now) ≤ stack.old.room }
-    ensures ok { OnOk result (Appends (K.written sink.old) (K.written sink.new) (event_text (map (function_of pool.now) definitions.now) (map (condition_tree pool.now) conditions.now) marks.now)) }
+    ensures ok { OnOk result (Appends (K.written sink.old) (K.written sink.new)
+        (event_text (map (function_of pool.now) definitions.now)
+        (map (condition_tree pool.now) conditions.now) marks.now)) }
 
     // A front part of the text was appended.
-    ensures err { OnErr result (AppendsPart (K.written sink.old) (K.written sink.new) (event_text (map (function_of pool.now) definitions.now) (map (condition_tree pool.now) conditions.now) marks.now)) }
+    ensures err { OnErr result (AppendsPart (K.written sink.old) (K.written sink.new)
+        (event_text (map (function_of pool.now) definitions.now)
+        (map (condition_tree pool.now) conditions.now) marks.now)) }
     ensures cause { HasCause (K.faults sink.old) (K.faults sink.new) result }
 {
     let mut out = Out::new();

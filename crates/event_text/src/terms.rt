@@ -15,7 +15,8 @@ use formula::{Definitions, Func, Node, TermId, TermPool};
 
 /// Puts T or F.
 fn put_truth<K: Sink>(out: &mut Out, sink: &mut K, b: bool)
-    ensures { Goes (K.written sink.old) (K.written sink.new) (K.faults sink.old) (K.faults sink.new) out.old out.new (truth_text b) }
+    ensures { Goes (K.written sink.old) (K.written sink.new) (K.faults sink.old)
+        (K.faults sink.new) out.old out.new (truth_text b) }
 {
     if b {
         out.put(sink, b"T");
@@ -26,7 +27,8 @@ fn put_truth<K: Sink>(out: &mut Out, sink: &mut K, b: bool)
 
 /// Puts the name of the definition of number k, and nothing where there is none.
 fn put_name<K: Sink>(out: &mut Out, sink: &mut K, definitions: &Definitions, k: usize)
-    ensures { Goes (K.written sink.old) (K.written sink.new) (K.faults sink.old) (K.faults sink.new) out.old out.new (name_at (map (λ d. d.name) definitions.now) k) }
+    ensures { Goes (K.written sink.old) (K.written sink.new) (K.faults sink.old)
+        (K.faults sink.new) out.old out.new (name_at (map (λ d. d.name) definitions.now) k) }
 {
     if k == 0 || definitions.count() < k {
         return;
@@ -36,7 +38,9 @@ fn put_name<K: Sink>(out: &mut Out, sink: &mut K, definitions: &Definitions, k: 
 
 /// Puts the name of a function.
 fn put_function<K: Sink>(out: &mut Out, sink: &mut K, definitions: &Definitions, function: Func)
-    ensures { Goes (K.written sink.old) (K.written sink.new) (K.faults sink.old) (K.faults sink.new) out.old out.new (function_text (map (λ d. d.name) definitions.now) function) }
+    ensures { Goes (K.written sink.old) (K.written sink.new) (K.faults sink.old)
+        (K.faults sink.new) out.old out.new (function_text (map (λ d. d.name) definitions.now)
+        function) }
 {
     match function {
         Func::BuiltIn(built_in) => out.put(sink, built_in.name()),
@@ -47,8 +51,10 @@ fn put_function<K: Sink>(out: &mut Out, sink: &mut K, definitions: &Definitions,
 /// The next argument of an open bracket, and the bracket behind it.
 fn next_argument(pool: &TermPool, bracket: Bracket) -> Option<(TermId, Bracket)>
     requires { IsIn pool.now bracket.id }
-    ensures rest { MatchOption result (rest_of pool.now bracket ≡ []) (λ p. rest_of pool.now bracket ≡ p.0 ∷ rest_of pool.now p.1) }
-    ensures below { MatchOption result (Unit {0}) (λ p. (p.0.place < bracket.id.place) × (p.1.id ≡ bracket.id)) }
+    ensures rest { MatchOption result (rest_of pool.now bracket ≡ []) (λ p. rest_of pool.now bracket
+        ≡ p.0 ∷ rest_of pool.now p.1) }
+    ensures below { MatchOption result (Unit {0}) (λ p. (p.0.place < bracket.id.place)
+        × (p.1.id ≡ bracket.id)) }
 {
     let args = pool.arguments(bracket.id);
     if bracket.at >= args.len() {
@@ -75,7 +81,11 @@ fn begin_term<K: Sink>(
     requires id { IsIn pool.now id }
     requires low { depth (tree_of pool.now id) + length stack.old.brackets ≤ deepest (trees pool.now) }
     requires nested { IsNested pool.now stack.old.brackets }
-    ensures nears { Nears (K.written sink.old) (K.written sink.new) (K.faults sink.old) (K.faults sink.new) out.old out.new (term_text (map (λ d. d.name) definitions.now) (tree_of pool.now id) ++ pending (map (λ d. d.name) definitions.now) pool.now stack.old.brackets) (pending (map (λ d. d.name) definitions.now) pool.now stack.new.brackets) }
+    ensures nears { Nears (K.written sink.old) (K.written sink.new) (K.faults sink.old)
+        (K.faults sink.new) out.old out.new (term_text (map (λ d. d.name) definitions.now)
+        (tree_of pool.now id) ++ pending (map (λ d. d.name) definitions.now) pool.now
+        stack.old.brackets) (pending (map (λ d. d.name) definitions.now) pool.now
+        stack.new.brackets) }
     ensures nested { IsNested pool.now stack.new.brackets }
     ensures room { stack.old.room ≤ stack.new.room }
 {
@@ -108,8 +118,13 @@ fn go_on<K: Sink>(
 )
     requires room { deepest (trees pool.now) ≤ stack.old.room }
     requires nested { IsNested pool.now (bracket ∷ stack.old.brackets) }
-    ensures nears { Nears (K.written sink.old) (K.written sink.new) (K.faults sink.old) (K.faults sink.new) out.old out.new (pending (map (λ d. d.name) definitions.now) pool.now (bracket ∷ stack.old.brackets)) (pending (map (λ d. d.name) definitions.now) pool.now stack.new.brackets) }
-    ensures shorter { length (pending (map (λ d. d.name) definitions.now) pool.now stack.new.brackets) < length (pending (map (λ d. d.name) definitions.now) pool.now (bracket ∷ stack.old.brackets)) }
+    ensures nears { Nears (K.written sink.old) (K.written sink.new) (K.faults sink.old)
+        (K.faults sink.new) out.old out.new (pending (map (λ d. d.name) definitions.now) pool.now
+        (bracket ∷ stack.old.brackets)) (pending (map (λ d. d.name) definitions.now) pool.now
+        stack.new.brackets) }
+    ensures shorter { length (pending (map (λ d. d.name) definitions.now) pool.now
+        stack.new.brackets) < length (pending (map (λ d. d.name) definitions.now) pool.now
+        (bracket ∷ stack.old.brackets)) }
     ensures nested { IsNested pool.now stack.new.brackets }
     ensures room { stack.old.room ≤ stack.new.room }
 {
@@ -133,7 +148,9 @@ pub fn put_term<K: Sink>(
 )
     requires id { IsIn pool.now id }
     requires room { deepest (trees pool.now) ≤ stack.old.room }
-    ensures goes { Goes (K.written sink.old) (K.written sink.new) (K.faults sink.old) (K.faults sink.new) out.old out.new (term_text (map (λ d. d.name) definitions.now) (tree_of pool.now id)) }
+    ensures goes { Goes (K.written sink.old) (K.written sink.new) (K.faults sink.old)
+        (K.faults sink.new) out.old out.new (term_text (map (λ d. d.name) definitions.now)
+        (tree_of pool.now id)) }
     ensures room { stack.old.room ≤ stack.new.room }
 {
     stack.clear();
@@ -154,7 +171,9 @@ pub fn put_terms<K: Sink>(
 )
     requires ids { AllBelow (length pool.now) ids.now }
     requires room { deepest (trees pool.now) ≤ stack.old.room }
-    ensures goes { Goes (K.written sink.old) (K.written sink.new) (K.faults sink.old) (K.faults sink.new) out.old out.new (row_text (map (λ d. d.name) definitions.now) (row_in (trees pool.now) ids.now)) }
+    ensures goes { Goes (K.written sink.old) (K.written sink.new) (K.faults sink.old)
+        (K.faults sink.new) out.old out.new (row_text (map (λ d. d.name) definitions.now)
+        (row_in (trees pool.now) ids.now)) }
     ensures room { stack.old.room ≤ stack.new.room }
 {
     for id in ids {

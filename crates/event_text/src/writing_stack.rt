@@ -58,7 +58,8 @@ impl WritingStack {
 
     /// Takes the innermost bracket.
     pub(crate) fn close(&mut self) -> Option<Bracket>
-        ensures brackets { MatchOption result (self.old.brackets ≡ []) (λ b. self.old.brackets ≡ b ∷ self.new.brackets) }
+        ensures brackets { MatchOption result (self.old.brackets ≡ []) (λ b. self.old.brackets
+            ≡ b ∷ self.new.brackets) }
         ensures room { self.old.room ≤ self.new.room }
     {
         self.brackets.pop()

@@ -46,8 +46,9 @@ abbrev pub IsGraphIn : Program → ℕ → Routine → Routes → Type 0
 IsGraphIn p i u (Whole graph) = IsGraphOf p.dialect u (notes_of p i) graph
 IsGraphIn p i u (Uncut fault) = Unit {0}
 
--- for each program in which the unit has some number and its ASSERTs stand at the points: the first fault by rule 31, or that there is
--- none, and the graph
+-- for each program in which the unit has some number and its ASSERTs stand at the points: the first fault by
+-- rule 31, or that there is none, and the graph
 abbrev pub TellsRoutes : Dialect → Routine → List ℕ → Routes → Type 0
 TellsRoutes dialect u cuts routes =
-    (p : Program) (i : ℕ) → p.dialect ≡ dialect → StandAt cuts (notes_of p i) → TellsLeast (IsUncutAt p i u) (fault_in routes) × IsGraphIn p i u routes
+    (p : Program) (i : ℕ) → p.dialect ≡ dialect → StandAt cuts (notes_of p i)
+        → TellsLeast (IsUncutAt p i u) (fault_in routes) × IsGraphIn p i u routes

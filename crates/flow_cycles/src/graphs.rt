@@ -34,10 +34,10 @@ fn uncut(dialect: Dialect, unit: &Unit, cuts: &List<u32>, point: usize) -> Route
     })
 }
 
-/// The graph of a unit's flow in a dialect, where ASSERTs stand at the points `cuts`; or the first fault by rule 31, a statement that
-/// lies on a cycle without an ASSERT; or want of memory. The last statements of the unit's DOs stand in it, its logical IFs carry what
-/// they may, it has fewer than 1,073,741,824 statements, and their cards ascend. It takes time and memory for each statement and each
-/// label in one alone.
+/// The graph of a unit's flow in a dialect, where ASSERTs stand at the points `cuts`; or the first fault by
+/// rule 31, a statement that lies on a cycle without an ASSERT; or want of memory. The last statements of the
+/// unit's DOs stand in it, its logical IFs carry what they may, it has fewer than 1,073,741,824 statements, and
+/// their cards ascend. It takes time and memory for each statement and each label in one alone.
 pub fn routes_of(
     alloc: Global,
     dialect: Dialect,

@@ -38,8 +38,8 @@ fn off_card(dialect: Dialect, unit: &Unit) -> Option<u32>
     }
 }
 
-/// The fault by rule 30 of a unit in a dialect: the flow goes on behind its last statement. The card is that of the statement; in a
-/// unit without statements it is that of END. None: the unit keeps the rule.
+/// The fault by rule 30 of a unit in a dialect: the flow goes on behind its last statement. The card is that of
+/// the statement; in a unit without statements it is that of END. None: the unit keeps the rule.
 pub fn off_end(dialect: Dialect, unit: &Unit) -> Option<Fault>
     ensures { TellsLeast (IsBrokenAt FallsOffEnd (off_end dialect unit.now unit.now.lines)) result }
 {

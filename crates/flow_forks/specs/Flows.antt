@@ -7,8 +7,8 @@ use Rattle.fort_model.specs.declared.graph.Target.{Target}
 use Rattle.fort_model.specs.Graphs.{AreTargetsOf, IsWithin}
 use Rattle.flow_tests.specs.Growing.{AreFalling}
 
--- the targets of the statements of a unit, and forks: they lead within the unit and the forks, each fork to lesser ones, and there are
--- at most three forks for each statement
+-- the targets of the statements of a unit, and forks: they lead within the unit and the forks, each fork to
+-- lesser ones, and there are at most three forks for each statement
 pub record IsFlowOf (dialect : Dialect) (u : Routine) (forks : List Fork) (starts : List Target) : Type 0 where
   pub targets : AreTargetsOf dialect u forks 0 u.lines starts
   pub within : (pc : ℕ) (t : Target) → slice_get starts pc ≡ Some t → IsWithin (length u.lines) (length forks) t

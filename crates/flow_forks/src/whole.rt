@@ -39,8 +39,9 @@ fn starts_of(alloc: Global, known: &Known, mut forks: Vec<Fork>) -> Result<Flow,
     Ok(Flow { starts, forks })
 }
 
-/// The flow of a unit in a dialect, or want of memory. The last statements of its DOs stand in it, its logical IFs carry what they
-/// may, and it has fewer than 1,073,741,824 statements. It takes time and memory for each statement and each label in one alone.
+/// The flow of a unit in a dialect, or want of memory. The last statements of its DOs stand in it, its logical
+/// IFs carry what they may, and it has fewer than 1,073,741,824 statements. It takes time and memory for each
+/// statement and each label in one alone.
 pub fn flow_of(alloc: Global, dialect: Dialect, unit: &Unit) -> Result<Flow, NoMemory>
     requires { IsFlowing unit.now }
     ensures { IfOk result (λ f. IsFlowOf dialect unit.now f.forks.items f.starts.items) }

@@ -19,11 +19,13 @@ use Rattle.flow_cycles.specs.declared.graphs.Routes.{Routes}
 
 -- something holds of the unit of number n, in every program that a scene is of
 abbrev pub OfUnit : Scene → ℕ → (Program → Routine → Type 0) → Type 0
-OfUnit scene n claim = (pool : List Node) (p : Program) (u : Routine) → IsReady pool scene p → slice_get p.units n ≡ Some u → claim p u
+OfUnit scene n claim = (pool : List Node) (p : Program) (u : Routine) → IsReady pool scene p
+    → slice_get p.units n ≡ Some u → claim p u
 
 -- 29 or 30 is broken at a card
 abbrev pub IsEarly : Program → Routine → Rule → ℕ → Type 0
-IsEarly p u rule card = IsBrokenAt DoSmashed (at_lines u (breaks_do p u)) rule card ⊎ IsBrokenAt FallsOffEnd (off_end p.dialect u u.lines) rule card
+IsEarly p u rule card = IsBrokenAt DoSmashed (at_lines u (breaks_do p u)) rule card ⊎ IsBrokenAt FallsOffEnd
+    (off_end p.dialect u u.lines) rule card
 
 -- the first fault of the unit by 29 and 30, or that it keeps them
 abbrev pub TellsEarly : Scene → ℕ → Option Fault → Type 0

@@ -50,7 +50,8 @@ struct Seen {
 
 fn all_seen(alloc: Global, keys: Keys, scene: &Scene) -> Result<Seen, NoMemory>
     requires ready { (pool : List Node) × (p : Program) × IsReady pool scene.now p }
-    ensures { IfOk result (λ seen. AreUnitsSeen scene.now (length scene.now.books.now.units.now) seen.graphs.items seen.first) }
+    ensures { IfOk result (λ seen. AreUnitsSeen scene.now (length scene.now.books.now.units.now)
+        seen.graphs.items seen.first) }
 {
     let mut graphs = Vec::new(alloc);
     let mut first = None;
@@ -63,14 +64,17 @@ fn all_seen(alloc: Global, keys: Keys, scene: &Scene) -> Result<Seen, NoMemory>
     Ok(Seen { graphs, first })
 }
 
-/// The graphs of the units of a program, in their order, where it keeps all rules before those on the flow. Ok: the graphs, and
-/// the program keeps rules 29, 30 and 31. Broken: its first fault by these rules, on the least card and there of the least number.
-/// Else memory was wanted and not had. No answer depends on the keys.
+/// The graphs of the units of a program, in their order, where it keeps all rules before those on the flow. Ok:
+/// the graphs, and the program keeps rules 29, 30 and 31. Broken: its first fault by these rules, on the least
+/// card and there of the least number. Else memory was wanted and not had. No answer depends on the keys.
 pub fn graphs(alloc: Global, keys: Keys, scene: &Scene) -> Result<Vec<Graph>, Refusal>
     requires ready { (pool : List Node) × (p : Program) × IsReady pool scene.now p }
-    ensures graphs { IfOk result (λ graphs. (pool : List Node) (p : Program) → IsReady pool scene.now p → AreGraphsOf p graphs.items) }
-    ensures kept { IfOk result (λ _. (pool : List Node) (p : Program) → IsReady pool scene.now p → KeepsAll p rules_of_flow) }
-    ensures broken { (f : Fault) → result ≡ Err (Broken f) → (pool : List Node) (p : Program) → IsReady pool scene.now p → IsFirstBroken p rules_of_flow f }
+    ensures graphs { IfOk result (λ graphs. (pool : List Node) (p : Program)
+        → IsReady pool scene.now p → AreGraphsOf p graphs.items) }
+    ensures kept { IfOk result (λ _. (pool : List Node) (p : Program) → IsReady pool scene.now p
+        → KeepsAll p rules_of_flow) }
+    ensures broken { (f : Fault) → result ≡ Err (Broken f) → (pool : List Node) (p : Program)
+        → IsReady pool scene.now p → IsFirstBroken p rules_of_flow f }
 {
     let Ok(seen) = all_seen(alloc, keys, scene) else {
         return Err(Refusal::NoMemory);

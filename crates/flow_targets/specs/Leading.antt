@@ -17,7 +17,8 @@ use Rattle.flow_targets.specs.declared.known.Known.{Known}
 -- a target is where a DO at a point leads that is not entered
 abbrev pub IsOverAt : Routine → List Fork → ℕ → Option ℕ → Target → Type 0
 IsOverAt u forks pc None t = Unit {0}
-IsOverAt u forks pc (Some label) t = AreTests forks (next_point u (target u.lines label)) (loops_around u (target u.lines label) pc) t
+IsOverAt u forks pc (Some label) t = AreTests forks (next_point u (target u.lines label))
+    (loops_around u (target u.lines label) pc) t
 
 -- labels are looked up
 pub record LabelsAreKnown (k : Known) : Type 0 where
@@ -32,7 +33,8 @@ pub record IsKnown (k : Known) (forks : List Fork) : Type 0 where
   pub falling : AreFalling (length k.unit.now.lines) forks
   pub behind_long : length k.behind.items ≡ length k.unit.now.lines
   pub over_long : length k.over.items ≡ length k.unit.now.lines
-  pub tests : (q : ℕ) (t : Target) → slice_get k.behind.items q ≡ Some t → IsBehind k.unit.now forks q t × IsWithin (length k.unit.now.lines) (length forks) t
+  pub tests : (q : ℕ) (t : Target) → slice_get k.behind.items q ≡ Some t → IsBehind k.unit.now forks q t
+      × IsWithin (length k.unit.now.lines) (length forks) t
   pub overs : (q : ℕ) (t : Target) (line : Line) → slice_get k.over.items q ≡ Some t → slice_get k.unit.now.lines q ≡ Some line
       → IsOverAt k.unit.now forks q (do_label line.stmt) t × IsWithin (length k.unit.now.lines) (length forks) t
 
@@ -43,7 +45,8 @@ IsForkOn u forks pc targets t = (on : Target) × IsForkTo forks t None (targets 
 -- a target is that of a logical IF at a point that carries a statement
 abbrev pub IsLogicalTarget : Dialect → Routine → List Fork → ℕ → Stmt → Target → Type 0
 IsLogicalTarget dialect u forks pc s t =
-    (then : Target) × (on : Target) × IsForkTo forks t None (then ∷ on ∷ []) × IsTargetOf dialect u forks pc s then × IsBehind u forks pc on
+    (then : Target) × (on : Target) × IsForkTo forks t None (then ∷ on ∷ []) × IsTargetOf dialect u forks pc s then
+        × IsBehind u forks pc on
 
 -- a target is that of a DO of a label at a point
 abbrev pub IsEntered : Dialect → Routine → List Fork → ℕ → Option ℕ → Target → Type 0

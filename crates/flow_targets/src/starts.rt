@@ -28,8 +28,10 @@ fn do_target(
     requires room { length forks.old.items + 1 < 4294967296 }
     requires at { at < length known.now.unit.now.lines }
     requires line { slice_get known.now.unit.now.lines at ≡ Some line.now }
-    ensures target { IfOk result (λ t. IsEntered known.now.dialect known.now.unit.now forks.new.items at (do_label line.now.stmt) t) }
-    ensures grown { IfOk result (λ t. Grown (length known.now.unit.now.lines) 2 forks.old.items forks.new.items t) }
+    ensures target { IfOk result (λ t. IsEntered known.now.dialect known.now.unit.now
+        forks.new.items at (do_label line.now.stmt) t) }
+    ensures grown { IfOk result (λ t. Grown (length known.now.unit.now.lines) 2 forks.old.items
+        forks.new.items t) }
 {
     let inside = to_point(known, forks, at + 1);
     match known.dialect {
@@ -54,8 +56,11 @@ fn branch(
     requires known { IsKnown known.now forks.old.items }
     requires room { length forks.old.items + 1 < 4294967296 }
     requires at { at < length known.now.unit.now.lines }
-    ensures target { IfOk result (λ t. IsForkTo forks.new.items t None (Point (next_point known.now.unit.now at) ∷ Point (next_branch known.now.unit.now at) ∷ [])) }
-    ensures grown { IfOk result (λ t. Grown (length known.now.unit.now.lines) 2 forks.old.items forks.new.items t) }
+    ensures target { IfOk result (λ t. IsForkTo forks.new.items t None
+        (Point (next_point known.now.unit.now at) ∷ Point (next_branch known.now.unit.now at)
+        ∷ [])) }
+    ensures grown { IfOk result (λ t. Grown (length known.now.unit.now.lines) 2 forks.old.items
+        forks.new.items t) }
 {
     let inside = to_point(known, forks, next_at(known, at));
     let past = to_point(known, forks, branch_at(known, at));
@@ -86,7 +91,8 @@ fn nowhere(alloc: Global, known: &Known, forks: &mut Vec<Fork>) -> Result<Target
     requires known { IsKnown known.now forks.old.items }
     requires room { length forks.old.items + 1 < 4294967296 }
     ensures target { IfOk result (λ t. IsForkTo forks.new.items t None []) }
-    ensures grown { IfOk result (λ t. Grown (length known.now.unit.now.lines) 2 forks.old.items forks.new.items t) }
+    ensures grown { IfOk result (λ t. Grown (length known.now.unit.now.lines) 2 forks.old.items
+        forks.new.items t) }
 {
     let Ok(target) = to_any(known, forks, List::from_vec(Vec::new(alloc))) else {
         return Err(NoMemory);
@@ -106,8 +112,10 @@ pub fn target_of(
     requires room { length forks.old.items + 1 < 4294967296 }
     requires at { at < length known.now.unit.now.lines }
     requires line { slice_get known.now.unit.now.lines at ≡ Some line.now }
-    ensures target { IfOk result (λ t. IsTargetOf known.now.dialect known.now.unit.now forks.new.items at line.now.stmt t) }
-    ensures grown { IfOk result (λ t. Grown (length known.now.unit.now.lines) 2 forks.old.items forks.new.items t) }
+    ensures target { IfOk result (λ t. IsTargetOf known.now.dialect known.now.unit.now
+        forks.new.items at line.now.stmt t) }
+    ensures grown { IfOk result (λ t. Grown (length known.now.unit.now.lines) 2 forks.old.items
+        forks.new.items t) }
 {
     match &line.stmt {
         Stmt::LogicalIf(_, carried) => {

@@ -46,7 +46,8 @@ pub(crate) fn to_any(
     requires room { length forks.old.items < 4294967296 }
     requires within { AreWithin (length known.now.unit.now.lines) (length forks.old.items) targets }
     ensures fork { IfOk result (λ t. IsForkTo forks.new.items t None targets) }
-    ensures grown { IfOk result (λ t. Grown (length known.now.unit.now.lines) 1 forks.old.items forks.new.items t) }
+    ensures grown { IfOk result (λ t. Grown (length known.now.unit.now.lines) 1 forks.old.items
+        forks.new.items t) }
 {
     let Ok(target) = put_fork(forks, None, targets) else {
         return Err(NoMemory);
@@ -67,7 +68,8 @@ pub(crate) fn to_either(
     requires first { IsWithin (length known.now.unit.now.lines) (length forks.old.items) first }
     requires second { IsWithin (length known.now.unit.now.lines) (length forks.old.items) second }
     ensures fork { IfOk result (λ t. IsForkTo forks.new.items t None (first ∷ second ∷ [])) }
-    ensures grown { IfOk result (λ t. Grown (length known.now.unit.now.lines) 1 forks.old.items forks.new.items t) }
+    ensures grown { IfOk result (λ t. Grown (length known.now.unit.now.lines) 1 forks.old.items
+        forks.new.items t) }
 {
     let targets = two(alloc, first, second)?;
     let Ok(target) = to_any(known, forks, targets) else {
@@ -107,8 +109,10 @@ fn to_labels(
 ) -> Result<Target, NoMemory>
     requires known { IsKnown known.now forks.old.items }
     requires room { length forks.old.items < 4294967296 }
-    ensures fork { IfOk result (λ t. IsForkTo forks.new.items t None (points_of_labels known.now.unit.now labels.now)) }
-    ensures grown { IfOk result (λ t. Grown (length known.now.unit.now.lines) 1 forks.old.items forks.new.items t) }
+    ensures fork { IfOk result (λ t. IsForkTo forks.new.items t None
+        (points_of_labels known.now.unit.now labels.now)) }
+    ensures grown { IfOk result (λ t. Grown (length known.now.unit.now.lines) 1 forks.old.items
+        forks.new.items t) }
 {
     let targets = points(alloc, known, labels)?;
     let Ok(target) = to_any(known, forks, List::from_vec(targets)) else {
@@ -128,8 +132,10 @@ fn to_labels_or_on(
     requires known { IsKnown known.now forks.old.items }
     requires room { length forks.old.items < 4294967296 }
     requires at { at < length known.now.unit.now.lines }
-    ensures fork { IfOk result (λ t. IsForkOn known.now.unit.now forks.new.items at (points_of_labels known.now.unit.now labels.now) t) }
-    ensures grown { IfOk result (λ t. Grown (length known.now.unit.now.lines) 1 forks.old.items forks.new.items t) }
+    ensures fork { IfOk result (λ t. IsForkOn known.now.unit.now forks.new.items at
+        (points_of_labels known.now.unit.now labels.now) t) }
+    ensures grown { IfOk result (λ t. Grown (length known.now.unit.now.lines) 1 forks.old.items
+        forks.new.items t) }
 {
     let mut targets = points(alloc, known, labels)?;
     let on = on_behind(known, forks, at);
@@ -153,8 +159,10 @@ fn computed(
     requires known { IsKnown known.now forks.old.items }
     requires room { length forks.old.items < 4294967296 }
     requires at { at < length known.now.unit.now.lines }
-    ensures target { IfOk result (λ t. IsComputedTarget known.now.dialect known.now.unit.now forks.new.items at labels.now t) }
-    ensures grown { IfOk result (λ t. Grown (length known.now.unit.now.lines) 1 forks.old.items forks.new.items t) }
+    ensures target { IfOk result (λ t. IsComputedTarget known.now.dialect known.now.unit.now
+        forks.new.items at labels.now t) }
+    ensures grown { IfOk result (λ t. Grown (length known.now.unit.now.lines) 1 forks.old.items
+        forks.new.items t) }
 {
     match known.dialect {
         Dialect::Common => to_labels(alloc, known, forks, labels),
@@ -174,8 +182,10 @@ pub(crate) fn plain(
     requires room { length forks.old.items < 4294967296 }
     requires at { at < length known.now.unit.now.lines }
     requires carried { is_carried stmt.now ≡ true }
-    ensures target { IfOk result (λ t. IsTargetOf known.now.dialect known.now.unit.now forks.new.items at stmt.now t) }
-    ensures grown { IfOk result (λ t. Grown (length known.now.unit.now.lines) 1 forks.old.items forks.new.items t) }
+    ensures target { IfOk result (λ t. IsTargetOf known.now.dialect known.now.unit.now
+        forks.new.items at stmt.now t) }
+    ensures grown { IfOk result (λ t. Grown (length known.now.unit.now.lines) 1 forks.old.items
+        forks.new.items t) }
 {
     match stmt {
         Stmt::Computed(labels, _) => computed(alloc, known, forks, at, labels.as_slice()),
@@ -201,8 +211,10 @@ pub(crate) fn logical(
     requires room { length forks.old.items + 1 < 4294967296 }
     requires at { at < length known.now.unit.now.lines }
     requires carried { is_carried stmt.now ≡ true }
-    ensures target { IfOk result (λ t. IsLogicalTarget known.now.dialect known.now.unit.now forks.new.items at stmt.now t) }
-    ensures grown { IfOk result (λ t. Grown (length known.now.unit.now.lines) 2 forks.old.items forks.new.items t) }
+    ensures target { IfOk result (λ t. IsLogicalTarget known.now.dialect known.now.unit.now
+        forks.new.items at stmt.now t) }
+    ensures grown { IfOk result (λ t. Grown (length known.now.unit.now.lines) 2 forks.old.items
+        forks.new.items t) }
 {
     let then = plain(alloc, known, forks, at, stmt)?;
     let on = on_behind(known, forks, at);

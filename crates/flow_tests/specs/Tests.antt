@@ -50,6 +50,7 @@ pub record AreChains (u : Routine) (count : ℕ) (forks : List Fork) (behind ove
   pub over_long : length over ≡ count
   pub few : length forks ≤ count
   pub falling : AreFalling (length u.lines) forks
-  pub tests : (q : ℕ) (t : Target) → slice_get behind q ≡ Some t → AreTestsOfFirst u count forks q t × IsWithin (length u.lines) (length forks) t
+  pub tests : (q : ℕ) (t : Target) → slice_get behind q ≡ Some t → AreTestsOfFirst u count forks q t
+      × IsWithin (length u.lines) (length forks) t
   pub overs : (q : ℕ) (t : Target) (line : Line) → slice_get over q ≡ Some t → slice_get u.lines q ≡ Some line
       → IsOver u forks q (do_label line.stmt) t × IsWithin (length u.lines) (length forks) t

@@ -68,9 +68,12 @@ impl Chains {
         requires flowing { IsFlowing unit.now }
         requires at { at < length unit.now.lines }
         requires last { last < length unit.now.lines }
-        requires label { (line : Line) → slice_get unit.now.lines at ≡ Some line → LeadsTo unit.now (do_label line.stmt) last }
-        requires chains { AreChains unit.now at self.old.forks.items self.old.behind.items self.old.over.items }
-        ensures { OnOk result (AreChains unit.now (suc at) self.new.forks.items self.new.behind.items self.new.over.items) }
+        requires label { (line : Line) → slice_get unit.now.lines at ≡ Some line
+            → LeadsTo unit.now (do_label line.stmt) last }
+        requires chains { AreChains unit.now at self.old.forks.items self.old.behind.items
+            self.old.over.items }
+        ensures { OnOk result (AreChains unit.now (suc at) self.new.forks.items
+            self.new.behind.items self.new.over.items) }
     {
         let over = target_at(self.behind.as_slice(), last);
         let targets = two(alloc, Target::Point((at + 1) as u32), over)?;
@@ -86,8 +89,10 @@ impl Chains {
     fn skip(&mut self, unit: &Unit, at: usize) -> Result<(), NoMemory>
         requires at { at < length unit.now.lines }
         requires label { (line : Line) → slice_get unit.now.lines at ≡ Some line → do_label line.stmt ≡ None }
-        requires chains { AreChains unit.now at self.old.forks.items self.old.behind.items self.old.over.items }
-        ensures { OnOk result (AreChains unit.now (suc at) self.new.forks.items self.new.behind.items self.new.over.items) }
+        requires chains { AreChains unit.now at self.old.forks.items self.old.behind.items
+            self.old.over.items }
+        ensures { OnOk result (AreChains unit.now (suc at) self.new.forks.items
+            self.new.behind.items self.new.over.items) }
     {
         let Ok(()) = self.over.push(Target::Point(0)) else {
             return Err(NoMemory);
@@ -106,8 +111,10 @@ impl Chains {
         requires flowing { IsFlowing unit.now }
         requires labels { AreLabelsOf unit.now.lines labels.now }
         requires at { at < length unit.now.lines }
-        requires chains { AreChains unit.now at self.old.forks.items self.old.behind.items self.old.over.items }
-        ensures { OnOk result (AreChains unit.now (suc at) self.new.forks.items self.new.behind.items self.new.over.items) }
+        requires chains { AreChains unit.now at self.old.forks.items self.old.behind.items
+            self.old.over.items }
+        ensures { OnOk result (AreChains unit.now (suc at) self.new.forks.items
+            self.new.behind.items self.new.over.items) }
     {
         match do_label(unit, at) {
             Some(label) => self.put(alloc, unit, at, labels.point(label)),
@@ -137,7 +144,8 @@ pub fn chains_of(
     requires flowing { IsFlowing unit.now }
     requires labels { AreLabelsOf unit.now.lines labels.now }
     requires turns { AreTurnsOf unit.now turns.now }
-    ensures { IfOk result (λ c. AreChains unit.now (length unit.now.lines) c.forks.items c.behind.items c.over.items) }
+    ensures { IfOk result (λ c. AreChains unit.now (length unit.now.lines) c.forks.items
+        c.behind.items c.over.items) }
 {
     let mut chains = Chains::new(alloc, unit, turns)?;
     for at in 0..unit.lines.as_slice().len() {

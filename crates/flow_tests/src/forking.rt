@@ -38,7 +38,9 @@ pub fn put_fork(
 ) -> Result<Target, NoMemory>
     requires few { length forks.old.items < 4294967296 }
     ensures fork { IfOk result (λ t. IsForkTo forks.new.items t tested targets) }
-    ensures grown { IfOk result (λ t. (size : ℕ) → AreFalling size forks.old.items → AreWithin size (length forks.old.items) targets → Grown size 1 forks.old.items forks.new.items t) }
+    ensures grown { IfOk result (λ t. (size : ℕ) → AreFalling size forks.old.items
+        → AreWithin size (length forks.old.items) targets
+        → Grown size 1 forks.old.items forks.new.items t) }
 {
     let number = forks.len() as u32;
     let Ok(()) = forks.push(Fork { tested, targets }) else {

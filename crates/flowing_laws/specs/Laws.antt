@@ -7,6 +7,8 @@ use Rattle.fort_model.specs.Ranges.{has_bad_last}
 use Rattle.fort_model.specs.Rules.{at_lines}
 use Rattle.flow_tests.specs.Tests.{IsFlowing}
 
--- a unit that is well formed and keeps rule 26, on the last statements of DOs, has a flow; its statements are few enough to be numbered
+-- a unit that is well formed and keeps rule 26, on the last statements of DOs, has a flow; its statements are
+-- few enough to be numbered
 abbrev pub UnitsFlow : Type 0
-UnitsFlow = (dialect : Dialect) (u : Routine) → IsWellFormedUnit dialect u → at_lines u (has_bad_last u) ≡ [] → length u.lines < 1073741824 → IsFlowing u
+UnitsFlow = (dialect : Dialect) (u : Routine) → IsWellFormedUnit dialect u → at_lines u (has_bad_last u) ≡ []
+    → length u.lines < 1073741824 → IsFlowing u

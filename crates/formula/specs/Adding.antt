@@ -53,7 +53,8 @@ has_one (p ∷ ps) = true
 -- a plain term and a base don't use the definition itself; a step does so only while it counts down
 abbrev pub recurs_well : ℕ → List (List ℕ) → FunctionBody → Bool
 recurs_well k params (plain t) = uses_pass (is_other k) t
-recurs_well k params (counting base step) = has_one params && (uses_pass (is_other k) base && uses_pass (counts_down k params) step)
+recurs_well k params (counting base step) = has_one params && (uses_pass (is_other k) base && uses_pass
+    (counts_down k params) step)
 
 -- each symbol is one of these, and no entry value stands in the term
 abbrev pub has_names_of : List (List ℕ) → Tree → Bool
@@ -95,7 +96,8 @@ AreBodiesIn pool (d ∷ rest) = IsBodyIn pool d.body × AreBodiesIn pool rest
 abbrev pub AreAddedTo : List Node → List Heading → List Definition → Type 0
 AreAddedTo pool earlier [] = Unit {0}
 AreAddedTo pool earlier (d ∷ rest) =
-    (IsBodyIn pool d.body × (adding_fault earlier d.name d.params (body_of pool d.body) ≡ None)) × AreAddedTo pool (earlier ++ heading_of d ∷ []) rest
+    (IsBodyIn pool d.body × (adding_fault earlier d.name d.params (body_of pool d.body) ≡ None))
+        × AreAddedTo pool (earlier ++ heading_of d ∷ []) rest
 
 -- definitions were added, one after another, with this pool
 abbrev pub AreAdded : List Node → List Definition → Type 0
@@ -105,7 +107,8 @@ AreAdded pool ds = AreAddedTo pool [] ds
 abbrev pub AreUsesKnownTo : List Node → List Heading → List Definition → Type 0
 AreUsesKnownTo pool earlier [] = Unit {0}
 AreUsesKnownTo pool earlier (d ∷ rest) =
-    (body_passes (uses_pass (is_headed (earlier ++ heading_of d ∷ []))) (body_of pool d.body) ≡ true) × AreUsesKnownTo pool (earlier ++ heading_of d ∷ []) rest
+    (body_passes (uses_pass (is_headed (earlier ++ heading_of d ∷ []))) (body_of pool d.body) ≡ true)
+        × AreUsesKnownTo pool (earlier ++ heading_of d ∷ []) rest
 
 abbrev pub AreUsesKnown : List Node → List Definition → Type 0
 AreUsesKnown pool ds = AreUsesKnownTo pool [] ds

@@ -29,12 +29,14 @@ abbrev mutual
   Spells named (symbol s) ts = (ts ≡ atom s ∷ []) × (is_symbol s ≡ true)
   Spells named (old s) ts = IsCall named EntryValue (atom s ∷ []) ts × (is_symbol s ≡ true)
   Spells named (apply f row) ts =
-      (arity : Arity) × (args : List Token) × IsCall named (Function f arity) args ts × (fits_count arity (row_count row) ≡ true) × (takes f row ≡ true) × SpellsRow named row args
+      (arity : Arity) × (args : List Token) × IsCall named (Function f arity) args ts
+          × (fits_count arity (row_count row) ≡ true) × (takes f row ≡ true) × SpellsRow named row args
 
   -- the tokens spell the arguments, one behind the other
   pub SpellsRow : (List ℕ → Option Head) → Row → List Token → Type 0
   SpellsRow named none ts = ts ≡ []
-  SpellsRow named (more t rest) ts = (first : List Token) × (others : List Token) × (ts ≡ first ++ others) × Spells named t first × SpellsRow named rest others
+  SpellsRow named (more t rest) ts = (first : List Token) × (others : List Token) × (ts ≡ first ++ others)
+      × Spells named t first × SpellsRow named rest others
 
 abbrev mutual
   -- how many brackets are open at most
@@ -74,4 +76,5 @@ pub record BeginsWith (named : List ℕ → Option Head) (limit : Option ℕ) (a
 
 -- a term is read just where its spelling begins the text, in at most as many brackets as may be open
 abbrev pub ReadingIsTheGrammar : Type 0
-ReadingIsTheGrammar = (named : List ℕ → Option Head) (limit : Option ℕ) (text : List ℕ) (t : Tree) (n : ℕ) → (reads named limit text ≡ got t n) ↔ BeginsWith named limit (tokens text) t n
+ReadingIsTheGrammar = (named : List ℕ → Option Head) (limit : Option ℕ) (text : List ℕ) (t : Tree) (n : ℕ)
+    → (reads named limit text ≡ got t n) ↔ BeginsWith named limit (tokens text) t n

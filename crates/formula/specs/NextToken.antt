@@ -13,4 +13,5 @@ token_of (Atom a) = atom a.now
 
 -- p is the first token behind the first `at` bytes
 abbrev pub IsNext : List ℕ → ℕ → LentLexeme → Type 0
-IsNext text at p = (at < p.after) × (p.after ≤ length text) × (tokens_from at [] (drop at text) ≡ lexeme (token_of p.token) p.after ∷ tokens_from p.after [] (drop p.after text))
+IsNext text at p = (at < p.after) × (p.after ≤ length text) × (tokens_from at [] (drop at text)
+    ≡ lexeme (token_of p.token) p.after ∷ tokens_from p.after [] (drop p.after text))

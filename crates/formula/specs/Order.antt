@@ -14,7 +14,8 @@ abbrev pub IsAscending : List TermId → Type 0
 IsAscending [] = Unit {0}
 IsAscending (id ∷ rest) = All (λ later. id.place < later.place) rest × IsAscending rest
 
--- exactly the ids that are reached from one, in the order of their places, so that arguments stand before the function and the id itself stands last
+-- exactly the ids that are reached from one, in the order of their places, so that arguments stand before the
+-- function and the id itself stands last
 pub record IsOrder (pool : List Node) (top : TermId) (ids : List TermId) : Type 0 where
   pub ascending : IsAscending ids
   pub members : (id : TermId) → Contains ids id ↔ IsReached pool top id

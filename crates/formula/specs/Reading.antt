@@ -17,7 +17,9 @@ use Rattle.formula.specs.Atoms.{same_bytes, is_number, is_long, digits_of, numbe
 -- ---- names of functions
 
 abbrev pub all_built_ins : List Builtin
-all_built_ins = And ∷ Or ∷ Not ∷ Implies ∷ If ∷ Equal ∷ Plus ∷ Difference ∷ Times ∷ Negative ∷ Quotient ∷ Remainder ∷ Absolute ∷ Maximum ∷ Minimum ∷ Less ∷ AtMost ∷ Element ∷ Put ∷ Size ∷ IsDefined ∷ IntegerCell ∷ LogicalCell ∷ IntegerCells ∷ LogicalCells ∷ Undefined ∷ Blank ∷ []
+all_built_ins = And ∷ Or ∷ Not ∷ Implies ∷ If ∷ Equal ∷ Plus ∷ Difference ∷ Times ∷ Negative ∷ Quotient
+    ∷ Remainder ∷ Absolute ∷ Maximum ∷ Minimum ∷ Less ∷ AtMost ∷ Element ∷ Put ∷ Size ∷ IsDefined ∷ IntegerCell
+    ∷ LogicalCell ∷ IntegerCells ∷ LogicalCells ∷ Undefined ∷ Blank ∷ []
 
 -- the first of these functions with that name
 abbrev pub built_in_among : List Builtin → List ℕ → Option Builtin

@@ -125,4 +125,5 @@ is_false_under fs symbols entries hyps goal =
 
 -- a condition is valid: no assignment makes it false
 abbrev pub IsValid : List Function → List Tree → Tree → Type 0
-IsValid fs hyps goal = (assignment : List (List ℕ × Value)) → IsTrue (not (is_false_under fs (assigned assignment) nothing_known hyps goal))
+IsValid fs hyps goal = (assignment : List (List ℕ × Value))
+    → IsTrue (not (is_false_under fs (assigned assignment) nothing_known hyps goal))

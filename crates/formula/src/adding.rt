@@ -32,7 +32,8 @@ fn body_results(
     body: Body,
 ) -> Result<BodyResults, NoMemory>
     requires { IsBodyIn pool.now body }
-    ensures { IfOk result (λ r. r ≡ body_results candidate.now.earlier.now candidate.now.name candidate.now.params.now (body_of pool.now body)) }
+    ensures { IfOk result (λ r. r ≡ body_results candidate.now.earlier.now candidate.now.name
+        candidate.now.params.now (body_of pool.now body)) }
 {
     match body {
         Body::Plain(term) => {
@@ -69,7 +70,8 @@ pub fn fault_of(
 ) -> Result<Option<DefFault>, NoMemory>
     requires body { IsBodyIn pool.now body }
     requires twin { twin ≡ has_twin candidate.now.params.now }
-    ensures { IfOk result (λ f. f ≡ adding_fault candidate.now.earlier.now candidate.now.name candidate.now.params.now (body_of pool.now body)) }
+    ensures { IfOk result (λ f. f ≡ adding_fault candidate.now.earlier.now candidate.now.name
+        candidate.now.params.now (body_of pool.now body)) }
 {
     if head_of(candidate.earlier, None, candidate.name.as_bytes()).is_some() {
         return Ok(Some(DefFault::KnownName));

@@ -15,7 +15,8 @@ pub fn symbol_read(
     atom: &[u8],
 ) -> Result<Turn, ReadFault>
     requires { CallsBelow (length pool.old) «open».old }
-    ensures leads { Leads pool.new result «open».new (symbol_read atom.now (frames_of (trees pool.old) «open».old)) }
+    ensures leads { Leads pool.new result «open».new (symbol_read atom.now
+        (frames_of (trees pool.old) «open».old)) }
     ensures grows { Grows pool.old pool.new }
 {
     if !is_symbol(atom) {
@@ -35,7 +36,8 @@ pub fn atom_read(
     atom: &[u8],
 ) -> Result<Turn, ReadFault>
     requires { CallsBelow (length pool.old) «open».old }
-    ensures leads { Leads pool.new result «open».new (atom_read atom.now (frames_of (trees pool.old) «open».old)) }
+    ensures leads { Leads pool.new result «open».new (atom_read atom.now
+        (frames_of (trees pool.old) «open».old)) }
     ensures grows { Grows pool.old pool.new }
 {
     if is_same(atom, b"T") {

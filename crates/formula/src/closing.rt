@@ -67,7 +67,9 @@ fn entry_closed(
 ) -> Result<Turn, ReadFault>
     requires args { AllBelow (length pool.old) args.now }
     requires open { CallsBelow (length pool.old) «open».old }
-    ensures leads { Leads pool.new result «open».new (entry_closed (trees_in (trees pool.old) args.now) (frames_of (trees pool.old) «open».old)) }
+    ensures leads { Leads pool.new result «open».new
+        (entry_closed (trees_in (trees pool.old) args.now) (frames_of (trees pool.old)
+        «open».old)) }
     ensures grows { Grows pool.old pool.new }
 {
     let Some(id) = single_argument(args) else {
@@ -92,7 +94,8 @@ fn function_closed(
 ) -> Result<Turn, ReadFault>
     requires args { AllBelow (length pool.old) args.items }
     requires open { CallsBelow (length pool.old) «open».old }
-    ensures leads { Leads pool.new result «open».new (closed (Head.Function f arity) (trees_in (trees pool.old) args.items) (frames_of (trees pool.old) «open».old)) }
+    ensures leads { Leads pool.new result «open».new (closed (Head.Function f arity)
+        (trees_in (trees pool.old) args.items) (frames_of (trees pool.old) «open».old)) }
     ensures grows { Grows pool.old pool.new }
 {
     if !arity.fits(args.len()) {

@@ -82,9 +82,12 @@ impl Definitions {
         body: Body,
     ) -> Result<(), DefFault>
         requires { IsBodyIn pool.now body }
-        ensures ok { OnOk result (self.new ≡ self.old ++ (record { name = name; params = params; body = body }) ∷ []) }
-        ensures fits { OnOk result (adding_fault (headings_of self.old) name params (body_of pool.now body) ≡ None) }
-        ensures fault { IfErr result (λ f. f ≢ DefFault.NoMemory → adding_fault (headings_of self.old) name params (body_of pool.now body) ≡ Some f) }
+        ensures ok { OnOk result (self.new ≡ self.old ++
+            (record { name = name; params = params; body = body }) ∷ []) }
+        ensures fits { OnOk result (adding_fault (headings_of self.old) name params
+            (body_of pool.now body) ≡ None) }
+        ensures fault { IfErr result (λ f. f ≢ DefFault.NoMemory
+            → adding_fault (headings_of self.old) name params (body_of pool.now body) ≡ Some f) }
         ensures unchanged { OnErr result (self.new ≡ self.old) }
         ensures added { OnOk result (AreAdded pool.now self.old → AreAdded pool.now self.new) }
     {
@@ -104,7 +107,8 @@ impl Definitions {
         body: Body,
     ) -> Result<Option<DefFault>, NoMemory>
         requires { IsBodyIn pool.now body }
-        ensures { IfOk result (λ f. f ≡ adding_fault (headings_of self.now) name params.now (body_of pool.now body)) }
+        ensures { IfOk result (λ f. f ≡ adding_fault (headings_of self.now) name params.now
+            (body_of pool.now body)) }
     {
         let made = Candidate::new(self.alloc, self.keys, &self.headings, name, params);
         let Ok((candidate, twin)) = made else {
@@ -116,7 +120,8 @@ impl Definitions {
     /// Puts a definition of a name that no other has behind the others.
     fn put(&mut self, name: Word, params: List<Word>, body: Body) -> Result<(), DefFault>
         requires { defined_among 1 (headings_of self.old) name ≡ None }
-        ensures ok { OnOk result (self.new ≡ self.old ++ (record { name = name; params = params; body = body }) ∷ []) }
+        ensures ok { OnOk result (self.new ≡ self.old ++
+            (record { name = name; params = params; body = body }) ∷ []) }
         ensures unchanged { OnErr result (self.new ≡ self.old) }
         ensures memory { IfErr result (λ f. f ≡ DefFault.NoMemory) }
     {

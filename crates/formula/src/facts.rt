@@ -114,7 +114,8 @@ fn node_facts(facts: &[Facts], node: &Node) -> Facts
 pub fn note(facts: &mut Vec<Facts>, node: &Node) -> Result<(), NoMemory>
     requires below { HasArgumentsBelow (length facts.old.items) node.now }
     requires shallow { (told.facts_in facts.old.items node.now).depth < 2 ^ 32 }
-    ensures noted { OnOk result (facts.new.items ≡ facts.old.items ++ told.facts_in facts.old.items node.now ∷ []) }
+    ensures noted { OnOk result (facts.new.items ≡ facts.old.items ++ told.facts_in facts.old.items
+        node.now ∷ []) }
     ensures unchanged { OnErr result (facts.new.items ≡ facts.old.items) }
 {
     let more = node_facts(facts.as_slice(), node);

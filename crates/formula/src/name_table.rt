@@ -43,7 +43,8 @@ impl NameTable {
     /// it is. After a refusal the names are what they were.
     pub fn add(&mut self, name: Word) -> Result<bool, NoMemory>
         ensures new { IfOk result (λ new. new ≡ not (is_among name self.old)) }
-        ensures names { OnOk result (self.new ≡ (if is_among name self.old then self.old else self.old ++ name ∷ [])) }
+        ensures names { OnOk result (self.new ≡ (if is_among name self.old then self.old
+            else self.old ++ name ∷ [])) }
         ensures unchanged { OnErr result (self.new ≡ self.old) }
     {
         let Ok((_, new)) = self.words.insert_full(name) else {

@@ -38,7 +38,9 @@ pub enum Turn {
 /// A term is whole: it is an argument of the innermost bracket, or the answer. The pool grew from
 /// `before` while it was made.
 pub fn given(open: &mut Stack<OpenCall>, id: TermId) -> Result<Turn, ReadFault>
-    ensures { (before pool : List Node) (t : Tree) → Grows before pool → CallsBelow (length before) «open».old → IsIn pool id → tree_of pool id ≡ t → Leads pool result «open».new (given t (frames_of (trees before) «open».old)) }
+    ensures { (before pool : List Node) (t : Tree) → Grows before pool
+        → CallsBelow (length before) «open».old → IsIn pool id → tree_of pool id ≡ t
+        → Leads pool result «open».new (given t (frames_of (trees before) «open».old)) }
 {
     let Some(mut call) = open.pop() else {
         return Ok(Turn::Whole(id));

@@ -14,7 +14,9 @@ use std::alloc::Global;
 #[tactic(auto, using(crate::proofs::Turns::opened_deep, crate::proofs::Turns::opened_room))]
 /// An opening bracket, where no symbol of an OLD is due and at most so many may be open.
 pub fn opened_read(limit: Option<usize>, open: &Stack<OpenCall>) -> Result<Turn, ReadFault>
-    ensures { (pool : List Node) → CallsBelow (length pool) «open».now → wants_symbol (frames_of (trees pool) «open».now) ≡ false → Leads pool result «open».now (opened_read limit (frames_of (trees pool) «open».now)) }
+    ensures { (pool : List Node) → CallsBelow (length pool) «open».now
+        → wants_symbol (frames_of (trees pool) «open».now) ≡ false → Leads pool result «open».now
+        (opened_read limit (frames_of (trees pool) «open».now)) }
 {
     if is_deepest(limit, open.len()) {
         return Err(ReadFault::TooDeep);
@@ -38,7 +40,8 @@ fn head_read(
     open: &mut Stack<OpenCall>,
     head: Option<Head>,
 ) -> Result<Turn, ReadFault>
-    ensures { (pool : List Node) → CallsBelow (length pool) «open».old → Leads pool result «open».new (head_read head (frames_of (trees pool) «open».old)) }
+    ensures { (pool : List Node) → CallsBelow (length pool) «open».old
+        → Leads pool result «open».new (head_read head (frames_of (trees pool) «open».old)) }
 {
     let Some(head) = head else {
         return Err(ReadFault::UnknownFunction);
@@ -59,7 +62,9 @@ pub fn name_read(
     open: &mut Stack<OpenCall>,
     token: Token<'_>,
 ) -> Result<Turn, ReadFault>
-    ensures { (pool : List Node) → CallsBelow (length pool) «open».old → Leads pool result «open».new (name_read (head_named headings.now (option_copied next.entry)) (token_of token.entry) (frames_of (trees pool) «open».old)) }
+    ensures { (pool : List Node) → CallsBelow (length pool) «open».old
+        → Leads pool result «open».new (name_read (head_named headings.now
+        (option_copied next.entry)) (token_of token.entry) (frames_of (trees pool) «open».old)) }
 {
     let Token::Atom(name) = token else {
         return Err(ReadFault::BadAtom);

@@ -52,9 +52,12 @@ fn visit(
 ) -> Result<(), NoMemory>
     requires { IsIn pool.now id }
     ensures found { OnOk result (found.new.items ≡ found.old.items ++ id ∷ []) }
-    ensures waiting { OnOk result (IsPermutation (heap_items waiting.old ++ map (λ a. a.place) (arguments_at pool.now id)) (heap_items waiting.new)) }
-    ensures count { OnOk result (heap_len waiting.new ≡ heap_len waiting.old + length (arguments_at pool.now id)) }
-    ensures heap { OnOk result (IsHeap nat_cmp (heap_items waiting.old) → IsHeap nat_cmp (heap_items waiting.new)) }
+    ensures waiting { OnOk result (IsPermutation (heap_items waiting.old ++ map (λ a. a.place)
+        (arguments_at pool.now id)) (heap_items waiting.new)) }
+    ensures count { OnOk result (heap_len waiting.new ≡ heap_len waiting.old + length
+        (arguments_at pool.now id)) }
+    ensures heap { OnOk result (IsHeap nat_cmp (heap_items waiting.old)
+        → IsHeap nat_cmp (heap_items waiting.new)) }
 {
     if found.push(id).is_err() {
         return Err(NoMemory);
@@ -64,9 +67,11 @@ fn visit(
 
 /// Puts the places of some ids among those that wait.
 fn wait(ids: &[TermId], waiting: &mut BinaryHeap<u32>) -> Result<(), NoMemory>
-    ensures waiting { OnOk result (IsPermutation (heap_items waiting.old ++ map (λ a. a.place) ids.now) (heap_items waiting.new)) }
+    ensures waiting { OnOk result (IsPermutation (heap_items waiting.old ++ map
+        (λ a. a.place) ids.now) (heap_items waiting.new)) }
     ensures count { OnOk result (heap_len waiting.new ≡ heap_len waiting.old + length ids.now) }
-    ensures heap { OnOk result (IsHeap nat_cmp (heap_items waiting.old) → IsHeap nat_cmp (heap_items waiting.new)) }
+    ensures heap { OnOk result (IsHeap nat_cmp (heap_items waiting.old)
+        → IsHeap nat_cmp (heap_items waiting.new)) }
 {
     for id in ids {
         let Ok(()) = waiting.push(id.place) else {

@@ -79,7 +79,8 @@ fn is_that_number(pool: &TermPool, id: TermId, wanted: i128) -> bool
 /// Whether the difference of some arguments is a word less 1.
 fn are_word_and_one(pool: &TermPool, word: Word, args: &[TermId]) -> bool
     requires { AllBelow (length pool.now) args.now }
-    ensures { result ≡ is_one_less word (apply (Func.BuiltIn BuiltIn.Difference) (row_in (trees pool.now) args.now)) }
+    ensures { result ≡ is_one_less word (apply (Func.BuiltIn BuiltIn.Difference)
+        (row_in (trees pool.now) args.now)) }
 {
     let [a, b] = args else {
         return false;
@@ -118,7 +119,9 @@ fn first_is_one_less(pool: &TermPool, params: &[Word], args: &[TermId]) -> bool
 #[tactic(auto, using(crate::proofs::Passes::own_count, crate::proofs::Passes::no_count, crate::proofs::Passes::far_count, crate::proofs::Passes::earlier_count))]
 /// Whether a use has as many arguments as its definition has parameters.
 fn is_right_count(candidate: &Candidate<'_>, k: usize, count: usize) -> bool
-    ensures { (ts : List Tree) (args : List TermId) → length args ≡ count → result ≡ is_headed (candidate.now.earlier.now ++ heading_with candidate.now.name candidate.now.params.now ∷ []) k (row_in ts args) }
+    ensures { (ts : List Tree) (args : List TermId) → length args ≡ count
+        → result ≡ is_headed (candidate.now.earlier.now ++ heading_with candidate.now.name
+        candidate.now.params.now ∷ []) k (row_in ts args) }
 {
     let last = candidate.number();
     if k == last {
@@ -134,7 +137,8 @@ fn is_right_count(candidate: &Candidate<'_>, k: usize, count: usize) -> bool
 /// What the tests say of a use of the definition of number k.
 fn use_results(pool: &TermPool, candidate: &Candidate<'_>, k: usize, args: &[TermId]) -> TestResults
     requires { AllBelow (length pool.now) args.now }
-    ensures { result ≡ use_results candidate.now.earlier.now candidate.now.name candidate.now.params.now k (row_in (trees pool.now) args.now) }
+    ensures { result ≡ use_results candidate.now.earlier.now candidate.now.name
+        candidate.now.params.now k (row_in (trees pool.now) args.now) }
 {
     let own = candidate.number();
     TestResults {
@@ -154,7 +158,8 @@ fn function_results(
     args: &[TermId],
 ) -> TestResults
     requires { AllBelow (length pool.now) args.now }
-    ensures { result ≡ function_results candidate.now.earlier.now candidate.now.name candidate.now.params.now f (row_in (trees pool.now) args.now) }
+    ensures { result ≡ function_results candidate.now.earlier.now candidate.now.name
+        candidate.now.params.now f (row_in (trees pool.now) args.now) }
 {
     match f {
         Func::BuiltIn(_) => names_are_own(true),
@@ -165,7 +170,8 @@ fn function_results(
 /// What the tests say of a term, what stands below its function aside.
 fn top_results(pool: &TermPool, candidate: &Candidate<'_>, id: TermId) -> TestResults
     requires { IsIn pool.now id }
-    ensures { result ≡ top_results candidate.now.earlier.now candidate.now.name candidate.now.params.now (tree_of pool.now id) }
+    ensures { result ≡ top_results candidate.now.earlier.now candidate.now.name
+        candidate.now.params.now (tree_of pool.now id) }
 {
     match pool.node(id) {
         Node::Num(_) | Node::Truth(_) => names_are_own(true),
@@ -184,7 +190,8 @@ pub fn term_results(
     id: TermId,
 ) -> Result<TestResults, NoMemory>
     requires { IsIn pool.now id }
-    ensures { IfOk result (λ r. r ≡ term_results candidate.now.earlier.now candidate.now.name candidate.now.params.now (tree_of pool.now id)) }
+    ensures { IfOk result (λ r. r ≡ term_results candidate.now.earlier.now candidate.now.name
+        candidate.now.params.now (tree_of pool.now id)) }
 {
     prove!(id.index() < pool.count());
     let ids = order_of(alloc, pool, id)?;

@@ -243,7 +243,8 @@ impl TermPool {
         requires a { IsIn self.old a }
         requires takes { IsTrue (takes (Func.BuiltIn f) (more (tree_of self.old a) none)) }
         ensures is_in { IfOk result (λ id. IsIn self.new id) }
-        ensures tree { IfOk result (λ id. tree_of self.new id ≡ apply (Func.BuiltIn f) (more (tree_of self.old a) none)) }
+        ensures tree { IfOk result (λ id. tree_of self.new id ≡ apply (Func.BuiltIn f)
+            (more (tree_of self.old a) none)) }
         ensures unchanged { OnErr result (self.new ≡ self.old) }
         ensures grows { Grows self.old self.new }
     {
@@ -255,9 +256,11 @@ impl TermPool {
     pub fn binary(&mut self, f: BuiltIn, a: TermId, b: TermId) -> Result<TermId, NoMemory>
         requires a { IsIn self.old a }
         requires b { IsIn self.old b }
-        requires takes { IsTrue (takes (Func.BuiltIn f) (more (tree_of self.old a) (more (tree_of self.old b) none))) }
+        requires takes { IsTrue (takes (Func.BuiltIn f) (more (tree_of self.old a)
+            (more (tree_of self.old b) none))) }
         ensures is_in { IfOk result (λ id. IsIn self.new id) }
-        ensures tree { IfOk result (λ id. tree_of self.new id ≡ apply (Func.BuiltIn f) (more (tree_of self.old a) (more (tree_of self.old b) none))) }
+        ensures tree { IfOk result (λ id. tree_of self.new id ≡ apply (Func.BuiltIn f)
+            (more (tree_of self.old a) (more (tree_of self.old b) none))) }
         ensures unchanged { OnErr result (self.new ≡ self.old) }
         ensures grows { Grows self.old self.new }
     {
@@ -276,9 +279,12 @@ impl TermPool {
         requires a { IsIn self.old a }
         requires b { IsIn self.old b }
         requires c { IsIn self.old c }
-        requires takes { IsTrue (takes (Func.BuiltIn f) (more (tree_of self.old a) (more (tree_of self.old b) (more (tree_of self.old c) none)))) }
+        requires takes { IsTrue (takes (Func.BuiltIn f) (more (tree_of self.old a)
+            (more (tree_of self.old b) (more (tree_of self.old c) none)))) }
         ensures is_in { IfOk result (λ id. IsIn self.new id) }
-        ensures tree { IfOk result (λ id. tree_of self.new id ≡ apply (Func.BuiltIn f) (more (tree_of self.old a) (more (tree_of self.old b) (more (tree_of self.old c) none)))) }
+        ensures tree { IfOk result (λ id. tree_of self.new id ≡ apply (Func.BuiltIn f)
+            (more (tree_of self.old a) (more (tree_of self.old b)
+            (more (tree_of self.old c) none)))) }
         ensures unchanged { OnErr result (self.new ≡ self.old) }
         ensures grows { Grows self.old self.new }
     {

@@ -22,7 +22,8 @@ fn symbol_due(
 ) -> Result<Turn, ReadFault>
     requires below { CallsBelow (length pool.old) «open».old }
     requires due { wants_symbol (frames_of (trees pool.old) «open».old) ≡ true }
-    ensures leads { (limit : Option ℕ) → Leads pool.new result «open».new (term_read limit (token_of token.entry) (frames_of (trees pool.old) «open».old)) }
+    ensures leads { (limit : Option ℕ) → Leads pool.new result «open».new
+        (term_read limit (token_of token.entry) (frames_of (trees pool.old) «open».old)) }
     ensures grows { Grows pool.old pool.new }
 {
     let Token::Atom(atom) = token else {
@@ -40,7 +41,8 @@ fn term_due(
 ) -> Result<Turn, ReadFault>
     requires below { CallsBelow (length pool.old) «open».old }
     requires due { wants_symbol (frames_of (trees pool.old) «open».old) ≡ false }
-    ensures leads { Leads pool.new result «open».new (term_read limit (token_of token.entry) (frames_of (trees pool.old) «open».old)) }
+    ensures leads { Leads pool.new result «open».new (term_read limit (token_of token.entry)
+        (frames_of (trees pool.old) «open».old)) }
     ensures grows { Grows pool.old pool.new }
 {
     match token {
@@ -62,7 +64,9 @@ fn token_read(
     token: Token<'_>,
 ) -> Result<Turn, ReadFault>
     requires { Stands pool.old due «open».old }
-    ensures leads { Leads pool.new result «open».new (step (head_named headings.now (option_copied next.entry)) limit (state_of (trees pool.old) due «open».old) (token_of token.entry)) }
+    ensures leads { Leads pool.new result «open».new
+        (step (head_named headings.now (option_copied next.entry)) limit
+        (state_of (trees pool.old) due «open».old) (token_of token.entry)) }
     ensures grows { Grows pool.old pool.new }
 {
     match due {
@@ -84,9 +88,12 @@ pub fn read_term(
     limit: Option<usize>,
     text: &[u8],
 ) -> Result<(TermId, usize), ReadFault>
-    ensures term { IfOk result (λ r. IsIn pool.new r.0 × (reads (head_named headings.now (option_copied next.entry)) limit text.now ≡ got (tree_of pool.new r.0) r.1)) }
+    ensures term { IfOk result (λ r. IsIn pool.new r.0
+        × (reads (head_named headings.now (option_copied next.entry)) limit text.now
+        ≡ got (tree_of pool.new r.0) r.1)) }
     ensures taken { IfOk result (λ r. r.1 ≤ length text.now) }
-    ensures fault { IfErr result (λ f. f ≢ ReadFault.NoMemory → reads (head_named headings.now (option_copied next.entry)) limit text.now ≡ fault f) }
+    ensures fault { IfErr result (λ f. f ≢ ReadFault.NoMemory
+        → reads (head_named headings.now (option_copied next.entry)) limit text.now ≡ fault f) }
     ensures grows { Grows pool.old pool.new }
 {
     let mut open = Stack::new(alloc);

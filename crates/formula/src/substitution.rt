@@ -30,7 +30,8 @@ pub fn substitute(
     requires entries { AreIn pool.old entries.now }
     requires id { IsIn pool.old id }
     ensures is_in { IfOk result (λ r. IsIn pool.new r) }
-    ensures tree { IfOk result (λ r. tree_of pool.new r ≡ under pool.old symbols.now entries.now (tree_of pool.old id)) }
+    ensures tree { IfOk result (λ r. tree_of pool.new r ≡ under pool.old symbols.now entries.now
+        (tree_of pool.old id)) }
     ensures grows { Grows pool.old pool.new }
 {
     let symbols = table_of(alloc, pool.keys(), symbols)?;
@@ -66,7 +67,8 @@ pub fn substitute_names(
     requires entry { AllBelow (length pool.old) entry.now }
     requires id { IsIn pool.old id }
     ensures is_in { IfOk result (λ r. IsIn pool.new r) }
-    ensures tree { IfOk result (λ r. tree_of pool.new r ≡ under_names pool.old names.now now.now entry.now (tree_of pool.old id)) }
+    ensures tree { IfOk result (λ r. tree_of pool.new r ≡ under_names pool.old names.now
+        now.now entry.now (tree_of pool.old id)) }
     ensures grows { Grows pool.old pool.new }
 {
     let by = Replacement {
@@ -93,8 +95,10 @@ struct Listed {
 
 /// The names of some bindings with the terms of their first bindings.
 fn table_of(alloc: Global, keys: Keys, bindings: &[Binding]) -> Result<Listed, NoMemory>
-    ensures terms { IfOk result (λ l. (name : List ℕ) → term_named l.names l.terms.items name ≡ binding_of bindings.now name) }
-    ensures below { IfOk result (λ l. (pool : List Node) → AreIn pool bindings.now → AllBelow (length pool) l.terms.items) }
+    ensures terms { IfOk result (λ l. (name : List ℕ) → term_named l.names l.terms.items name
+        ≡ binding_of bindings.now name) }
+    ensures below { IfOk result (λ l. (pool : List Node) → AreIn pool bindings.now
+        → AllBelow (length pool) l.terms.items) }
 {
     let mut names = NameTable::new(alloc, keys);
     let mut terms = Vec::new(alloc);
@@ -107,7 +111,8 @@ fn table_of(alloc: Global, keys: Keys, bindings: &[Binding]) -> Result<Listed, N
 
 /// Puts the term of a name at the end, where the name is new.
 fn put_new(terms: &mut Vec<TermId>, new: bool, term: TermId) -> Result<(), NoMemory>
-    ensures { OnOk result (terms.new.items ≡ (if new then terms.old.items ++ term ∷ [] else terms.old.items)) }
+    ensures { OnOk result (terms.new.items ≡ (if new then terms.old.items ++ term ∷ []
+        else terms.old.items)) }
 {
     if new {
         let Ok(()) = terms.push(term) else {

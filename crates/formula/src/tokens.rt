@@ -47,7 +47,9 @@ fn atom_end(text: &[u8], start: usize) -> usize
     requires first { is_atom_byte (slice_index_or text.now start 0) ≡ true }
     ensures low { start < result }
     ensures high { result ≤ length text.now }
-    ensures same { tokens_from start [] (drop start text.now) ≡ lexeme (atom (slice_range text.now start result)) result ∷ tokens_from result [] (drop result text.now) }
+    ensures same { tokens_from start [] (drop start text.now) ≡ lexeme
+        (atom (slice_range text.now start result)) result ∷ tokens_from result []
+        (drop result text.now) }
 {
     let mut end = start + 1;
     while end < text.len() && is_atom_byte(text[end]) {

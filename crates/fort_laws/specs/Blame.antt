@@ -29,7 +29,8 @@ use Rattle.fort_laws.specs.Matches.{FirstFails}
 use Rattle.fort_laws.specs.ValidConditions.{Spell}
 
 -- the walk along a path of a unit, from what names hold at the entry, whose first false event is a check of some kind at a card
-pub record FailingPath (p : Processor) (program : Program) (i : ℕ) (u : Routine) (env : Environment) (st : Storage) (kind : Kind) (card : ℕ) : Type 0 where
+pub record FailingPath (p : Processor) (program : Program) (i : ℕ) (u : Routine) (env : Environment)
+    (st : Storage) (kind : Kind) (card : ℕ) : Type 0 where
   pub values : Symbol → Value
   pub stand : StandAtEntry values p u env st
   pub path : Path
@@ -48,26 +49,29 @@ IsAtAssert _ = ⊥
 abbrev pub IsBlamed : Kind → ℕ → Kind → ℕ → Type 0
 IsBlamed kind card found place = ((found ≡ kind) × (place ≡ card)) ⊎ (IsAtAssert found ⊎ (found ≡ InputCheck))
 
-pub record Blamed (p : Processor) (program : Program) (i : ℕ) (u : Routine) (env : Environment) (st : Storage) (kind : Kind) (card : ℕ) : Type 0 where
+pub record Blamed (p : Processor) (program : Program) (i : ℕ) (u : Routine) (env : Environment) (st : Storage)
+    (kind : Kind) (card : ℕ) : Type 0 where
   pub found : Kind
   pub place : ℕ
   pub path : FailingPath p program i u env st found place
   pub why : IsBlamed kind card found place
 
--- Let a run of a unit that is in order err, with notes that fit it and good statements, from a storage that fits, where smashed names
--- lie apart and INPUT is met. Then it is blamed on a check of a path.
+-- Let a run of a unit that is in order err, with notes that fit it and good statements, from a storage that
+-- fits, where smashed names lie apart and INPUT is met. Then it is blamed on a check of a path.
 abbrev pub ErringRunsAreBlamed : Type 0
 ErringRunsAreBlamed =
     (program : Program) (p : Processor) (i : ℕ) (u : Routine) → IsInOrder program p i u → FitsUnit u (notes_of program i)
     → ((env : Environment) → LieApart program.units i u env → AreGood program i u env)
     → (env : Environment) (st : Storage) → IsApart program.units i u env → Fits p u env st
-    → IsMet program.functions p (names_hold u env st cell.Undefined) (names_hold u env st cell.Undefined) (notes_of program i).input
+    → IsMet program.functions p (names_hold u env st cell.Undefined) (names_hold u env st cell.Undefined)
+        (notes_of program i).input
     → (n : ℕ) (kind : Kind) (card : ℕ) (after : Storage) → run p program.units u env st n ≡ Erred kind card after
     → Blamed p program i u env st kind card
 
--- A condition of a unit, of some kind at a card, stands in a list, and is false where words give symbols their values: its hypotheses
--- are all true, and its goal is not.
-pub record FalseCondition (fs : List Function) (list : List ConditionTree) (unit : Name) (values : Symbol → Value) (kind : Kind) (card : ℕ) : Type 0 where
+-- A condition of a unit, of some kind at a card, stands in a list, and is false where words give symbols their
+-- values: its hypotheses are all true, and its goal is not.
+pub record FalseCondition (fs : List Function) (list : List ConditionTree) (unit : Name) (values : Symbol → Value)
+    (kind : Kind) (card : ℕ) : Type 0 where
   pub condition : ConditionTree
   pub among : IsAmong condition list
   pub unit_is : condition.unit ≡ unit
@@ -79,7 +83,8 @@ pub record FalseCondition (fs : List Function) (list : List ConditionTree) (unit
 -- where the walk along a path has a check as its first false event, an exact list has a condition of that check that is false
 abbrev pub FailingPathsHaveFalseConditions : Type 0
 FailingPathsHaveFalseConditions =
-    (program : Program) (list : List ConditionTree) → IsExact program list → (i : ℕ) (u : Routine) → slice_get program.units i ≡ Some u
+    (program : Program) (list : List ConditionTree) → IsExact program list → (i : ℕ) (u : Routine)
+        → slice_get program.units i ≡ Some u
     → (values : Symbol → Value) (path : Path) → IsPath program.dialect u (notes_of program i) path → (kind : Kind) (card : ℕ)
     → FirstFails kind card (walk (sight (of_values program.functions values) program i u) path)
     → FalseCondition program.functions list u.name values kind card

@@ -48,12 +48,15 @@ pub record HasNames (u : Routine) : Type 0 where
   pub function : is_function u ≡ true → (d : DataName) × IsAmong d u.names × (d.name ≡ u.name) × (d.role ≡ OwnValue)
   pub common : (d : DataName) → IsAmong d u.names → d.role ≡ InCommon → d.name ≢ u.name
 
--- a call agrees in types, of actuals and dummies, and of COMMON entities; and no data name of the caller has the called unit's name
+-- a call agrees in types, of actuals and dummies, and of COMMON entities; and no data name of the caller has
+-- the called unit's name
 pub record Agrees {units : List Routine} {i j : ℕ} (c : Calls units i j) : Type 0 where
   pub apart : (d : DataName) → IsAmong d c.caller.names → d.name ≢ c.callee.name
-  pub dummies : (d : DataName) (n : ℕ) (e : Expr) → IsAmong d c.callee.names → slice_get c.callee.dummies n ≡ Some d.name → slice_get c.site.actuals n ≡ Some e
+  pub dummies : (d : DataName) (n : ℕ) (e : Expr) → IsAmong d c.callee.names → slice_get c.callee.dummies n
+      ≡ Some d.name → slice_get c.site.actuals n ≡ Some e
       → same_sort_as d.sort (sort_of_expr c.caller e) ≡ true
-  pub commons : (d e : DataName) → IsAmong d c.callee.names → d.role ≡ InCommon → IsAmong e c.caller.names → e.name ≡ d.name → e.sort ≡ d.sort
+  pub commons : (d e : DataName) → IsAmong d c.callee.names → d.role ≡ InCommon → IsAmong e c.caller.names
+      → e.name ≡ d.name → e.sort ≡ d.sort
 
 -- ---- units that end well
 
@@ -71,13 +74,15 @@ pub record EndsRight (p : Processor) (program : Program) (j : ℕ) (g : Routine)
   pub sorts : (d : DataName) → IsVisible g d → HoldsName p env after d
   pub result : (q : Sort) → g.sort ≡ Some q → (is_defined value ≡ true) × (has_sort p q value ≡ true)
   pub nothing : is_function g ≡ false → value ≡ cell.Undefined
-  pub met : IsMet program.functions p (names_hold g env st cell.Undefined) (names_hold g env after value) (notes_of program j).output
+  pub met : IsMet program.functions p (names_hold g env st cell.Undefined) (names_hold g env after value)
+      (notes_of program j).output
 
 -- from each storage that fits, where smashed names lie apart and INPUT is met, a unit ends well
 abbrev pub IsRight : Processor → Program → ℕ → Routine → Type 0
 IsRight p program j g =
     (env : Environment) (st : Storage) → IsApart program.units j g env → Fits p g env st
-    → IsMet program.functions p (names_hold g env st cell.Undefined) (names_hold g env st cell.Undefined) (notes_of program j).input
+    → IsMet program.functions p (names_hold g env st cell.Undefined) (names_hold g env st cell.Undefined)
+        (notes_of program j).input
     → EndsRight p program j g env st
 
 -- ---- the law
@@ -89,27 +94,33 @@ at_home p program u env = record { processor = p; units = program.units; unit = 
 -- cells of a name that the unit smashes are those of no other name of it
 abbrev pub LieApart : List Routine → ℕ → Routine → Environment → Type 0
 LieApart units i u env =
-    (d e : DataName) → IsAmong d u.names → IsAmong e u.names → Smashes units i d.name → d.name ≢ e.name → (k : ℕ) → IsIn k (env d.name) → IsIn k (env e.name) → ⊥
+    (d e : DataName) → IsAmong d u.names → IsAmong e u.names → Smashes units i d.name → d.name ≢ e.name
+        → (k : ℕ) → IsIn k (env d.name) → IsIn k (env e.name) → ⊥
 
 -- What a call leaves: named values stand for cells; the walk's value of a function is that of the run, of its type; and where the
 -- called unit smashes no name that the caller sees, the storage is as it was.
-pub record Leaves (program : Program) {i j : ℕ} (c : Calls program.units i j) (p : Processor) (env : Environment) (st : Storage) (r : Named Value × Value) (v : Cell) (after : Storage) : Type 0 where
+pub record Leaves (program : Program) {i j : ℕ} (c : Calls program.units i j) (p : Processor) (env : Environment)
+    (st : Storage) (r : Named Value × Value) (v : Cell) (after : Storage) : Type 0 where
   pub stood : Stood p c.caller env (r.0) after
   pub is : IsOf (r.1) v
   pub sorted : (q : Sort) → c.callee.sort ≡ Some q → (is_defined v ≡ true) × (has_sort p q v ≡ true)
   pub kept : ((d : DataName) → IsVisible c.callee d → Smashes program.units j d.name → ⊥) → after ≡ st
 
--- On a processor, in a program whose units and calls are sound and agree: where named values stand for cells, and a called unit is
--- right, the walk and the run of a call match, whichever arguments pass by copy.
+-- On a processor, in a program whose units and calls are sound and agree: where named values stand for cells,
+-- and a called unit is right, the walk and the run of a call match, whichever arguments pass by copy.
 abbrev pub CallsAreMatched : Type 0
 CallsAreMatched =
     (values : Symbol → Value) (program : Program) (p : Processor) (i j : ℕ) (c : Calls program.units i j) (env : Environment)
     → values LeastInteger ≡ Int p.least → values GreatestInteger ≡ Int p.greatest
-    → AreSound program.units → HoldsSmashed program → SharesBlocks program.units → Agrees c → HasNames c.callee → IsRight p program j c.callee → LieApart program.units i c.caller env
+    → AreSound program.units → HoldsSmashed program → SharesBlocks program.units → Agrees c → HasNames c.callee
+        → IsRight p program j c.callee → LieApart program.units i c.caller env
     → (st : Storage) (now : Named Value) → Stood p c.caller env now st
-    → (card k : ℕ) (os : List (Operand Value)) (ts : List Taken) → ArePassed (at_home p program c.caller env) st now c.site.actuals os ts
-    → Matches (Leaves program c p env st) (walk.call (sight (of_values program.functions values) program i c.caller) card (callee_of program.units c.site) now os)
-    (call (run p program.units) env (unit_at program.units (callee_of program.units c.site)) (passed (p.copies c.caller.name k) 1 ts)) st
+    → (card k : ℕ) (os : List (Operand Value)) (ts : List Taken)
+        → ArePassed (at_home p program c.caller env) st now c.site.actuals os ts
+    → Matches (Leaves program c p env st) (walk.call (sight (of_values program.functions values) program i c.caller)
+        card (callee_of program.units c.site) now os)
+    (call (run p program.units) env (unit_at program.units (callee_of program.units c.site))
+        (passed (p.copies c.caller.name k) 1 ts)) st
 
 -- ---- the calls of a unit
 
@@ -124,6 +135,9 @@ abbrev pub UnitCallsMatch : Type 0
 UnitCallsMatch =
     (values : Symbol → Value) (program : Program) (p : Processor) (i : ℕ) (u : Routine) (env : Environment)
     → values LeastInteger ≡ Int p.least → values GreatestInteger ≡ Int p.greatest
-    → AreSound program.units → HoldsSmashed program → SharesBlocks program.units → FunctionsSmashNothing program.units → CallsAreRight p program i → LieApart program.units i u env
-    → ReferencesMatch program.functions values program i (at_home p program u env) (run p program.units) (IsReferenceTo program i u)
-    × CallStatementsMatch program.functions values program i (at_home p program u env) (run p program.units) (IsCallTo program i u)
+    → AreSound program.units → HoldsSmashed program → SharesBlocks program.units
+        → FunctionsSmashNothing program.units → CallsAreRight p program i → LieApart program.units i u env
+    → ReferencesMatch program.functions values program i (at_home p program u env) (run p program.units)
+        (IsReferenceTo program i u)
+    × CallStatementsMatch program.functions values program i (at_home p program u env) (run p program.units)
+        (IsCallTo program i u)

@@ -17,7 +17,8 @@ IsClock parts zs = (length zs ≡ parts) × AreNotNegative zs
 
 -- from a clock one can fall only so often
 pub data FallsOnlySoOften (parts : ℕ) : List ℤ → Type 0 where
-  so_often : {os : List ℤ} → ((ns : List ℤ) → IsClock parts ns → are_below ns os ≡ true → FallsOnlySoOften parts ns) → FallsOnlySoOften parts os
+  so_often : {os : List ℤ} → ((ns : List ℤ) → IsClock parts ns → are_below ns os ≡ true → FallsOnlySoOften parts ns)
+      → FallsOnlySoOften parts os
 
 abbrev pub ClocksFallOnlySoOften : Type 0
 ClocksFallOnlySoOften = (parts : ℕ) (os : List ℤ) → IsClock parts os → FallsOnlySoOften parts os

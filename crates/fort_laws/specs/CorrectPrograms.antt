@@ -11,10 +11,12 @@ use Rattle.fort_model.specs.Smashes.{HoldsSmashed}
 use Rattle.fort_laws.specs.Declared.{AreDeclared}
 use Rattle.fort_laws.specs.StrictPrograms.{CallIsDeclared, IsReady}
 
--- a program that keeps the rules, with its declarations in order and all units ready, and an exact list of conditions that are valid, is
--- totally correct
+-- a program that keeps the rules, with its declarations in order and all units ready, and an exact list of
+-- conditions that are valid, is totally correct
 abbrev pub ProgramsAreCorrect : Type 0
 ProgramsAreCorrect =
-    (program : Program) → KeepsRules program → HoldsSmashed program → AreDeclared program.units → ((i j : ℕ) (c : Calls program.units i j) → CallIsDeclared c)
-    → ((i : ℕ) (u : Routine) → slice_get program.units i ≡ Some u → IsReady program i u) → (list : List ConditionTree) → IsExact program list → AreValid program.functions list
+    (program : Program) → KeepsRules program → HoldsSmashed program → AreDeclared program.units
+        → ((i j : ℕ) (c : Calls program.units i j) → CallIsDeclared c)
+    → ((i : ℕ) (u : Routine) → slice_get program.units i ≡ Some u → IsReady program i u)
+        → (list : List ConditionTree) → IsExact program list → AreValid program.functions list
     → IsTotallyCorrect program

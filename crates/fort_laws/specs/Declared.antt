@@ -36,7 +36,8 @@ pub record IsDeclared (u : Routine) : Type 0 where
 -- calling one, and is a COMMON entity of that of the same size.
 pub record AreDeclared (units : List Routine) : Type 0 where
   pub units_are : (i : ℕ) (u : Routine) → slice_get units i ≡ Some u → IsDeclared u
-  pub actuals : (i j : ℕ) (c : Calls units i j) (n : ℕ) (x : Name) → slice_get c.site.actuals n ≡ Some (Var x) → HasName c.caller x
+  pub actuals : (i j : ℕ) (c : Calls units i j) (n : ℕ) (x : Name) → slice_get c.site.actuals n ≡ Some (Var x)
+      → HasName c.caller x
   pub blocks : SharesBlocks units
   pub commons : (i j : ℕ) (c : Calls units i j) (d : DataName) → IsAmong d c.callee.names → d.role ≡ InCommon
       → (e : DataName) × IsAmong e c.caller.names × (e.name ≡ d.name) × (e.role ≡ InCommon) × (e.dims ≡ d.dims)

@@ -31,27 +31,32 @@ pub record StandAtEntry (values : Symbol → Value) (p : Processor) (u : Routine
   pub entries : (x : Name) → values (AtEntry x) ≡ names_hold u env st cell.Undefined x
 
 -- a run of a unit errs with a check of some kind at a card, at each stock of steps that is enough
-pub record UnitErrs (p : Processor) (program : Program) (u : Routine) (env : Environment) (st : Storage) (kind : Kind) (card : ℕ) : Type 0 where
+pub record UnitErrs (p : Processor) (program : Program) (u : Routine) (env : Environment) (st : Storage)
+    (kind : Kind) (card : ℕ) : Type 0 where
   pub after : Storage
   pub cost : ℕ
   pub errs : (n : ℕ) → run p program.units u env st (cost + n) ≡ Erred kind card after
 
--- There are answers of calls, such that: where along a way from the entry to the next cut point a check of a run error is the first
--- false event, for these answers, it is the error of the run.
-pub record ErrsAsWalksDo (p : Processor) (program : Program) (i : ℕ) (u : Routine) (env : Environment) (st : Storage) : Type 0 where
+-- There are answers of calls, such that: where along a way from the entry to the next cut point a check of a
+-- run error is the first false event, for these answers, it is the error of the run.
+pub record ErrsAsWalksDo (p : Processor) (program : Program) (i : ℕ) (u : Routine) (env : Environment)
+    (st : Storage) : Type 0 where
   pub answers : Answers Value
-  pub errs : (values : Symbol → Value) → StandAtEntry values p u env st → (way : List (List ℕ)) → IsWayIn program.dialect u (notes_of program i) way
-      → (kind : Kind) (card : ℕ) → IsRunError kind → FirstFails kind card (from_entry (sight (of_values program.functions values) program i u) answers way)
+  pub errs : (values : Symbol → Value) → StandAtEntry values p u env st → (way : List (List ℕ))
+      → IsWayIn program.dialect u (notes_of program i) way
+      → (kind : Kind) (card : ℕ) → IsRunError kind → FirstFails kind card
+          (from_entry (sight (of_values program.functions values) program i u) answers way)
       → UnitErrs p program u env st kind card
 
--- a unit that is in order, with notes that fit it and good statements, errs as walks do, from each storage that fits, where smashed
--- names lie apart and INPUT is met
+-- a unit that is in order, with notes that fit it and good statements, errs as walks do, from each storage that
+-- fits, where smashed names lie apart and INPUT is met
 abbrev pub UnitsErrAsWalksDo : Type 0
 UnitsErrAsWalksDo =
     (program : Program) (p : Processor) (i : ℕ) (u : Routine) → IsInOrder program p i u → FitsUnit u (notes_of program i)
     → ((env : Environment) → LieApart program.units i u env → AreGood program i u env)
     → (env : Environment) (st : Storage) → IsApart program.units i u env → Fits p u env st
-    → IsMet program.functions p (names_hold u env st cell.Undefined) (names_hold u env st cell.Undefined) (notes_of program i).input
+    → IsMet program.functions p (names_hold u env st cell.Undefined) (names_hold u env st cell.Undefined)
+        (notes_of program i).input
     → ErrsAsWalksDo p program i u env st
 
 -- For such a unit, let walks along a path from the entry have a check of a run error as their first false event, whatever calls
@@ -61,7 +66,9 @@ FailingPathsErr =
     (program : Program) (p : Processor) (i : ℕ) (u : Routine) → IsInOrder program p i u → FitsUnit u (notes_of program i)
     → ((env : Environment) → LieApart program.units i u env → AreGood program i u env)
     → (env : Environment) (st : Storage) → IsApart program.units i u env → Fits p u env st
-    → IsMet program.functions p (names_hold u env st cell.Undefined) (names_hold u env st cell.Undefined) (notes_of program i).input
+    → IsMet program.functions p (names_hold u env st cell.Undefined) (names_hold u env st cell.Undefined)
+        (notes_of program i).input
     → (way : List (List ℕ)) → IsWayIn program.dialect u (notes_of program i) way → (kind : Kind) (card : ℕ) → IsRunError kind
-    → ((values : Symbol → Value) → StandAtEntry values p u env st → FirstFails kind card (walk (sight (of_values program.functions values) program i u) (record { start = 0; choices = way })))
+    → ((values : Symbol → Value) → StandAtEntry values p u env st → FirstFails kind card
+        (walk (sight (of_values program.functions values) program i u) (record { start = 0; choices = way })))
     → UnitErrs p program u env st kind card

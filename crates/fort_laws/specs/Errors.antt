@@ -61,7 +61,8 @@ IsCut (AtAssert a) = Unit {0}
 module _ (fs : List Function) (values : Symbol → Value) (program : Program) (i : ℕ) (s : Scene) where
   -- A run from a point, where names stand for `now`, comes to the cut point that a way leads to, and goes on from there as if it
   -- began there. All that the walk meets before its arrival is true. Named values stand for cells there.
-  pub record Comes (clock : Option (List Value)) (pc : ℕ) (now : Named Value) (st : Storage) (answers : Answers Value) (way : List (List ℕ)) : Type 0 where
+  pub record Comes (clock : Option (List Value)) (pc : ℕ) (now : Named Value) (st : Storage)
+      (answers : Answers Value) (way : List (List ℕ)) : Type 0 where
     pub point : ℕ
     pub card : ℕ
     pub next : Named Value
@@ -70,22 +71,31 @@ module _ (fs : List Function) (values : Symbol → Value) (program : Program) (i
     pub used : 1 ≤ cost
     pub before : List (Event Value)
     pub cut : IsCut (cut_at s.unit (notes_of program i) point)
-    pub walk_is : walk_from (seen fs values program i s) clock pc now answers way ≡ before ++ arrive (seen fs values program i s) clock card (cut_at s.unit (notes_of program i) point) next []
+    pub walk_is : walk_from (seen fs values program i s) clock pc now answers way ≡ before ++ arrive
+        (seen fs values program i s) clock card (cut_at s.unit (notes_of program i) point) next []
     pub before_true : AllTrue before
-    pub runs : (n : ℕ) → run_from s.processor s.units s.unit s.environment pc st (cost + n) ≡ run_from s.processor s.units s.unit s.environment point after n
-    pub ends : cut_at s.unit (notes_of program i) point ≡ AtEnd → (n : ℕ) → run_from s.processor s.units s.unit s.environment pc st (cost + n) ≡ Ended tt after n
+    pub runs : (n : ℕ) → run_from s.processor s.units s.unit s.environment pc st (cost + n)
+        ≡ run_from s.processor s.units s.unit s.environment point after n
+    pub ends : cut_at s.unit (notes_of program i) point ≡ AtEnd → (n : ℕ)
+        → run_from s.processor s.units s.unit s.environment pc st (cost + n) ≡ Ended tt after n
     pub stood : Stood s.processor s.unit s.environment next after
     pub kept : KeepsUnsmashed fs values program i s next
     pub value : cut_at s.unit (notes_of program i) point ≡ AtEnd → HasValue fs values program i s next
 
-  -- What a run from a point does as the walk along a way says: it arrives, and all that the walk meets is true; it comes to the cut
-  -- point, where one of the checks of the arrival is the first that is false; or the first that is false is another check, and the
-  -- run errs with it, at each stock of steps that is enough. `Errs` says nothing where a called unit's INPUT is false.
-  pub data RunsAs (clock : Option (List Value)) (pc : ℕ) (now : Named Value) (st : Storage) (answers : Answers Value) (way : List (List ℕ)) : Type 0 where
-    arrives : Comes clock pc now st answers way → AllTrue (walk_from (seen fs values program i s) clock pc now answers way) → RunsAs clock pc now st answers way
+  -- What a run from a point does as the walk along a way says: it arrives, and all that the walk meets is true;
+  -- it comes to the cut point, where one of the checks of the arrival is the first that is false; or the first
+  -- that is false is another check, and the run errs with it, at each stock of steps that is enough. `Errs`
+  -- says nothing where a called unit's INPUT is false.
+  pub data RunsAs (clock : Option (List Value)) (pc : ℕ) (now : Named Value) (st : Storage)
+      (answers : Answers Value) (way : List (List ℕ)) : Type 0 where
+    arrives : Comes clock pc now st answers way
+        → AllTrue (walk_from (seen fs values program i s) clock pc now answers way)
+        → RunsAs clock pc now st answers way
     fails_there : Comes clock pc now st answers way → (kind : Kind) (card : ℕ) → IsOnArrival kind
-        → FirstFails kind card (walk_from (seen fs values program i s) clock pc now answers way) → RunsAs clock pc now st answers way
-    errs_on_way : (kind : Kind) (card : ℕ) → FirstFails kind card (walk_from (seen fs values program i s) clock pc now answers way)
+        → FirstFails kind card (walk_from (seen fs values program i s) clock pc now answers way)
+            → RunsAs clock pc now st answers way
+    errs_on_way : (kind : Kind) (card : ℕ) → FirstFails kind card (walk_from (seen fs values program i s)
+        clock pc now answers way)
         → Errs kind card (run_from s.processor s.units s.unit s.environment pc) st → RunsAs clock pc now st answers way
 
   -- the way that a run goes to the next cut point, and what the calls on it answer
@@ -101,8 +111,8 @@ module _ (fs : List Function) (values : Symbol → Value) (program : Program) (i
     pub cost : ℕ
     pub errs : (n : ℕ) → run_from s.processor s.units s.unit s.environment pc st (cost + n) ≡ Erred kind card after
 
--- A unit of a sound program, on a strict processor of the dialect that has all integers up to the bound. Its calls are of units that
--- end well, and no cycle goes uncut in it.
+-- A unit of a sound program, on a strict processor of the dialect that has all integers up to the bound. Its
+-- calls are of units that end well, and no cycle goes uncut in it.
 pub record IsInOrder (program : Program) (p : Processor) (i : ℕ) (u : Routine) : Type 0 where
   pub strict : p.lazy ≡ false
   pub bounded : MeetsBound p program.bound
@@ -118,10 +128,12 @@ pub record IsInOrder (program : Program) (p : Processor) (i : ℕ) (u : Routine)
 
 -- all statements of a unit are good
 abbrev pub AreGood : Program → ℕ → Routine → Environment → Type 0
-AreGood program i u env = (pc : ℕ) (line : Line) → slice_get u.lines pc ≡ Some line → IsGood u env (IsReferenceTo program i u) (IsCallTo program i u) pc line.stmt
+AreGood program i u env = (pc : ℕ) (line : Line) → slice_get u.lines pc ≡ Some line
+    → IsGood u env (IsReferenceTo program i u) (IsCallTo program i u) pc line.stmt
 
 -- a run of such a unit, all statements of which are good, stands at a statement, and named values stand for cells
-pub record IsUnderWay (values : Symbol → Value) (program : Program) (p : Processor) (i : ℕ) (u : Routine) (env : Environment) (pc : ℕ) (now : Named Value) (st : Storage) : Type 0 where
+pub record IsUnderWay (values : Symbol → Value) (program : Program) (p : Processor) (i : ℕ) (u : Routine)
+    (env : Environment) (pc : ℕ) (now : Named Value) (st : Storage) : Type 0 where
   pub order : IsInOrder program p i u
   pub least : values LeastInteger ≡ Int p.least
   pub greatest : values GreatestInteger ≡ Int p.greatest
@@ -135,7 +147,8 @@ pub record IsUnderWay (values : Symbol → Value) (program : Program) (p : Proce
 -- two lists of choices by which a statement leads on, all events of which are true for the same answers of calls, are one
 abbrev pub ChoicesAreDecided : Type 0
 ChoicesAreDecided =
-    (fs : List Function) (values : Symbol → Value) (program : Program) (i : ℕ) (u : Routine) (stmt : Stmt) (card pc : ℕ) (now : Named Value) (answers : Answers Value) (cs ks : List ℕ) (q p : ℕ)
+    (fs : List Function) (values : Symbol → Value) (program : Program) (i : ℕ) (u : Routine) (stmt : Stmt)
+        (card pc : ℕ) (now : Named Value) (answers : Answers Value) (cs ks : List ℕ) (q p : ℕ)
     → leads program.dialect u pc stmt cs ≡ Some q → leads program.dialect u pc stmt ks ≡ Some p
     → AllTrue (performed (sight (of_values fs values) program i u) card pc now stmt cs answers).events
     → AllTrue (performed (sight (of_values fs values) program i u) card pc now stmt ks answers).events → cs ≡ ks
@@ -143,24 +156,31 @@ ChoicesAreDecided =
 -- a run goes a way, for some answers of calls
 abbrev pub RunsArriveOrErr : Type 0
 RunsArriveOrErr =
-    (values : Symbol → Value) (program : Program) (p : Processor) (i : ℕ) (u : Routine) (env : Environment) (clock : Option (List Value)) (pc : ℕ) (now : Named Value) (st : Storage)
+    (values : Symbol → Value) (program : Program) (p : Processor) (i : ℕ) (u : Routine) (env : Environment)
+        (clock : Option (List Value)) (pc : ℕ) (now : Named Value) (st : Storage)
     → IsUnderWay values program p i u env pc now st
     → GoesAWay program.functions values program i (at_home p program u env) clock pc now st
 
--- Let a run go a way, for some answers of calls. If along any way, for the same answers, a check of a run error is the first false
--- event, then this is the error of the run. Nothing else is told of these answers: `RunsArriveOrErr` finds some.
+-- Let a run go a way, for some answers of calls. If along any way, for the same answers, a check of a run error
+-- is the first false event, then this is the error of the run. Nothing else is told of these answers:
+-- `RunsArriveOrErr` finds some.
 abbrev pub ErrorsAreThoseOfWalks : Type 0
 ErrorsAreThoseOfWalks =
-    (fs : List Function) (values : Symbol → Value) (program : Program) (i : ℕ) (s : Scene) (clock : Option (List Value)) (pc : ℕ) (now : Named Value) (st : Storage)
-    → (own : GoesAWay fs values program i s clock pc now st) → (way : List (List ℕ)) → IsWay program.dialect s.unit (notes_of program i) pc way
-    → (kind : Kind) (card : ℕ) → IsRunError kind → FirstFails kind card (walk_from (seen fs values program i s) clock pc now own.answers way)
+    (fs : List Function) (values : Symbol → Value) (program : Program) (i : ℕ) (s : Scene)
+        (clock : Option (List Value)) (pc : ℕ) (now : Named Value) (st : Storage)
+    → (own : GoesAWay fs values program i s clock pc now st) → (way : List (List ℕ))
+        → IsWay program.dialect s.unit (notes_of program i) pc way
+    → (kind : Kind) (card : ℕ) → IsRunError kind → FirstFails kind card
+        (walk_from (seen fs values program i s) clock pc now own.answers way)
     → RunErrs fs values program i s kind card pc st
 
 -- if along a way, whatever calls answer, a check of a run error is the first false event, then it is the error of the run
 abbrev pub RunsErrWhateverCallsAnswer : Type 0
 RunsErrWhateverCallsAnswer =
-    (values : Symbol → Value) (program : Program) (p : Processor) (i : ℕ) (u : Routine) (env : Environment) (clock : Option (List Value)) (pc : ℕ) (now : Named Value) (st : Storage)
+    (values : Symbol → Value) (program : Program) (p : Processor) (i : ℕ) (u : Routine) (env : Environment)
+        (clock : Option (List Value)) (pc : ℕ) (now : Named Value) (st : Storage)
     → IsUnderWay values program p i u env pc now st
     → (way : List (List ℕ)) → IsWay program.dialect u (notes_of program i) pc way → (kind : Kind) (card : ℕ) → IsRunError kind
-    → ((answers : Answers Value) → FirstFails kind card (walk_from (seen program.functions values program i (at_home p program u env)) clock pc now answers way))
+    → ((answers : Answers Value) → FirstFails kind card (walk_from (seen program.functions values program i
+        (at_home p program u env)) clock pc now answers way))
     → RunErrs program.functions values program i (at_home p program u env) kind card pc st

@@ -15,4 +15,5 @@ ConditionsAreExact = (p : Program) (paths : List (List Path)) → AreAllPaths p 
 -- the kinds and cards of the checks of a walk don't depend on values
 abbrev pub ChecksDoNotDependOnValues : Type 0
 ChecksDoNotDependOnValues =
-    (p : Program) (i : ℕ) (u : Routine) (values : Symbol → Value) (path : Path) → labels (walked_by p i u values path) ≡ checks_of p i u path
+    (p : Program) (i : ℕ) (u : Routine) (values : Symbol → Value) (path : Path)
+        → labels (walked_by p i u values path) ≡ checks_of p i u path

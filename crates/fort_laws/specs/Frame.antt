@@ -77,15 +77,19 @@ pub record HasActual {units : List Routine} {i j : ℕ} (c : Calls units i j) (d
 -- How a call passes what the called unit smashes: the actual of a dummy that it smashes is a bare name, which stands in no other
 -- actual and is no COMMON entity of both units; no actual contains a COMMON entity that it smashes.
 pub record PassesSmashedAlone {units : List Routine} {i j : ℕ} (c : Calls units i j) : Type 0 where
-  pub bare : (n : ℕ) (d : Name) (e : Expr) → slice_get c.callee.dummies n ≡ Some d → Smashes units j d → slice_get c.site.actuals n ≡ Some e → (x : Name) × (e ≡ Var x)
-  pub once : (m n : ℕ) (d x : Name) (e : Expr) → m ≢ n → slice_get c.callee.dummies n ≡ Some d → Smashes units j d → slice_get c.site.actuals n ≡ Some (Var x)
+  pub bare : (n : ℕ) (d : Name) (e : Expr) → slice_get c.callee.dummies n ≡ Some d → Smashes units j d
+      → slice_get c.site.actuals n ≡ Some e → (x : Name) × (e ≡ Var x)
+  pub once : (m n : ℕ) (d x : Name) (e : Expr) → m ≢ n → slice_get c.callee.dummies n ≡ Some d → Smashes units j d
+      → slice_get c.site.actuals n ≡ Some (Var x)
       → slice_get c.site.actuals m ≡ Some e → mentions e x ≡ false
-  pub not_shared : (n : ℕ) (d x : Name) → slice_get c.callee.dummies n ≡ Some d → Smashes units j d → slice_get c.site.actuals n ≡ Some (Var x)
+  pub not_shared : (n : ℕ) (d x : Name) → slice_get c.callee.dummies n ≡ Some d → Smashes units j d
+      → slice_get c.site.actuals n ≡ Some (Var x)
       → has_common c.caller x ≡ true → has_common c.callee x ≡ true → ⊥
-  pub no_common : (n : ℕ) (x : Name) (e : Expr) → has_common c.callee x ≡ true → Smashes units j x → slice_get c.site.actuals n ≡ Some e → mentions e x ≡ false
+  pub no_common : (n : ℕ) (x : Name) (e : Expr) → has_common c.callee x ≡ true → Smashes units j x
+      → slice_get c.site.actuals n ≡ Some e → mentions e x ≡ false
 
--- A call in a deck: the actuals match the dummies, and a bare name is a data name; each COMMON entity of the called unit is one of
--- the calling unit, of the same size; and the call passes what is smashed alone.
+-- A call in a deck: the actuals match the dummies, and a bare name is a data name; each COMMON entity of the
+-- called unit is one of the calling unit, of the same size; and the call passes what is smashed alone.
 pub record IsSoundCall {units : List Routine} {i j : ℕ} (c : Calls units i j) : Type 0 where
   pub matches : (d : DataName) (n : ℕ) → IsAmong d c.callee.names → slice_get c.callee.dummies n ≡ Some d.name → HasActual c d n
   pub names : (n : ℕ) (x : Name) → slice_get c.site.actuals n ≡ Some (Var x) → HasName c.caller x
@@ -137,21 +141,26 @@ RunsWithoutSmashingChangeNothing =
 -- the cells of all data names of the unit: they lie in the storage, as many as their dimensions say, and those of smashed
 -- names lie apart from all others
 pub record IsPlaced (units : List Routine) (i : ℕ) (u : Routine) (env : Environment) (st : Storage) : Type 0 where
-  pub apart : (d e : DataName) → IsAmong d u.names → IsAmong e u.names → Smashes units i d.name → d.name ≢ e.name → (k : ℕ) → IsIn k (env d.name) → IsIn k (env e.name) → ⊥
+  pub apart : (d e : DataName) → IsAmong d u.names → IsAmong e u.names → Smashes units i d.name → d.name ≢ e.name
+      → (k : ℕ) → IsIn k (env d.name) → IsIn k (env e.name) → ⊥
   pub shapes : (d : DataName) → IsAmong d u.names → HasShape env st d
 
 -- no FUNCTION smashes a dummy or a COMMON entity
 abbrev pub FunctionsSmashNothing : List Routine → Type 0
-FunctionsSmashNothing units = (j : ℕ) (g : Routine) (d : DataName) → slice_get units j ≡ Some g → is_function g ≡ true → IsVisible g d → Smashes units j d.name → ⊥
+FunctionsSmashNothing units = (j : ℕ) (g : Routine) (d : DataName) → slice_get units j ≡ Some g
+    → is_function g ≡ true → IsVisible g d → Smashes units j d.name → ⊥
 
 -- evaluating an expression of a statement changes no cell, whatever the depth of the runs of the FUNCTIONs in it
 abbrev pub EvaluationChangesNothing : Type 0
 EvaluationChangesNothing =
     (units : List Routine) → AreSound units → FunctionsSmashNothing units
-    → (p : Processor) (i : ℕ) (u : Routine) (env : Environment) (st : Storage) → slice_get units i ≡ Some u → IsPlaced units i u env st
-    → (line : Line) (e : Expr) → IsAmong line u.lines → ((site : CallSite) → IsAmong site (sites_in u e) → IsAmong site (sites_of u line.stmt))
+    → (p : Processor) (i : ℕ) (u : Routine) (env : Environment) (st : Storage) → slice_get units i ≡ Some u
+        → IsPlaced units i u env st
+    → (line : Line) (e : Expr) → IsAmong line u.lines → ((site : CallSite) → IsAmong site (sites_in u e)
+        → IsAmong site (sites_of u line.stmt))
     → (depth card k n : ℕ) (v : Cell) (after : Storage) (left : ℕ)
-    → evaluate (record { processor = p; units = units; unit = u; environment = env }) (run_within p units depth) card k e st n ≡ Ended v after left → after ≡ st
+    → evaluate (record { processor = p; units = units; unit = u; environment = env })
+        (run_within p units depth) card k e st n ≡ Ended v after left → after ≡ st
 
 -- ---- what the rules on smashed names give
 

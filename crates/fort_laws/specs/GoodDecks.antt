@@ -30,7 +30,8 @@ BlocksHoldCommons = (dialect : Dialect) (u : Routine) → IsWellFormedUnit diale
 -- the units of a well-formed deck are as declarations make them, where no calling unit lacks a block of the unit that it calls
 abbrev pub WellFormedIsDeclared : Type 0
 WellFormedIsDeclared =
-    (dialect : Dialect) (deck : Deck) (p : Program) → IsWellFormed dialect deck → deck.units ≡ p.units → KeepsRule p BlockMissing → AreDeclared p.units
+    (dialect : Dialect) (deck : Deck) (p : Program) → IsWellFormed dialect deck → deck.units ≡ p.units
+        → KeepsRule p BlockMissing → AreDeclared p.units
 
 -- the calls of a well-formed deck that keeps the rules agree with the units that they are of
 abbrev pub CallsAgree : Type 0
@@ -40,23 +41,27 @@ CallsAgree =
 
 -- ---- statements
 
--- in a well-formed unit of a program that keeps the rules the parts of each statement have the types that their places demand, and its
--- references and CALLs are those of the text
+-- in a well-formed unit of a program that keeps the rules the parts of each statement have the types that their
+-- places demand, and its references and CALLs are those of the text
 abbrev pub StatementsAreTyped : Type 0
 StatementsAreTyped =
-    (dialect : Dialect) (p : Program) (i : ℕ) (u : Routine) → slice_get p.units i ≡ Some u → IsWellFormedUnit dialect u → KeepsRules p
-    → (pc : ℕ) (line : Line) → slice_get u.lines pc ≡ Some line → IsTypedStatement u (IsReferenceTo p i u) (IsCallTo p i u) pc line.stmt
+    (dialect : Dialect) (p : Program) (i : ℕ) (u : Routine) → slice_get p.units i ≡ Some u
+        → IsWellFormedUnit dialect u → KeepsRules p
+    → (pc : ℕ) (line : Line) → slice_get u.lines pc ≡ Some line → IsTypedStatement u (IsReferenceTo p i u)
+        (IsCallTo p i u) pc line.stmt
 
 -- RETURNs alone lead to the end of a well-formed unit of a program that keeps the rules
 abbrev pub EndsAreReturns : Type 0
 EndsAreReturns =
-    (dialect : Dialect) (p : Program) (i : ℕ) (u : Routine) → slice_get p.units i ≡ Some u → IsWellFormedUnit dialect u → KeepsRules p → EndsByReturn p.dialect u
+    (dialect : Dialect) (p : Program) (i : ℕ) (u : Routine) → slice_get p.units i ≡ Some u
+        → IsWellFormedUnit dialect u → KeepsRules p → EndsByReturn p.dialect u
 
 -- ---- decks
 
--- Soundness for decks: the program of a well-formed deck that keeps the rules, whose notes fit, with an exact list of conditions that
--- are valid, is totally correct.
+-- Soundness for decks: the program of a well-formed deck that keeps the rules, whose notes fit, with an exact
+-- list of conditions that are valid, is totally correct.
 abbrev pub DecksAreCorrect : Type 0
 DecksAreCorrect =
-    (dialect : Dialect) (deck : Deck) (p : Program) → IsWellFormed dialect deck → deck.units ≡ p.units → KeepsRules p → HoldsSmashed p → HasFittingNotes p
+    (dialect : Dialect) (deck : Deck) (p : Program) → IsWellFormed dialect deck → deck.units ≡ p.units
+        → KeepsRules p → HoldsSmashed p → HasFittingNotes p
     → (list : List ConditionTree) → IsExact p list → AreValid p.functions list → IsTotallyCorrect p

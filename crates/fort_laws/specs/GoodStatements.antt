@@ -54,7 +54,8 @@ module _ (u : Routine) (env : Environment) where
 
   -- a name of the unit may be written: no cell of it is one of another name, and it is no dimension
   pub record MayBeWritten (x : Name) : Type 0 where
-    pub apart : (y : Name) (d : DataName) → data_name u y ≡ Some d → same_bytes x y ≡ false → (k : ℕ) → IsIn k (env x) → IsIn k (env y) → ⊥
+    pub apart : (y : Name) (d : DataName) → data_name u y ≡ Some d → same_bytes x y ≡ false → (k : ℕ)
+        → IsIn k (env x) → IsIn k (env y) → ⊥
     pub no_dim : (y : Name) (d : DataName) → data_name u y ≡ Some d → DimsAreOther x d.dims
 
   -- each adjustable dimension of a name is a scalar of the unit
@@ -97,7 +98,8 @@ AreGoodLoops u env (d ∷ ds) = IsGoodLoop u env d × AreGoodLoops u env ds
 
 -- ---- statements
 
-module _ (u : Routine) (env : Environment) (IsReference : Sort → Name → List Expr → Type 0) (IsCall : Name → List Expr → Type 0) where
+module _ (u : Routine) (env : Environment) (IsReference : Sort → Name → List Expr → Type 0)
+    (IsCall : Name → List Expr → Type 0) where
   -- the left side of an assignment: a scalar or an element of a type, whose name may be written
   pub record IsGoodElement (q : Sort) (a : Name) {m : Count} (args : Row_of-Expr m) : Type 0 where
     pub dim : Dim
@@ -134,7 +136,8 @@ module _ (u : Routine) (env : Environment) (IsReference : Sort → Name → List
   IsGood pc (ArithIf e l m n) = IsTyped u IsReference Integer e
   IsGood pc (LogicalIf' e _ (carried b)) = IsTyped u IsReference Logical e × HasGoodLoops pc × IsExecutable b × IsGood pc b
   IsGood pc (Do l x first last by) =
-      IsScalar u Integer x × MayBeWritten u env x × IsParameter u first × IsParameter u last × IsStep u by × AreGoodLoops u env (loops_around u (target u.lines l) pc)
+      IsScalar u Integer x × MayBeWritten u env x × IsParameter u first × IsParameter u last × IsStep u by
+          × AreGoodLoops u env (loops_around u (target u.lines l) pc)
   IsGood pc Continue = HasGoodLoops pc
   IsGood pc (Call g args) = IsCall g args × AreActual u IsReference (row_of args) × HasGoodLoops pc
   IsGood pc Return = HasResult (is_function u)
@@ -151,28 +154,33 @@ module _ (fs : List Function) (values : Symbol → Value) (program : Program) (i
   abbrev pub CallStatementsMatch : (Name → List Expr → Type 0) → Type 0
   CallStatementsMatch IsCall =
       (st : Storage) (now : Named Value) → Stood s.processor s.unit s.environment now st
-      → (card k : ℕ) (g : Name) (args : List Expr) (xs : List (Operand Value)) (ts : List Taken) → IsCall g args → ArePassed s st now args xs ts
-      → Matches (λ r c after. Stood s.processor s.unit s.environment (r.0) after) (walk.call (sight (of_values fs values) program i s.unit) card (subroutine program.units g) now xs)
+      → (card k : ℕ) (g : Name) (args : List Expr) (xs : List (Operand Value)) (ts : List Taken) → IsCall g args
+          → ArePassed s st now args xs ts
+      → Matches (λ r c after. Stood s.processor s.unit s.environment (r.0) after)
+          (walk.call (sight (of_values fs values) program i s.unit) card (subroutine program.units g) now xs)
       (call caller s.environment (unit_at s.units (subroutine s.units g)) (passed (s.processor.copies s.unit.name k) 1 ts)) st
 
   abbrev pub ReferencesMatch : (Sort → Name → List Expr → Type 0) → Type 0
-  ReferencesMatch IsReference = (st : Storage) (now : Named Value) → Stood s.processor s.unit s.environment now st → CallsMatch fs values program i s caller st now IsReference
+  ReferencesMatch IsReference = (st : Storage) (now : Named Value) → Stood s.processor s.unit s.environment now st
+      → CallsMatch fs values program i s caller st now IsReference
 
   -- a statement at a point, by choices that lead on
   abbrev pub StatementsStep : (Sort → Name → List Expr → Type 0) → (Name → List Expr → Type 0) → Type 0
   StatementsStep IsReference IsCall =
       (st : Storage) (now : Named Value) → Stood s.processor s.unit s.environment now st
       → (stmt : Stmt) (card pc k : ℕ) → IsGood s.unit s.environment IsReference IsCall pc stmt
-      → StepMatches (λ (cs : List ℕ). cs) (leads s.processor.dialect s.unit pc stmt) (λ cs. performed (sight (of_values fs values) program i s.unit) card pc now stmt cs)
+      → StepMatches (λ (cs : List ℕ). cs) (leads s.processor.dialect s.unit pc stmt)
+          (λ cs. performed (sight (of_values fs values) program i s.unit) card pc now stmt cs)
       (perform s caller card pc k stmt) (Stood s.processor s.unit s.environment) st
 
--- On a strict processor of the program's dialect that has all integers up to the bound, where named values stand for cells and calls
--- match, all statements do.
+-- On a strict processor of the program's dialect that has all integers up to the bound, where named values
+-- stand for cells and calls match, all statements do.
 abbrev pub StatementsMatch : Type 0
 StatementsMatch =
     (fs : List Function) (values : Symbol → Value) (program : Program) (i : ℕ) (s : Scene) (caller : Caller)
     → values LeastInteger ≡ Int s.processor.least → values GreatestInteger ≡ Int s.processor.greatest → s.processor.lazy ≡ false
     → MeetsBound s.processor program.bound
     → s.processor.dialect ≡ program.dialect → HasScalarDims s.unit s.environment
-    → ReferencesMatch fs values program i s caller (IsReferenceTo program i s.unit) → CallStatementsMatch fs values program i s caller (IsCallTo program i s.unit)
+    → ReferencesMatch fs values program i s caller (IsReferenceTo program i s.unit)
+        → CallStatementsMatch fs values program i s caller (IsCallTo program i s.unit)
     → StatementsStep fs values program i s caller (IsReferenceTo program i s.unit) (IsCallTo program i s.unit)

@@ -6,7 +6,9 @@ use Rattle.fort_model.specs.Program.{Program}
 use Rattle.fort_model.specs.Rules.{IsBroken}
 use Rattle.fort_model.specs.Stages.{rules_of_calls}
 
--- the rules of calls are broken alike in programs with the same units, whatever their notes, definitions, bounds, tables and dialects
+-- the rules of calls are broken alike in programs with the same units, whatever their notes, definitions,
+-- bounds, tables and dialects
 abbrev pub CallsAreJudgedByUnits : Type 0
 CallsAreJudgedByUnits =
-    (p q : Program) → p.units ≡ q.units → (rule : Rule) → IsAmong rule rules_of_calls → (i card : ℕ) → IsBroken p rule i card → IsBroken q rule i card
+    (p q : Program) → p.units ≡ q.units → (rule : Rule) → IsAmong rule rules_of_calls → (i card : ℕ)
+        → IsBroken p rule i card → IsBroken q rule i card

@@ -19,7 +19,8 @@ AllTrue (Take v ∷ es) = (holds v ≡ true) × AllTrue es
 -- the first event that is false is a check of this kind and card
 abbrev pub FirstFails : Kind → ℕ → List (Event Value) → Type 0
 FirstFails kind card [] = ⊥
-FirstFails kind card (Check k c v ∷ es) = ((holds v ≡ true) × FirstFails kind card es) ⊎ ((holds v ≡ false) × (k ≡ kind) × (c ≡ card))
+FirstFails kind card (Check k c v ∷ es) = ((holds v ≡ true) × FirstFails kind card es)
+    ⊎ ((holds v ≡ false) × (k ≡ kind) × (c ≡ card))
 FirstFails kind card (Take v ∷ es) = (holds v ≡ true) × FirstFails kind card es
 
 -- a part of a run errs at some cost, with every stock that is enough; nothing is claimed where a callee's INPUT fails
@@ -32,10 +33,13 @@ pub data Errs {B : Type 0} (kind : Kind) (card : ℕ) (act : Act B) (st : Storag
 -- need some answers of calls, which are put in front.
 pub data Matches {A B : Type 0} (Q : A → B → Storage → Type 0) (part : See Value A) (act : Act B) (st : Storage) : Type 0 where
   moves : (pre : Answers Value → Answers Value) (a : A) (b : B) (after : Storage) (cost : ℕ)
-      → ((answers : Answers Value) → AllTrue (part (pre answers)).events) → ((answers : Answers Value) → (part (pre answers)).value ≡ a)
-      → ((answers : Answers Value) → (part (pre answers)).rest ≡ answers) → ((n : ℕ) → act st (cost + n) ≡ Ended b after n) → Q a b after
+      → ((answers : Answers Value) → AllTrue (part (pre answers)).events) → ((answers : Answers Value)
+          → (part (pre answers)).value ≡ a)
+      → ((answers : Answers Value) → (part (pre answers)).rest ≡ answers)
+          → ((n : ℕ) → act st (cost + n) ≡ Ended b after n) → Q a b after
       → Matches Q part act st
-  fails : (pre : Answers Value → Answers Value) (kind : Kind) (card : ℕ) → ((answers : Answers Value) → FirstFails kind card (part (pre answers)).events) → Errs kind card act st
+  fails : (pre : Answers Value → Answers Value) (kind : Kind) (card : ℕ) → ((answers : Answers Value)
+      → FirstFails kind card (part (pre answers)).events) → Errs kind card act st
       → Matches Q part act st
 
 -- the storage stays, and things belong together

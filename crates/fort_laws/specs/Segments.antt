@@ -40,7 +40,8 @@ module _ (fs : List Function) (values : Symbol → Value) (program : Program) (i
 
   -- from a point, where names stand for `now`, no way to the next cut point fails at a check
   abbrev pub IsSafe : Option (List Value) → ℕ → Named Value → Type 0
-  IsSafe clock pc now = (way : List (List ℕ)) (answers : Answers Value) → IsWay program.dialect s.unit (notes_of program i) pc way → NoCheckFails (walk_from seen clock pc now answers way)
+  IsSafe clock pc now = (way : List (List ℕ)) (answers : Answers Value) → IsWay program.dialect s.unit
+      (notes_of program i) pc way → NoCheckFails (walk_from seen clock pc now answers way)
 
   -- names that the unit does not smash stand for what they stood for at the entry
   abbrev pub KeepsUnsmashed : Named Value → Type 0
@@ -56,14 +57,19 @@ module _ (fs : List Function) (values : Symbol → Value) (program : Program) (i
   abbrev pub HasValue : Named Value → Type 0
   HasValue now = EndsByReturn program.dialect s.unit → is_function s.unit ≡ true → is_defined (now s.unit.name) ≡ true
 
-  -- A run from a point comes to the end of the unit, or to a point with an ASSERT, from which it goes on as if it began there. All checks
-  -- of the arrival are true, and named values stand for cells.
+  -- A run from a point comes to the end of the unit, or to a point with an ASSERT, from which it goes on as if
+  -- it began there. All checks of the arrival are true, and named values stand for cells.
   pub data Arrives (clock : Option (List Value)) (pc : ℕ) (st : Storage) : Type 0 where
-    at_end : (now : Named Value) (after : Storage) (cost card : ℕ) → ((n : ℕ) → run_from s.processor s.units s.unit s.environment pc st (cost + n) ≡ Ended tt after n)
-        → Stood s.processor s.unit s.environment now after → KeepsUnsmashed now → AllTrue (arrive seen clock card AtEnd now []) → HasValue now → Arrives clock pc st
-    at_assert : (a : Assertion) (q : ℕ) (now : Named Value) (after : Storage) (cost card : ℕ) → cut_at s.unit (notes_of program i) q ≡ AtAssert a
-        → ((n : ℕ) → run_from s.processor s.units s.unit s.environment pc st (cost + n) ≡ run_from s.processor s.units s.unit s.environment q after n)
-        → Stood s.processor s.unit s.environment now after → KeepsUnsmashed now → AllTrue (arrive seen clock card (AtAssert a) now []) → Arrives clock pc st
+    at_end : (now : Named Value) (after : Storage) (cost card : ℕ)
+        → ((n : ℕ) → run_from s.processor s.units s.unit s.environment pc st (cost + n) ≡ Ended tt after n)
+        → Stood s.processor s.unit s.environment now after → KeepsUnsmashed now
+            → AllTrue (arrive seen clock card AtEnd now []) → HasValue now → Arrives clock pc st
+    at_assert : (a : Assertion) (q : ℕ) (now : Named Value) (after : Storage) (cost card : ℕ)
+        → cut_at s.unit (notes_of program i) q ≡ AtAssert a
+        → ((n : ℕ) → run_from s.processor s.units s.unit s.environment pc st (cost + n)
+            ≡ run_from s.processor s.units s.unit s.environment q after n)
+        → Stood s.processor s.unit s.environment now after → KeepsUnsmashed now
+            → AllTrue (arrive seen clock card (AtAssert a) now []) → Arrives clock pc st
 
 -- On a strict processor of the program's dialect that has all integers up to the bound: where the unit has no uncut cycle, its
 -- statements are good and calls match, a run from a statement from which no walk fails arrives at a cut point.
@@ -73,8 +79,12 @@ SafeRunsArrive =
     → values LeastInteger ≡ Int s.processor.least → values GreatestInteger ≡ Int s.processor.greatest → s.processor.lazy ≡ false
     → MeetsBound s.processor program.bound
     → s.processor.dialect ≡ program.dialect → HasScalarDims s.unit s.environment
-    → ReferencesMatch fs values program i s (run s.processor s.units) (IsReferenceTo program i s.unit) → CallStatementsMatch fs values program i s (run s.processor s.units) (IsCallTo program i s.unit)
-    → ((pc : ℕ) (line : Line) → slice_get s.unit.lines pc ≡ Some line → IsGood s.unit s.environment (IsReferenceTo program i s.unit) (IsCallTo program i s.unit) pc line.stmt)
+    → ReferencesMatch fs values program i s (run s.processor s.units) (IsReferenceTo program i s.unit)
+        → CallStatementsMatch fs values program i s (run s.processor s.units) (IsCallTo program i s.unit)
+    → ((pc : ℕ) (line : Line) → slice_get s.unit.lines pc ≡ Some line → IsGood s.unit s.environment
+        (IsReferenceTo program i s.unit) (IsCallTo program i s.unit) pc line.stmt)
     → IsCutUp program.dialect s.unit (notes_of program i) → StatementsKeep fs values program i s
-    → (clock : Option (List Value)) (pc : ℕ) (line : Line) (now : Named Value) (st : Storage) → slice_get s.unit.lines pc ≡ Some line → Stood s.processor s.unit s.environment now st → KeepsUnsmashed fs values program i s now
+    → (clock : Option (List Value)) (pc : ℕ) (line : Line) (now : Named Value) (st : Storage)
+        → slice_get s.unit.lines pc ≡ Some line → Stood s.processor s.unit s.environment now st
+        → KeepsUnsmashed fs values program i s now
     → IsSafe fs values program i s clock pc now → Arrives fs values program i s clock pc st

@@ -61,25 +61,30 @@ module _ (p : Processor) (u : Routine) (env : Environment) (st : Storage) where
   pub record Standing (now : Named Value) : Type 0 where
     pub names : (x : Name) (d : DataName) → data_name u x ≡ Some d → now x ≡ held_in d.dims st (env x)
     pub sizes : (x : Name) (d : DataName) → data_name u x ≡ Some d → pos (env x).size ≡ stretch (dim_values env st d.dims)
-    pub sorts : (x : Name) (d : DataName) → data_name u x ≡ Some d → (k : ℕ) → k < (env x).size → MayBe p d.sort (load st ((env x).first + k))
+    pub sorts : (x : Name) (d : DataName) → data_name u x ≡ Some d → (k : ℕ) → k < (env x).size
+        → MayBe p d.sort (load st ((env x).first + k))
 
 module _ (s : Scene) (st : Storage) (now : Named Value) where
   -- an operand of a walk and what a run takes: a value of a type, in a cell or fresh
   abbrev pub OperandOf : Sort → Operand Value → Taken → Type 0
-  OperandOf q (Bare x v) (Cells e) = (e ≡ s.environment x) × (v ≡ now x) × (v ≡ of_cell (load st e.first)) × MayBe s.processor q (load st e.first)
+  OperandOf q (Bare x v) (Cells e) = (e ≡ s.environment x) × (v ≡ now x) × (v ≡ of_cell (load st e.first))
+      × MayBe s.processor q (load st e.first)
   OperandOf q (Bare x v) (Fresh c) = ⊥
   OperandOf q (Part v) (Cells e) = (v ≡ of_cell (load st e.first)) × MayBe s.processor q (load st e.first) × (e.size ≡ 1)
   OperandOf q (Part v) (Fresh c) = ⊥
   OperandOf q (Computed v) (Cells e) = ⊥
   OperandOf q (Computed v) (Fresh c) = Of s.processor q v c
 
-module _ (fs : List Function) (values : Symbol → Value) (program : Program) (i : ℕ) (s : Scene) (caller : Caller) (st : Storage) (now : Named Value)
+module _ (fs : List Function) (values : Symbol → Value) (program : Program) (i : ℕ) (s : Scene) (caller : Caller)
+    (st : Storage) (now : Named Value)
     (IsReference : Sort → Name → List Expr → Type 0) where
   -- what is wanted of a reference: its walk and its run match, and leave the storage as it is
   abbrev pub CallsMatch : Type 0
   CallsMatch =
-      (card k : ℕ) (q : Sort) (a : Name) (es : List Expr) (xs : List (Operand Value)) (ts : List Taken) → IsReference q a es → ArePassed s st now es xs ts
-      → Matches (Same st (λ r c. Of s.processor q (r.1) c)) (walk_call.call (sight (of_values fs values) program i s.unit) card (function program.units a) now xs)
+      (card k : ℕ) (q : Sort) (a : Name) (es : List Expr) (xs : List (Operand Value)) (ts : List Taken)
+          → IsReference q a es → ArePassed s st now es xs ts
+      → Matches (Same st (λ r c. Of s.processor q (r.1) c))
+          (walk_call.call (sight (of_values fs values) program i s.unit) card (function program.units a) now xs)
       (call caller s.environment (unit_at s.units (function s.units a)) (passed (s.processor.copies s.unit.name k) 1 ts)) st
 
   -- an expression of a type comes to values that belong together, in the storage as it was; or its first check that is false is
@@ -87,14 +92,17 @@ module _ (fs : List Function) (values : Symbol → Value) (program : Program) (i
   abbrev pub ExpressionMatches : Type 0
   ExpressionMatches =
       (e : Expr) (q : Sort) (card k : ℕ) → IsTyped s.unit IsReference q e
-      → Matches (Same st (Of s.processor q)) (walk.value (sight (of_values fs values) program i s.unit) card now e) (run.evaluate s caller card k e) st
+      → Matches (Same st (Of s.processor q)) (walk.value (sight (of_values fs values) program i s.unit) card now e)
+          (run.evaluate s caller card k e) st
 
 -- On a strict processor that has all integers up to the bound, where named values stand for cells and references to functions
 -- match, all expressions do.
 abbrev pub ExpressionsMatch : Type 0
 ExpressionsMatch =
-    (fs : List Function) (values : Symbol → Value) (program : Program) (i : ℕ) (s : Scene) (caller : Caller) (st : Storage) (now : Named Value)
+    (fs : List Function) (values : Symbol → Value) (program : Program) (i : ℕ) (s : Scene) (caller : Caller)
+        (st : Storage) (now : Named Value)
     → values LeastInteger ≡ Int s.processor.least → values GreatestInteger ≡ Int s.processor.greatest → s.processor.lazy ≡ false
     → MeetsBound s.processor program.bound
     → Standing s.processor s.unit s.environment st now
-    → CallsMatch fs values program i s caller st now (IsReferenceTo program i s.unit) → ExpressionMatches fs values program i s caller st now (IsReferenceTo program i s.unit)
+    → CallsMatch fs values program i s caller st now (IsReferenceTo program i s.unit)
+        → ExpressionMatches fs values program i s caller st now (IsReferenceTo program i s.unit)

@@ -32,6 +32,7 @@ MoreStepsChangeNothing =
 -- a run that ended has not more left than its stock, and with fewer steps than it used it is running
 abbrev pub FewerStepsAreNotEnough : Type 0
 FewerStepsAreNotEnough =
-    (p : Processor) (units : List Routine) (u : Routine) (env : Environment) (st : Storage) (n : ℕ) (v : Cell) (after : Storage) (left : ℕ)
+    (p : Processor) (units : List Routine) (u : Routine) (env : Environment) (st : Storage) (n : ℕ) (v : Cell)
+        (after : Storage) (left : ℕ)
     → run p units u env st n ≡ Ended v after left
     → (left ≤ n) × ((fewer : ℕ) → fewer + left < n → IsRunning (run p units u env st fewer))

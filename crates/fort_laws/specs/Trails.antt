@@ -40,7 +40,8 @@ PathsLeadThrough =
     → LeadThrough dialect u path.choices (points_of dialect u notes path)
     × (slice_get (points_of dialect u notes path) 0 ≡ start_point notes path.start)
     × GoToCut u notes (points_of dialect u notes path)
-    × ((ps : List ℕ) → LeadThrough dialect u path.choices ps → slice_get ps 0 ≡ start_point notes path.start → ps ≡ points_of dialect u notes path)
+    × ((ps : List ℕ) → LeadThrough dialect u path.choices ps → slice_get ps 0 ≡ start_point notes path.start
+        → ps ≡ points_of dialect u notes path)
 
 -- choices under which a statement leads on are no front of others under which it does
 abbrev pub ChoicesEnd : Type 0
@@ -48,7 +49,8 @@ ChoicesEnd =
     (dialect : Dialect) (u : Routine) (pc : ℕ) (s : Stmt) (cs : List ℕ) (q x : ℕ) (more : List ℕ)
     → leads dialect u pc s cs ≡ Some q → leads dialect u pc s (cs ++ x ∷ more) ≡ None
 
--- a start and all choices, one after the other, tell a path of a unit: which choices are those of which statement is a matter of the text
+-- a start and all choices, one after the other, tell a path of a unit: which choices are those of which
+-- statement is a matter of the text
 abbrev pub FlatChoicesTellPaths : Type 0
 FlatChoicesTellPaths =
     (dialect : Dialect) (u : Routine) (notes : Notes) (a b : Path) → IsPath dialect u notes a → IsPath dialect u notes b

@@ -55,13 +55,16 @@ module _ (u : Routine) (IsReference : Sort → Name → List Expr → Type 0) (I
 
   -- a statement at a point, whose parts have their types
   abbrev pub IsTypedStatement : ℕ → Stmt → Type 0
-  IsTypedStatement pc (Assign left right) = (q : Sort) × IsTypedLeft q left × IsTyped u IsReference q right × AreTypedLoops u (loops_at u pc)
+  IsTypedStatement pc (Assign left right) = (q : Sort) × IsTypedLeft q left × IsTyped u IsReference q right
+      × AreTypedLoops u (loops_at u pc)
   IsTypedStatement pc (GoTo l) = Unit {0}
   IsTypedStatement pc (Computed ls x) = IsScalar u Integer x × HasSomeLabel ls × AreTypedLoops u (loops_at u pc)
   IsTypedStatement pc (ArithIf e l m n) = IsTyped u IsReference Integer e
-  IsTypedStatement pc (LogicalIf' e _ (carried b)) = IsTyped u IsReference Logical e × AreTypedLoops u (loops_at u pc) × IsExecutable b × IsTypedStatement pc b
+  IsTypedStatement pc (LogicalIf' e _ (carried b)) = IsTyped u IsReference Logical e × AreTypedLoops u
+      (loops_at u pc) × IsExecutable b × IsTypedStatement pc b
   IsTypedStatement pc (Do l x first last by) =
-      IsScalar u Integer x × IsParameter u first × IsParameter u last × IsStep u by × AreTypedLoops u (loops_around u (target u.lines l) pc)
+      IsScalar u Integer x × IsParameter u first × IsParameter u last × IsStep u by × AreTypedLoops u
+          (loops_around u (target u.lines l) pc)
   IsTypedStatement pc Continue = AreTypedLoops u (loops_at u pc)
   IsTypedStatement pc (Call g args) = IsCall g args × AreActual u IsReference (row_of args) × AreTypedLoops u (loops_at u pc)
   IsTypedStatement pc Return = HasOwnValue u (is_function u)

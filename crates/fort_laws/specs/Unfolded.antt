@@ -18,7 +18,8 @@ run_from p units u env pc st n = from_point p units (suc n) u env pc st n
 abbrev pub run_on : Processor → List Routine → Routine → Environment → ℕ → Act (Unit {0})
 run_on p units u env pc = at_line (slice_get u.lines pc) λ line. do
   step
-  choices ← perform (record { processor = p; units = units; unit = u; environment = env }) (run p units) line.card pc (calls_before u pc) line.stmt
+  choices ← perform (record { processor = p; units = units; unit = u; environment = env })
+      (run p units) line.card pc (calls_before u pc) line.stmt
   go_to (leads p.dialect u pc line.stmt choices) (run_from p units u env)
 
 -- a unit is entered, run from its first statement on, and left

@@ -41,7 +41,8 @@ IsReturn _ _ = ⊥
 -- the end of a unit is led to by RETURNs alone
 abbrev pub EndsByReturn : Dialect → Routine → Type 0
 EndsByReturn dialect u =
-    (pc : ℕ) (line : Line) (cs : List ℕ) (q : ℕ) → slice_get u.lines pc ≡ Some line → leads dialect u pc line.stmt cs ≡ Some q → slice_get u.lines q ≡ None → IsReturn line.stmt cs
+    (pc : ℕ) (line : Line) (cs : List ℕ) (q : ℕ) → slice_get u.lines pc ≡ Some line
+        → leads dialect u pc line.stmt cs ≡ Some q → slice_get u.lines q ≡ None → IsReturn line.stmt cs
 
 -- no statement lies on an uncut cycle
 abbrev pub IsCutUp : Dialect → Routine → Notes → Type 0
@@ -64,5 +65,6 @@ pub record Completed (dialect : Dialect) (u : Routine) (notes : Notes) (pc : ℕ
 abbrev pub WaysCanBeCompleted : Type 0
 WaysCanBeCompleted =
     (dialect : Dialect) (u : Routine) (notes : Notes) → IsCutUp dialect u notes → AreExecutable u
-    → (pc : ℕ) (line : Line) (choices : List ℕ) (q : ℕ) → slice_get u.lines pc ≡ Some line → leads dialect u pc line.stmt choices ≡ Some q
+    → (pc : ℕ) (line : Line) (choices : List ℕ) (q : ℕ) → slice_get u.lines pc ≡ Some line
+        → leads dialect u pc line.stmt choices ≡ Some q
     → Completed dialect u notes pc choices

@@ -41,7 +41,8 @@ module _ (fs : List Function) (values : Symbol → Value) (program : Program) (i
   abbrev pub AssertsAreSafe : Type 0
   AssertsAreSafe =
       (a : Assertion) (q : ℕ) (now : Named Value) (st : Storage) → cut_at s.unit (notes_of program i) q ≡ AtAssert a
-      → Stood s.processor s.unit s.environment now st → KeepsUnsmashed fs values program i s now → IsTrueAt a now → IsSafe fs values program i s (Some (clock_of a now)) q now
+      → Stood s.processor s.unit s.environment now st → KeepsUnsmashed fs values program i s now → IsTrueAt a now
+          → IsSafe fs values program i s (Some (clock_of a now)) q now
 
   -- the clocks of all ASSERTs have so many parts
   abbrev pub ClocksHave : ℕ → Type 0
@@ -50,8 +51,10 @@ module _ (fs : List Function) (values : Symbol → Value) (program : Program) (i
   -- no way from a point, which may itself be a cut point, fails at a check
   abbrev pub IsSafeIn : ℕ → Named Value → Type 0
   IsSafeIn pc now =
-      (way : List (List ℕ)) (answers : Answers Value) → over_or program.dialect s.unit (notes_of program i) (cut_at s.unit (notes_of program i) pc) way (IsWay program.dialect s.unit (notes_of program i) pc way)
-      → NoCheckFails (arrive (seen fs values program i s) None 0 (cut_at s.unit (notes_of program i) pc) now (walk_from (seen fs values program i s) None pc now answers way))
+      (way : List (List ℕ)) (answers : Answers Value) → over_or program.dialect s.unit (notes_of program i)
+          (cut_at s.unit (notes_of program i) pc) way (IsWay program.dialect s.unit (notes_of program i) pc way)
+      → NoCheckFails (arrive (seen fs values program i s) None 0 (cut_at s.unit (notes_of program i) pc) now
+          (walk_from (seen fs values program i s) None pc now answers way))
 
   -- a run from a point comes to the end of the unit, where all of OUTPUT is true
   pub record ComesToEnd (pc : ℕ) (st : Storage) : Type 0 where
@@ -65,19 +68,22 @@ module _ (fs : List Function) (values : Symbol → Value) (program : Program) (i
     pub met : AllTrue (arrive (seen fs values program i s) None card AtEnd now [])
     pub value : (slice_get s.unit.lines pc ≡ None → ⊥) → HasValue fs values program i s now
 
--- What `SafeRunsArrive` takes is taken; clocks of all ASSERTs have equally many parts, and no way from a true ASSERT fails. Then a run
--- from a point from which no way fails comes to the end of the unit.
+-- What `SafeRunsArrive` takes is taken; clocks of all ASSERTs have equally many parts, and no way from a true
+-- ASSERT fails. Then a run from a point from which no way fails comes to the end of the unit.
 abbrev pub SafeRunsEnd : Type 0
 SafeRunsEnd =
     (fs : List Function) (values : Symbol → Value) (program : Program) (i : ℕ) (s : Scene)
     → values LeastInteger ≡ Int s.processor.least → values GreatestInteger ≡ Int s.processor.greatest → s.processor.lazy ≡ false
     → MeetsBound s.processor program.bound
     → s.processor.dialect ≡ program.dialect → HasScalarDims s.unit s.environment
-    → ReferencesMatch fs values program i s (run s.processor s.units) (IsReferenceTo program i s.unit) → CallStatementsMatch fs values program i s (run s.processor s.units) (IsCallTo program i s.unit)
-    → ((pc : ℕ) (line : Line) → slice_get s.unit.lines pc ≡ Some line → IsGood s.unit s.environment (IsReferenceTo program i s.unit) (IsCallTo program i s.unit) pc line.stmt)
+    → ReferencesMatch fs values program i s (run s.processor s.units) (IsReferenceTo program i s.unit)
+        → CallStatementsMatch fs values program i s (run s.processor s.units) (IsCallTo program i s.unit)
+    → ((pc : ℕ) (line : Line) → slice_get s.unit.lines pc ≡ Some line → IsGood s.unit s.environment
+        (IsReferenceTo program i s.unit) (IsCallTo program i s.unit) pc line.stmt)
     → IsCutUp program.dialect s.unit (notes_of program i) → StatementsKeep fs values program i s
     → (parts : ℕ) → ClocksHave fs values program i s parts → AssertsAreSafe fs values program i s
-    → (pc : ℕ) (now : Named Value) (st : Storage) → Stood s.processor s.unit s.environment now st → KeepsUnsmashed fs values program i s now
+    → (pc : ℕ) (now : Named Value) (st : Storage) → Stood s.processor s.unit s.environment now st
+        → KeepsUnsmashed fs values program i s now
     → IsSafeIn fs values program i s pc now → ComesToEnd fs values program i s pc st
 
 -- what is wanted of a unit: what stands in its COMMON blocks are COMMON entities
@@ -87,5 +93,6 @@ BlocksAreCommon u = (x : Name) → IsAmong x (commons u) → has_common u x ≡ 
 -- by a table that holds just what units smash, walks of statements leave names alone that their unit does not smash
 abbrev pub StatementsKeepUnsmashed : Type 0
 StatementsKeepUnsmashed =
-    (fs : List Function) (values : Symbol → Value) (program : Program) (i : ℕ) (s : Scene) → HoldsSmashed program → slice_get program.units i ≡ Some s.unit → BlocksAreCommon s.unit
+    (fs : List Function) (values : Symbol → Value) (program : Program) (i : ℕ) (s : Scene) → HoldsSmashed program
+        → slice_get program.units i ≡ Some s.unit → BlocksAreCommon s.unit
     → StatementsKeep fs values program i s

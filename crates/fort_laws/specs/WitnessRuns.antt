@@ -24,7 +24,8 @@ pub record MayRun (program : Program) (i : ℕ) : Type 0 where
   pub apart : IsApart program.units i unit environment
   pub fits : Fits processor unit environment storage
   pub met :
-      IsMet program.functions processor (names_hold unit environment storage Undefined) (names_hold unit environment storage Undefined) (notes_of program i).input
+      IsMet program.functions processor (names_hold unit environment storage Undefined)
+          (names_hold unit environment storage Undefined) (notes_of program i).input
 
 abbrev pub LoopMayRun : Type 0
 LoopMayRun = MayRun down_program 0

@@ -21,7 +21,8 @@ abbrev pub are_callees : List Routine → List Routine → List (List ℕ) → T
 are_callees units [] [] = Unit {0}
 are_callees units [] (row ∷ rows) = ⊥
 are_callees units (u ∷ us) [] = ⊥
-are_callees units (u ∷ us) (row ∷ rows) = (map (λ j. Some j) row ≡ map (callee_of units) (sites_of_unit u)) × are_callees units us rows
+are_callees units (u ∷ us) (row ∷ rows) = (map (λ j. Some j) row ≡ map (callee_of units) (sites_of_unit u))
+    × are_callees units us rows
 
 -- for each unit the number of the unit that each of its calls is of, in the order of the text; so each call is of some unit
 abbrev pub IsCalleesTable : List Routine → List (List ℕ) → Type 0

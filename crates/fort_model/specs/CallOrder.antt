@@ -13,7 +13,8 @@ pub record CanStand (units : List Routine) (done : List ℕ) (i : ℕ) : Type 0 
 -- units, the last one first, each of which was the first of the deck that could stand next
 pub data Grows (units : List Routine) : List ℕ → Type 0 where
   start : Grows units []
-  next : {done : List ℕ} {i : ℕ} → Grows units done → CanStand units done i → ((j : ℕ) → CanStand units done j → i ≤ j) → Grows units (i ∷ done)
+  next : {done : List ℕ} {i : ℕ} → Grows units done → CanStand units done i → ((j : ℕ) → CanStand units done j
+      → i ≤ j) → Grows units (i ∷ done)
 
 -- Each unit stands in the order, once, behind those that it calls; of two that could stand next the one earlier in the deck does.
 pub record IsCallOrder (units : List Routine) (order : List ℕ) : Type 0 where

@@ -105,11 +105,13 @@ bare_names smashed (d ∷ ds) [] = []
 bare_names smashed (d ∷ ds) (e ∷ es) = bare_name (smashed d) e ++ bare_names smashed ds es
 
 abbrev pub smashed_at : Program → Routine → CallSite → Name → ℕ → Routine → Bool
-smashed_at p u site x j g = is_among x (bare_names (is_smashed p j) g.dummies site.actuals) || is_among x (smashed_commons p u j g)
+smashed_at p u site x j g = is_among x (bare_names (is_smashed p j) g.dummies site.actuals) || is_among x
+    (smashed_commons p u j g)
 
 -- a statement sets a name, or a call in it smashes the name
 abbrev pub stmt_smashes : Program → Routine → Stmt → Name → Bool
-stmt_smashes p u s x = is_among x (set_by s) || list_any (λ site. of_unit p (callee_of p.units site) (smashed_at p u site x)) (sites_of u s)
+stmt_smashes p u s x = is_among x (set_by s) || list_any (λ site. of_unit p (callee_of p.units site)
+    (smashed_at p u site x)) (sites_of u s)
 
 -- ---- the calls of a statement
 

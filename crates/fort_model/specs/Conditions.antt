@@ -39,7 +39,8 @@ checks_of p i u path = labels (walk (sight of_nothing p i u) path)
 abbrev pub conditions_from : Name → ℕ → ℕ → List Tree → List (Event Tree) → List ConditionTree
 conditions_from unit path k hyps [] = []
 conditions_from unit path k hyps (Check kind card t ∷ es) =
-    record { unit = unit; path = path; check = k; kind = kind; card = card; hyps = hyps; goal = t } ∷ conditions_from unit path (suc k) (hyps ++ t ∷ []) es
+    record { unit = unit; path = path; check = k; kind = kind; card = card; hyps = hyps; goal = t } ∷
+        conditions_from unit path (suc k) (hyps ++ t ∷ []) es
 conditions_from unit path k hyps (Take t ∷ es) = conditions_from unit path k (hyps ++ t ∷ []) es
 
 -- the conditions of a unit along some paths, the first of which has the number n
@@ -102,8 +103,10 @@ pub record IsExactFor (fs : List Function) (c : ConditionTree) (site : CheckSite
   pub check : c.check ≡ site.check
   pub kind : c.kind ≡ site.kind
   pub card : c.card ≡ site.card
-  pub reached : (words : Valuation) → list_all (is_true_under fs words nothing_known) c.hyps ≡ reaches (verdict (site.walk words)) site.check
-  pub false : (words : Valuation) → is_false_under fs words nothing_known c.hyps c.goal ≡ fails_at (verdict (site.walk words)) site.check
+  pub reached : (words : Valuation) → list_all (is_true_under fs words nothing_known) c.hyps ≡ reaches
+      (verdict (site.walk words)) site.check
+  pub false : (words : Valuation) → is_false_under fs words nothing_known c.hyps c.goal ≡ fails_at
+      (verdict (site.walk words)) site.check
 
 abbrev pub AreExactFor : List Function → List ConditionTree → List CheckSite → Type 0
 AreExactFor fs [] [] = Unit {0}

@@ -64,7 +64,8 @@ pub record EndsWell (p : Processor) (program : Program) (i : ℕ) (u : Routine) 
   pub storage : Storage
   pub value : Cell
   pub ended : run p program.units u env st steps ≡ Ended value storage spare
-  pub met : IsMet program.functions p (names_hold u env st cell.Undefined) (names_hold u env storage value) (notes_of program i).output
+  pub met : IsMet program.functions p (names_hold u env st cell.Undefined) (names_hold u env storage value)
+      (notes_of program i).output
 
 -- A program is totally correct: each unit, on each processor of the dialect that meets the bound, from each storage that
 -- fits, where the names that the unit smashes lie apart and INPUT is met, ends without error and meets OUTPUT.
@@ -73,5 +74,6 @@ IsTotallyCorrect program =
     (p : Processor) (i : ℕ) (u : Routine) (env : Environment) (st : Storage)
     → p.dialect ≡ program.dialect → MeetsBound p program.bound → slice_get program.units i ≡ Some u
     → IsApart program.units i u env → Fits p u env st
-    → IsMet program.functions p (names_hold u env st cell.Undefined) (names_hold u env st cell.Undefined) (notes_of program i).input
+    → IsMet program.functions p (names_hold u env st cell.Undefined) (names_hold u env st cell.Undefined)
+        (notes_of program i).input
     → EndsWell p program i u env st

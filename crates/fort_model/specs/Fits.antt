@@ -61,4 +61,5 @@ has_sort p sort.Logical c = is_logical_cell c
 -- each visible name has its shape, and cells of its type
 pub record Fits (p : Processor) (u : Routine) (env : Environment) (st : Storage) : Type 0 where
   pub shapes : HaveShapes u env st
-  pub sorts : (d : DataName) → IsVisible u d → IsTrue (list_all (has_sort p d.sort) (contents st (env d.name).first (env d.name).size))
+  pub sorts : (d : DataName) → IsVisible u d
+      → IsTrue (list_all (has_sort p d.sort) (contents st (env d.name).first (env d.name).size))

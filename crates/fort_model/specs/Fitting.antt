@@ -47,4 +47,5 @@ pub record FitsUnit (u : Routine) (notes : Notes) : Type 0 where
 -- each unit has notes, and they fit it
 pub record HasFittingNotes (p : Program) : Type 0 where
   pub count : length p.notes ≡ length p.units
-  pub fits : (i : ℕ) (u : Routine) (notes : Notes) → slice_get p.units i ≡ Some u → slice_get p.notes i ≡ Some notes → FitsUnit u notes
+  pub fits : (i : ℕ) (u : Routine) (notes : Notes) → slice_get p.units i ≡ Some u → slice_get p.notes i ≡ Some notes
+      → FitsUnit u notes

@@ -62,7 +62,8 @@ compare = routine (codes "P") (I ∷ J ∷ []) (scalar Dummy I ∷ scalar Dummy 
     ∷ [])
 
 abbrev pub compared : Cell → Outcome Cell
-compared i = run (processor Common false by_reference) (compare ∷ []) compare (laid_out (I ∷ J ∷ []) (1 ∷ 1 ∷ [])) (i ∷ Undefined ∷ []) 4
+compared i = run (processor Common false by_reference) (compare ∷ []) compare (laid_out (I ∷ J ∷ []) (1 ∷ 1 ∷ []))
+    (i ∷ Undefined ∷ []) 4
 
 abbrev pub SignsChoose : Type 0
 SignsChoose =
@@ -87,7 +88,8 @@ nested = routine (codes "P") (I ∷ J ∷ []) (scalar Dummy I ∷ scalar Dummy J
     ∷ [])
 
 abbrev pub nested_of : ℕ → Outcome Cell
-nested_of i = run (processor SeventySeven false by_reference) (nested ∷ []) nested (laid_out (I ∷ J ∷ []) (1 ∷ 1 ∷ [])) (int i ∷ Undefined ∷ []) 100
+nested_of i = run (processor SeventySeven false by_reference) (nested ∷ []) nested
+    (laid_out (I ∷ J ∷ []) (1 ∷ 1 ∷ [])) (int i ∷ Undefined ∷ []) 100
 
 abbrev pub BlocksNest : Type 0
 BlocksNest =
@@ -124,7 +126,8 @@ passing_over = routine (codes "P") (M ∷ N ∷ []) (scalar Dummy M ∷ scalar D
 -- the entry, the outer DO, and twice the inner DO with a test of the outer one
 abbrev pub PassedOverLoops : Type 0
 PassedOverLoops =
-    run (processor SeventySeven false by_reference) (passing_over ∷ []) passing_over (laid_out (M ∷ N ∷ []) (1 ∷ 1 ∷ [])) (Undefined ∷ int 0 ∷ []) 8
+    run (processor SeventySeven false by_reference) (passing_over ∷ []) passing_over
+        (laid_out (M ∷ N ∷ []) (1 ∷ 1 ∷ [])) (Undefined ∷ int 0 ∷ []) 8
     ≡ Ended Undefined (int 3 ∷ int 0 ∷ []) 0
 
 -- ---- a whole array is passed
@@ -142,7 +145,8 @@ pass_array = routine (codes "P") (A ∷ []) (array Dummy A (Fixed 3 ∷ []) ∷ 
     ∷ [])
 
 abbrev pub array_passed : (Name → ℕ → ℕ → Bool) → Outcome Cell
-array_passed copies = run (processor Common false copies) (set_second ∷ pass_array ∷ []) pass_array (laid_out (A ∷ []) (3 ∷ [])) (int 1 ∷ Undefined ∷ int 3 ∷ []) 6
+array_passed copies = run (processor Common false copies) (set_second ∷ pass_array ∷ []) pass_array
+    (laid_out (A ∷ []) (3 ∷ [])) (int 1 ∷ Undefined ∷ int 3 ∷ []) 6
 
 abbrev pub ArraysArePassedWhole : Type 0
 ArraysArePassedWhole =
@@ -173,7 +177,8 @@ two_calls left right = routine (codes "P") [] (scalar InCommon K ∷ scalar Loca
 
 abbrev pub called : Expr → Expr → (Name → ℕ → ℕ → Bool) → Outcome Cell
 called left right copies =
-    run (processor SeventySeven false copies) (changing G (bin Mul (Var K) (Const 10)) ∷ changing H (bin Add (Var K) (Const 1)) ∷ two_calls left right ∷ [])
+    run (processor SeventySeven false copies) (changing G (bin Mul (Var K) (Const 10)) ∷ changing H
+        (bin Add (Var K) (Const 1)) ∷ two_calls left right ∷ [])
     (two_calls left right) (laid_out (K ∷ []) (1 ∷ [])) (int 1 ∷ []) 11
 
 abbrev pub copied_at : ℕ → Name → ℕ → ℕ → Bool

@@ -49,7 +49,8 @@ IsForkTo forks (AtFork k) tested targets = slice_get forks k ≡ Some (record { 
 -- a target stands for the tests of DOs in turn, the first of them first, and behind them for a point
 abbrev pub AreTests : List Fork → ℕ → List Loop → Target → Type 0
 AreTests forks q [] t = t ≡ Point q
-AreTests forks q (d ∷ ds) t = (next : Target) × IsForkTo forks t (Some d.at) (Point (suc d.at) ∷ next ∷ []) × AreTests forks q ds next
+AreTests forks q (d ∷ ds) t = (next : Target) × IsForkTo forks t (Some d.at) (Point (suc d.at) ∷ next ∷ [])
+    × AreTests forks q ds next
 
 -- behind a statement stand the tests of the DOs whose last statement it is
 abbrev pub IsBehind : Routine → List Fork → ℕ → Target → Type 0
@@ -62,7 +63,8 @@ points_of_labels u labels = map (λ label. Point (target u.lines label)) labels
 abbrev pub IsDoTarget : Dialect → Routine → List Fork → ℕ → ℕ → Target → Type 0
 IsDoTarget Common u forks last pc t = t ≡ Point (suc pc)
 IsDoTarget SeventySeven u forks last pc t =
-    (over : Target) × IsForkTo forks t None (Point (suc pc) ∷ over ∷ []) × AreTests forks (next_point u last) (loops_around u last pc) over
+    (over : Target) × IsForkTo forks t None (Point (suc pc) ∷ over ∷ []) × AreTests forks (next_point u last)
+        (loops_around u last pc) over
 
 -- a computed GO TO goes to its labels; under 77 the choice behind the last of them goes on behind the statement
 abbrev pub IsComputedTarget : Dialect → Routine → List Fork → ℕ → List ℕ → Target → Type 0
@@ -77,7 +79,8 @@ IsTargetOf dialect u forks pc (GoTo label) t = t ≡ Point (target u.lines label
 IsTargetOf dialect u forks pc (Computed labels x) t = IsComputedTarget dialect u forks pc labels t
 IsTargetOf dialect u forks pc (ArithIf e l m n) t = IsForkTo forks t None (points_of_labels u (l ∷ m ∷ n ∷ []))
 IsTargetOf dialect u forks pc (LogicalIf' e _ (carried s)) t =
-    (then : Target) × (on : Target) × IsForkTo forks t None (then ∷ on ∷ []) × IsTargetOf dialect u forks pc s then × IsBehind u forks pc on
+    (then : Target) × (on : Target) × IsForkTo forks t None (then ∷ on ∷ []) × IsTargetOf dialect u forks pc s then
+        × IsBehind u forks pc on
 IsTargetOf dialect u forks pc (Do label x first last step) t = IsDoTarget dialect u forks (target u.lines label) pc t
 IsTargetOf dialect u forks pc Continue t = IsBehind u forks pc t
 IsTargetOf dialect u forks pc (Call f args) t = IsBehind u forks pc t
@@ -93,7 +96,8 @@ abbrev pub AreTargetsOf : Dialect → Routine → List Fork → ℕ → List Lin
 AreTargetsOf dialect u forks pc [] [] = Unit {0}
 AreTargetsOf dialect u forks pc [] (t ∷ ts) = ⊥
 AreTargetsOf dialect u forks pc (line ∷ lines) [] = ⊥
-AreTargetsOf dialect u forks pc (line ∷ lines) (t ∷ ts) = IsTargetOf dialect u forks pc line.stmt t × AreTargetsOf dialect u forks (suc pc) lines ts
+AreTargetsOf dialect u forks pc (line ∷ lines) (t ∷ ts) = IsTargetOf dialect u forks pc line.stmt t
+    × AreTargetsOf dialect u forks (suc pc) lines ts
 
 -- ---- the whole
 
@@ -102,9 +106,10 @@ abbrev pub IsWithin : ℕ → ℕ → Target → Type 0
 IsWithin size count (Point q) = q ≤ size
 IsWithin size count (AtFork k) = k < count
 
--- The graph of a unit with its notes. Its starts are what the statements lead to; so it says for each point and all choices what `leads`
--- says. Forks lead to points and to lesser forks. Its cuts are the points of the ASSERTs, in order, and its ranks grow along each edge
--- to a statement without an ASSERT: on a path no statement stands twice but the first.
+-- The graph of a unit with its notes. Its starts are what the statements lead to; so it says for each point and
+-- all choices what `leads` says. Forks lead to points and to lesser forks. Its cuts are the points of the
+-- ASSERTs, in order, and its ranks grow along each edge to a statement without an ASSERT: on a path no
+-- statement stands twice but the first.
 pub record IsGraphOf (dialect : Dialect) (u : Routine) (notes : Notes) (graph : Graph) : Type 0 where
   pub size : graph.size ≡ length u.lines
   pub starts : AreTargetsOf dialect u graph.forks 0 u.lines graph.starts
@@ -112,8 +117,10 @@ pub record IsGraphOf (dialect : Dialect) (u : Routine) (notes : Notes) (graph : 
   pub falling : (k : ℕ) (f : Fork) (t : Target) → slice_get graph.forks k ≡ Some f → IsAmong t f.targets → IsWithin graph.size k t
   pub cuts : graph.cuts ≡ map (λ (a : Assertion). a.point) notes.asserts
   pub ranks : length graph.ranks ≡ graph.size
-  pub growing : (p q : ℕ) (cs : List ℕ) → Edge dialect u p cs q → cut_at u notes q ≡ NoCut → get_or graph.ranks p 0 < get_or graph.ranks q 0
+  pub growing : (p q : ℕ) (cs : List ℕ) → Edge dialect u p cs q → cut_at u notes q ≡ NoCut
+      → get_or graph.ranks p 0 < get_or graph.ranks q 0
 
 -- a graph of a unit says for each point and all choices where they lead
 abbrev pub GraphsLead : Type 0
-GraphsLead = (dialect : Dialect) (u : Routine) (notes : Notes) (graph : Graph) → IsGraphOf dialect u notes graph → (pc : ℕ) (cs : List ℕ) → graph_leads graph pc cs ≡ leads_at dialect u pc cs
+GraphsLead = (dialect : Dialect) (u : Routine) (notes : Notes) (graph : Graph) → IsGraphOf dialect u notes graph
+    → (pc : ℕ) (cs : List ℕ) → graph_leads graph pc cs ≡ leads_at dialect u pc cs

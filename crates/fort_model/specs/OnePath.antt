@@ -9,7 +9,8 @@ use Rattle.fort_model.specs.Program.{Program}
 
 -- two lists that are the paths of a unit in order are equal
 abbrev pub PathsAreOne : Type 0
-PathsAreOne = (dialect : Dialect) (u : Routine) (notes : Notes) (ps qs : List Path) → ArePathsInOrder dialect u notes ps → ArePathsInOrder dialect u notes qs → ps ≡ qs
+PathsAreOne = (dialect : Dialect) (u : Routine) (notes : Notes) (ps qs : List Path)
+    → ArePathsInOrder dialect u notes ps → ArePathsInOrder dialect u notes qs → ps ≡ qs
 
 -- so a program has one list of the paths of its units
 abbrev pub AllPathsAreOne : Type 0

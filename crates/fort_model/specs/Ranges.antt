@@ -44,7 +44,8 @@ do_range pc names None = []
 do_range pc names (Some q) = record { head = pc; range = record { first = suc pc; last = q }; names = names } ∷ []
 
 abbrev pub do_of : Routine → ℕ → Stmt → List DoRange
-do_of u pc (Do label x first last step) = do_range pc (x ∷ param_names first ++ param_names last ++ step_names step) (last_of_do u pc label)
+do_of u pc (Do label x first last step) = do_range pc (x ∷ param_names first ++ param_names last ++ step_names step)
+    (last_of_do u pc label)
 do_of u pc _ = []
 
 abbrev pub dos_from : Routine → ℕ → List Line → List DoRange
@@ -149,7 +150,8 @@ is_branch_line (Some line) = is_branch_stmt line.stmt
 
 -- a jump goes into a range or a block, or to an ELSE IF or ELSE
 abbrev pub is_bad_jump : Routine → ℕ → ℕ → Bool
-is_bad_jump u pc q = list_any (λ d. enters pc q d.range) (dos u) || (list_any (enters pc q) (blocks u) || is_branch_line (slice_get u.lines q))
+is_bad_jump u pc q = list_any (λ d. enters pc q d.range) (dos u) || (list_any (enters pc q) (blocks u)
+    || is_branch_line (slice_get u.lines q))
 
 abbrev pub jumps_badly : Routine → ℕ → Stmt → Bool
 jumps_badly u pc s = list_any (λ l. is_bad_jump u pc (target u.lines l)) (jumps_of s)

@@ -47,7 +47,8 @@ quotients = routine (codes "Q") (I ∷ J ∷ K ∷ []) (scalar Dummy I ∷ scala
 
 abbrev pub quotients_of : Cell → Outcome Cell
 quotients_of i =
-    run (processor Common false by_reference) (quotients ∷ []) quotients (laid_out (I ∷ J ∷ K ∷ []) (1 ∷ 1 ∷ 1 ∷ [])) (i ∷ Undefined ∷ Undefined ∷ []) 100
+    run (processor Common false by_reference) (quotients ∷ []) quotients (laid_out (I ∷ J ∷ K ∷ [])
+        (1 ∷ 1 ∷ 1 ∷ [])) (i ∷ Undefined ∷ Undefined ∷ []) 100
 
 abbrev pub QuotientsAreCut : Type 0
 QuotientsAreCut =
@@ -77,7 +78,8 @@ adjustable = routine (codes "ADJ") (A ∷ M ∷ N ∷ []) (array Dummy A (Named 
 
 abbrev pub FirstSubscriptVariesFastest : Type 0
 FirstSubscriptVariesFastest =
-    run (processor Common false by_reference) (adjustable ∷ []) adjustable (laid_out (A ∷ M ∷ N ∷ []) (6 ∷ 1 ∷ 1 ∷ [])) (replicate 6 Undefined ++ int 3 ∷ int 2 ∷ []) 100
+    run (processor Common false by_reference) (adjustable ∷ []) adjustable (laid_out (A ∷ M ∷ N ∷ [])
+        (6 ∷ 1 ∷ 1 ∷ [])) (replicate 6 Undefined ++ int 3 ∷ int 2 ∷ []) 100
     ≡ Ended Undefined (replicate 3 Undefined ++ int 7 ∷ Undefined ∷ Undefined ∷ int 3 ∷ int 2 ∷ []) 97
 
 abbrev pub quad : Routine
@@ -88,7 +90,8 @@ quad = routine (codes "QUAD") (A ∷ I ∷ []) (array Dummy A (replicate 4 (Fixe
 
 abbrev pub NinthPlaceOfFourDimensions : Type 0
 NinthPlaceOfFourDimensions =
-    run (processor SeventySeven false by_reference) (quad ∷ []) quad (laid_out (A ∷ I ∷ []) (16 ∷ 1 ∷ [])) (replicate 16 Undefined ++ int 1 ∷ []) 100
+    run (processor SeventySeven false by_reference) (quad ∷ []) quad (laid_out (A ∷ I ∷ []) (16 ∷ 1 ∷ []))
+        (replicate 16 Undefined ++ int 1 ∷ []) 100
     ≡ Ended Undefined (replicate 8 Undefined ++ int 5 ∷ replicate 7 Undefined ++ int 1 ∷ []) 97
 
 -- ---- two DOs with one last statement, behind which I is read
@@ -130,7 +133,8 @@ rotate = routine (codes "ROT") (I ∷ J ∷ K ∷ []) (scalar Dummy I ∷ scalar
 
 abbrev pub rotated : Bool → (Name → ℕ → ℕ → Bool) → Outcome Cell
 rotated lazy copies =
-    run (processor Common lazy copies) (swap ∷ rotate ∷ []) rotate (laid_out (I ∷ J ∷ K ∷ []) (1 ∷ 1 ∷ 1 ∷ [])) (int 1 ∷ int 2 ∷ int 3 ∷ []) 100
+    run (processor Common lazy copies) (swap ∷ rotate ∷ []) rotate (laid_out (I ∷ J ∷ K ∷ []) (1 ∷ 1 ∷ 1 ∷ []))
+        (int 1 ∷ int 2 ∷ int 3 ∷ []) 100
 
 -- the second argument of the first call and the first one of the second
 abbrev pub crosswise : Name → ℕ → ℕ → Bool
@@ -157,7 +161,8 @@ pass_common = routine (codes "P") [] (scalar InCommon K ∷ [])
     ∷ [])
 
 abbrev pub common_passed : (Name → ℕ → ℕ → Bool) → Outcome Cell
-common_passed copies = run (processor Common false copies) (set_common ∷ pass_common ∷ []) pass_common (laid_out (K ∷ []) (1 ∷ [])) (int 1 ∷ []) 6
+common_passed copies = run (processor Common false copies) (set_common ∷ pass_common ∷ []) pass_common
+    (laid_out (K ∷ []) (1 ∷ [])) (int 1 ∷ []) 6
 
 abbrev pub CommonByReferenceAndByCopy : Type 0
 CommonByReferenceAndByCopy =
@@ -179,7 +184,8 @@ pass_element = routine (codes "P") (A ∷ []) (array Dummy A (Fixed 3 ∷ []) �
     ∷ [])
 
 abbrev pub element_passed : (Name → ℕ → ℕ → Bool) → Outcome Cell
-element_passed copies = run (processor Common false copies) (set_dummy ∷ pass_element ∷ []) pass_element (laid_out (A ∷ []) (3 ∷ [])) (replicate 3 Undefined) 6
+element_passed copies = run (processor Common false copies) (set_dummy ∷ pass_element ∷ []) pass_element
+    (laid_out (A ∷ []) (3 ∷ [])) (replicate 3 Undefined) 6
 
 abbrev pub ElementsAreWrittenBack : Type 0
 ElementsAreWrittenBack =
@@ -205,7 +211,8 @@ ask_twice = routine (codes "P") (J ∷ []) (scalar Dummy J ∷ [])
 -- the new cells are those of the actual 2 and of the local K
 abbrev pub LocalsForget : Type 0
 LocalsForget =
-    run (processor Common false by_reference) (remember ∷ ask_twice ∷ []) ask_twice (laid_out (J ∷ []) (1 ∷ [])) (Undefined ∷ []) 100
+    run (processor Common false by_reference) (remember ∷ ask_twice ∷ []) ask_twice (laid_out (J ∷ []) (1 ∷ []))
+        (Undefined ∷ []) 100
     ≡ Erred DefinedCheck 4 (Undefined ∷ int 2 ∷ Undefined ∷ [])
 
 -- ---- FUNCTIONs: an actual is evaluated before the call; a RETURN needs the value
@@ -224,7 +231,8 @@ add_two = routine (codes "P") (I ∷ []) (scalar Dummy I ∷ [])
     ∷ [])
 
 abbrev pub two_added : Cell → Outcome Cell
-two_added i = run (processor Common false by_reference) (successor ∷ add_two ∷ []) add_two (laid_out (I ∷ []) (1 ∷ [])) (i ∷ []) 11
+two_added i = run (processor Common false by_reference) (successor ∷ add_two ∷ []) add_two
+    (laid_out (I ∷ []) (1 ∷ [])) (i ∷ []) 11
 
 -- the new cell of the second run is that of the FUNCTION's own value
 abbrev pub FunctionsAnswerTheirValue : Type 0
@@ -259,7 +267,8 @@ up_to = routine (codes "ZERO") (M ∷ N ∷ []) (scalar Dummy M ∷ scalar Dummy
     ∷ [])
 
 abbrev pub up_to_in : Dialect → ℕ → Outcome Cell
-up_to_in dialect n = run (processor dialect false by_reference) (up_to ∷ []) up_to (laid_out (M ∷ N ∷ []) (1 ∷ 1 ∷ [])) (Undefined ∷ int n ∷ []) 100
+up_to_in dialect n = run (processor dialect false by_reference) (up_to ∷ []) up_to
+    (laid_out (M ∷ N ∷ []) (1 ∷ 1 ∷ [])) (Undefined ∷ int n ∷ []) 100
 
 abbrev pub LoopsInBothDialects : Type 0
 LoopsInBothDialects =
@@ -282,7 +291,8 @@ pick = routine (codes "PICK") (I ∷ J ∷ []) (scalar Dummy I ∷ scalar Dummy 
     ∷ [])
 
 abbrev pub picked_in : Dialect → ℕ → Outcome Cell
-picked_in dialect i = run (processor dialect false by_reference) (pick ∷ []) pick (laid_out (I ∷ J ∷ []) (1 ∷ 1 ∷ [])) (int i ∷ Undefined ∷ []) 100
+picked_in dialect i = run (processor dialect false by_reference) (pick ∷ []) pick
+    (laid_out (I ∷ J ∷ []) (1 ∷ 1 ∷ [])) (int i ∷ Undefined ∷ []) 100
 
 abbrev pub ChoicesInBothDialects : Type 0
 ChoicesInBothDialects =
@@ -306,7 +316,8 @@ sign = routine (codes "SGN") (I ∷ J ∷ []) (scalar Dummy I ∷ scalar Dummy J
     ∷ [])
 
 abbrev pub sign_of : Cell → Outcome Cell
-sign_of i = run (processor SeventySeven true by_copy) (sign ∷ []) sign (laid_out (I ∷ J ∷ []) (1 ∷ 1 ∷ [])) (i ∷ Undefined ∷ []) 100
+sign_of i = run (processor SeventySeven true by_copy) (sign ∷ []) sign (laid_out (I ∷ J ∷ []) (1 ∷ 1 ∷ []))
+    (i ∷ Undefined ∷ []) 100
 
 abbrev pub OneBranchIsPerformed : Type 0
 OneBranchIsPerformed =

@@ -63,7 +63,8 @@ abbrev mutual
   from_point p units zero u env pc = stuck
   from_point p units (suc fuel) u env pc = at_line (slice_get u.lines pc) λ line. do
     step
-    choices ← perform (record { processor = p; units = units; unit = u; environment = env }) (run_within p units fuel) line.card pc (calls_before u pc) line.stmt
+    choices ← perform (record { processor = p; units = units; unit = u; environment = env })
+        (run_within p units fuel) line.card pc (calls_before u pc) line.stmt
     go_to (leads p.dialect u pc line.stmt choices) (from_point p units fuel u env)
 
 -- A run of a unit of a deck with n steps. The environment gives the cells of its dummies and COMMON entities.

@@ -29,10 +29,13 @@ set_by _ = []
 -- The unit of number i smashes a name where a statement of it sets the name; where it passes the name, bare, to a dummy
 -- that the called unit smashes; and where the name is a COMMON entity of both units, and the called unit smashes it.
 pub data Smashes (units : List Routine) : ℕ → Name → Type 0 where
-  sets : {i : ℕ} {x : Name} (u : Routine) (line : Line) → slice_get units i ≡ Some u → IsAmong line u.lines → IsAmong x (set_by line.stmt) → Smashes units i x
-  passes : {i j : ℕ} {d x : Name} (c : Calls units i j) (n : ℕ) → slice_get c.callee.dummies n ≡ Some d → slice_get c.site.actuals n ≡ Some (Var x)
+  sets : {i : ℕ} {x : Name} (u : Routine) (line : Line) → slice_get units i ≡ Some u → IsAmong line u.lines
+      → IsAmong x (set_by line.stmt) → Smashes units i x
+  passes : {i j : ℕ} {d x : Name} (c : Calls units i j) (n : ℕ) → slice_get c.callee.dummies n ≡ Some d
+      → slice_get c.site.actuals n ≡ Some (Var x)
       → Smashes units j d → Smashes units i x
-  shares : {i j : ℕ} {x : Name} (c : Calls units i j) → has_common c.caller x ≡ true → has_common c.callee x ≡ true → Smashes units j x → Smashes units i x
+  shares : {i j : ℕ} {x : Name} (c : Calls units i j) → has_common c.caller x ≡ true → has_common c.callee x ≡ true
+      → Smashes units j x → Smashes units i x
 
 -- the table of smashed names holds just these
 abbrev pub HoldsSmashed : Program → Type 0

@@ -122,11 +122,13 @@ module _ {V : Type 0} (w : Sight V) where
   go_on clock card None now on = []
   go_on clock card (Some q) now on = arrive clock card (cut_at w.unit notes_here q) now (on q)
 
-  abbrev pub perform_line : Option (List V) → Option Line → ℕ → Named V → Answers V → List ℕ → (ℕ → Named V → Answers V → List (Event V)) → List (Event V)
+  abbrev pub perform_line : Option (List V) → Option Line → ℕ → Named V → Answers V → List ℕ
+      → (ℕ → Named V → Answers V → List (Event V)) → List (Event V)
   perform_line clock None pc now answers cs on = []
   perform_line clock (Some line) pc now answers cs on =
       let done = performed w line.card pc now line.stmt cs answers in
-      done.events ++ go_on clock line.card (leads w.program.dialect w.unit pc line.stmt cs) done.value (λ q. on q done.value done.rest)
+      done.events ++ go_on clock line.card (leads w.program.dialect w.unit pc line.stmt cs) done.value
+          (λ q. on q done.value done.rest)
 
   -- the statements from a point on, where names stand for `now`, under the choices of each
   abbrev pub walk_from : Option (List V) → ℕ → Named V → Answers V → List (List ℕ) → List (Event V)
@@ -135,7 +137,8 @@ module _ {V : Type 0} (w : Sight V) where
       perform_line clock (slice_get w.unit.lines pc) pc now answers cs (λ q after rest. walk_from clock q after rest way)
 
   abbrev pub from_entry : Answers V → List (List ℕ) → List (Event V)
-  from_entry answers way = takes entry_facts ++ arrive None 0 (cut_at w.unit notes_here 0) at_entry (walk_from None 0 at_entry answers way)
+  from_entry answers way = takes entry_facts ++ arrive None 0 (cut_at w.unit notes_here 0) at_entry
+      (walk_from None 0 at_entry answers way)
 
   abbrev pub from_assert : Answers V → Option Assertion → List (List ℕ) → List (Event V)
   from_assert answers None way = []

@@ -57,7 +57,8 @@ module _ {V : Type 0} (w : Sight V) where
   -- a constant up to the bound needs no check
   abbrev pub constant : ℕ → ℕ → See V V
   constant card c = do
-    meet (cond (nat_lt w.program.bound c) (Check RangeCheck card (make2 w.sense f.AtMost (natural w.sense c) (greatest_integer w.sense)) ∷ []) [])
+    meet (cond (nat_lt w.program.bound c) (Check RangeCheck card (make2 w.sense f.AtMost (natural w.sense c)
+        (greatest_integer w.sense)) ∷ []) [])
     see (natural w.sense c)
 
   abbrev pub divisor : ℕ → V → See V (Unit {0})

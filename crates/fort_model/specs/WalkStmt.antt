@@ -99,7 +99,8 @@ module _ {V : Type 0} (w : Sight V) where
   -- a DO with its first value, last value and step
   abbrev pub begin : Dialect → ℕ → ℕ → ℕ → Named V → Name → V → V → V → List ℕ → See V (Named V)
   begin Common card last pc now x m1 m2 m3 cs = do
-    checked w LoopCheck card (all_three (make2 w.sense AtMost (natural w.sense 1) m1) (make2 w.sense AtMost m1 m2) (make2 w.sense AtMost (natural w.sense 1) m3))
+    checked w LoopCheck card (all_three (make2 w.sense AtMost (natural w.sense 1) m1) (make2 w.sense AtMost m1 m2)
+        (make2 w.sense AtMost (natural w.sense 1) m3))
     see (with_name now x m1)
   begin SeventySeven card last pc now x m1 m2 m3 cs = do
     checked w LoopCheck card (make2 w.sense AtMost (natural w.sense 1) m3)

@@ -1,4 +1,5 @@
--- How notes are judged: each in six steps, the first of which that fails gives its fault; one after another, up to the first that is at fault.
+-- How notes are judged: each in six steps, the first of which that fails gives its fault; one after another, up
+-- to the first that is at fault.
 use Rattle.std.specs.Prelude.{ℕ, zero, suc, ◌+◌, ◌==◌, ◌&&◌, ◌||◌, not, nat_le, nat_lt, Bool, true, false, if◌then◌else◌, cond, Option, Some, None, List, [], ◌∷◌, ◌++◌, length, map, filter, slice_get, codes, Result, Ok, Err}
 use Rattle.std.specs.List.{list_all, list_any, flat_map}
 use Rattle.formula.specs.Adding.{adding_fault}
@@ -242,7 +243,8 @@ step_terms _ = []
 -- a definition is refused as one that is added to the earlier ones
 abbrev pub definition_broken : List Judged → Function → Option Rule
 definition_broken done d =
-    or_else (first_failing ((list_all has_no_old (body_terms d.body), BadNote) ∷ [])) (rule_if (adding_fault (headings done) d.name d.params d.body))
+    or_else (first_failing ((list_all has_no_old (body_terms d.body), BadNote) ∷ []))
+        (rule_if (adding_fault (headings done) d.name d.params d.body))
 
 -- the rule that a form breaks by the names in it
 abbrev pub names_broken : List Judged → Option Routine → Form → Option Rule
@@ -255,7 +257,8 @@ names_broken done u (output ts) =
     first_failing ((list_all (has_good_old u) ts, BadNote) ∷ (list_all (has_known_names u) ts, UnknownNoteName)
     ∷ (list_all (has_none_of u is_local) ts, OutputNamesLocal) ∷ [])
 names_broken done u (assertion ts clock_stands clock) =
-    first_failing ((list_all (has_good_old u) (ts ++ clock), BadNote) ∷ (list_all (has_known_names u) (ts ++ clock), UnknownNoteName) ∷ [])
+    first_failing ((list_all (has_good_old u) (ts ++ clock), BadNote) ∷ (list_all (has_known_names u)
+        (ts ++ clock), UnknownNoteName) ∷ [])
 names_broken done u (run card) = None
 names_broken done u (try card) = None
 names_broken done u (proof p) = first_failing ((list_all has_no_old (flat_map step_terms p.steps), BadNote) ∷ [])
@@ -269,7 +272,8 @@ judged_unless None n f = Ok (record { unit = n.unit; line = n.line; card = n.car
 abbrev pub judged_form : List Judged → Option Routine → Placed → Parsed Form → Result Judged Rule
 judged_form done u n (refused rule) = Err rule
 judged_form done u n (parsed f rest) =
-    judged_unless (or_else (first_failing ((nat_le (clocks n.text) (may_have_clocks f), BadNote) ∷ [])) (names_broken done u f)) n f
+    judged_unless (or_else (first_failing ((nat_le (clocks n.text) (may_have_clocks f), BadNote) ∷ []))
+        (names_broken done u f)) n f
 
 -- a note behind others: what it says, or the rule of the first step that fails
 abbrev pub judged_as : Deck → List Judged → Placed → Option Word → Result Judged Rule
@@ -309,7 +313,8 @@ lacks_note notes i = not (stands_in Input i notes && stands_in Output i notes)
 -- the first unit that lacks one; the first of the list has the number i
 abbrev pub lacking_from : List Placed → ℕ → List Routine → Option Fault
 lacking_from notes i [] = None
-lacking_from notes i (u ∷ us) = if lacks_note notes i then Some (record { rule = NoInputOrOutput; card = u.head }) else lacking_from notes (suc i) us
+lacking_from notes i (u ∷ us) = if lacks_note notes i then Some (record { rule = NoInputOrOutput; card = u.head })
+    else lacking_from notes (suc i) us
 
 abbrev pub missing_note : Deck → Option Fault
 missing_note deck = lacking_from deck.notes 1 deck.units

@@ -83,7 +83,8 @@ sign is text = passing (begins is text) tt (behind_first (tokens text) text)
 
 -- what stands in brackets
 abbrev pub bracket : {X : Type 0} → (List ℕ → Parsed X) → List ℕ → Parsed X
-bracket part text = sign is_opening text >>= λ _ rest. part rest >>= λ x behind. sign is_closing behind >>= λ _ left. parsed x left
+bracket part text = sign is_opening text >>= λ _ rest. part rest >>= λ x behind.
+    sign is_closing behind >>= λ _ left. parsed x left
 
 -- parts up to where a test holds, at most so many
 abbrev pub parts_up_to : {X : Type 0} → (List ℕ → Bool) → (List ℕ → Parsed X) → ℕ → List ℕ → Parsed (List X)

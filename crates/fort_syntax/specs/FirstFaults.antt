@@ -13,7 +13,8 @@ IsAtMost rule card other at = (card < at) ⊎ ((card ≡ at) × (rule_number rul
 
 -- of the rules that are broken, each at some cards, a fault is the least: on the least card, and there of the least number
 abbrev pub IsLeastFault : (Rule → ℕ → Type 0) → Fault → Type 0
-IsLeastFault is_broken f = is_broken f.rule f.card × ((rule : Rule) (card : ℕ) → is_broken rule card → IsAtMost f.rule f.card rule card)
+IsLeastFault is_broken f = is_broken f.rule f.card × ((rule : Rule) (card : ℕ) → is_broken rule card
+    → IsAtMost f.rule f.card rule card)
 
 -- no rule is broken
 abbrev pub AreKept : (Rule → ℕ → Type 0) → Type 0
@@ -26,9 +27,9 @@ TellsLeast is_broken (Some f) = IsLeastFault is_broken f
 
 -- ---- stages
 
--- Rules are judged in stages, one where all rules of those before it are kept: on cards, on the texts of statements, on the order of
--- statements, on block IFs, on declarations, on uses, on types, on notes, on which unit is called, on what calls change, on the
--- flow of a unit, on ways round, and on sizes.
+-- Rules are judged in stages, one where all rules of those before it are kept: on cards, on the texts of
+-- statements, on the order of statements, on block IFs, on declarations, on uses, on types, on notes, on which
+-- unit is called, on what calls change, on the flow of a unit, on ways round, and on sizes.
 abbrev pub stage_of : Rule → ℕ
 stage_of TooLong = 1
 stage_of BadByte = 1

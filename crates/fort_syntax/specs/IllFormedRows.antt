@@ -36,8 +36,9 @@ tests u =
     ∷ list_all (has_right_dims Common u) u.names ∷ are_blocks u ∷ list_all (λ line. is_right_statement Common u line.stmt) u.lines
     ∷ are_in_order [] u.lines ∷ stand_between u.head u.lines u.«end» ∷ has_result u ∷ []
 
--- the block has a name that is none; I is two dummies; J is a dummy and no data name; K is local and in COMMON; G is two functions;
--- a dimension is 0; a block is written bare; a GO TO goes nowhere; a label stands twice; END stands on the card of RETURN; F has no value
+-- the block has a name that is none; I is two dummies; J is a dummy and no data name; K is local and in COMMON;
+-- G is two functions; a dimension is 0; a block is written bare; a GO TO goes nowhere; a label stands twice;
+-- END stands on the card of RETURN; F has no value
 abbrev pub IllFormedUnits : Type 0
 IllFormedUnits =
     (tests good ≡ true ∷ true ∷ true ∷ true ∷ true ∷ true ∷ true ∷ true ∷ true ∷ true ∷ true ∷ [])
@@ -47,7 +48,8 @@ IllFormedUnits =
     ≡ true ∷ false ∷ true ∷ true ∷ true ∷ true ∷ true ∷ true ∷ true ∷ true ∷ true ∷ [])
     × (tests (record good { dummies = I ∷ J ∷ [] })
     ≡ true ∷ true ∷ false ∷ true ∷ true ∷ true ∷ true ∷ true ∷ true ∷ true ∷ true ∷ [])
-    × (tests (record good { names = variable OwnValue Integer F [] ∷ variable Dummy Integer I [] ∷ variable Local Integer K [] ∷ [] })
+    × (tests (record good { names = variable OwnValue Integer F [] ∷ variable Dummy Integer I [] ∷ variable
+        Local Integer K [] ∷ [] })
     ≡ true ∷ true ∷ true ∷ false ∷ true ∷ true ∷ true ∷ true ∷ true ∷ true ∷ true ∷ [])
     × (tests (record good { functions = record { name = codes "G"; sort = Integer } ∷ record { name = codes "G"; sort = Integer } ∷ [] })
     ≡ true ∷ true ∷ true ∷ true ∷ false ∷ true ∷ true ∷ true ∷ true ∷ true ∷ true ∷ [])
@@ -96,7 +98,8 @@ deck_tests units notes =
 abbrev pub notes : List Placed
 notes = note 2 (codes "INPUT T") 1 0 ∷ note 8 (codes "INPUT T") 2 2 ∷ note 12 (codes "RUN F") 0 1 ∷ []
 
--- the block differs; the units are exchanged; two notes stand on one card; a note stands in a third unit; a note stands behind three of two statements
+-- the block differs; the units are exchanged; two notes stand on one card; a note stands in a third unit; a
+-- note stands behind three of two statements
 abbrev pub IllFormedDecks : Type 0
 IllFormedDecks =
     (deck_tests (good ∷ behind ∷ []) notes ≡ true ∷ true ∷ true ∷ true ∷ [])

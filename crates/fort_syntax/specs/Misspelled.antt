@@ -22,7 +22,8 @@ first_word (word ∷ words) t = if begins word t then Some word else first_word 
 abbrev pub behind_closing : ℕ → List ℕ → List ℕ
 behind_closing opened [] = []
 behind_closing zero (b ∷ rest) = if b == 41 then rest else if b == 40 then behind_closing 1 rest else behind_closing 0 rest
-behind_closing (suc n) (b ∷ rest) = if b == 41 then behind_closing n rest else if b == 40 then behind_closing (n + 2) rest else behind_closing (suc n) rest
+behind_closing (suc n) (b ∷ rest) = if b == 41 then behind_closing n rest else if b == 40 then behind_closing
+    (n + 2) rest else behind_closing (suc n) rest
 
 abbrev pub or_whole : List ℕ → List ℕ → List ℕ
 or_whole [] t = t
@@ -67,7 +68,8 @@ size_of (Some word) = length word
 -- a point that begins no such word, and has a digit directly before or behind it
 abbrev pub is_loose : ℕ → List ℕ → Bool
 is_loose before [] = false
-is_loose before (b ∷ rest) = (b == 46) && (size_of (first_word pointed_words (b ∷ rest)) == 0) && (is_digit before || starts is_digit rest)
+is_loose before (b ∷ rest) = (b == 46) && (size_of (first_word pointed_words (b ∷ rest)) == 0)
+    && (is_digit before || starts is_digit rest)
 
 -- From the left, each word in points is passed over where one begins; of the other points some one has a digit
 -- beside it. So many bytes are still to be passed over, and the byte before is given.

@@ -93,7 +93,8 @@ abbrev pub stays_open : ℕ → List Line → Bool
 stays_open n [] = not (is_ended n)
 stays_open n (line ∷ lines) = not (is_ended n) && stays_open (still_open line.stmt n) lines
 
--- a branch or an end of a block IF that none is open for, or a block IF without an end, of which some statements stand before and behind
+-- a branch or an end of a block IF that none is open for, or a block IF without an end, of which some
+-- statements stand before and behind
 abbrev pub is_bad_block : List Line → Stmt → List Line → Bool
 is_bad_block before (BlockIf e) behind = stays_open 1 behind
 is_bad_block before (ElseIf e) behind = has_no_branch (blocks_open [] before)

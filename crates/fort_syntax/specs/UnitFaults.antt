@@ -25,7 +25,8 @@ abbrev pub IsTextRuleBroken : Dialect → List Entry → Rule → ℕ → Type 0
 IsTextRuleBroken d [] rule card = ⊥
 IsTextRuleBroken d (entry ∷ entries) rule card = IsUnspelled d entry rule card ⊎ IsTextRuleBroken d entries rule card
 
--- the entries of a deck break a rule on statements or units: a text spells no statement, or all are read and break a rule on units
+-- the entries of a deck break a rule on statements or units: a text spells no statement, or all are read and
+-- break a rule on units
 abbrev pub IsStatementRuleBroken : Dialect → List Entry → Rule → ℕ → Type 0
 IsStatementRuleBroken d entries rule card =
     IsTextRuleBroken d entries rule card

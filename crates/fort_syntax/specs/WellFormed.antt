@@ -88,7 +88,8 @@ are_names u =
 abbrev pub are_held_once : Routine → Bool
 are_held_once u = not (has_twin (u.name ∷ u.dummies ++ commons_of_unit u))
 
--- data names are distinct; dummies, COMMON entities and the value of a FUNCTION are among them, and the name of a SUBROUTINE is not
+-- data names are distinct; dummies, COMMON entities and the value of a FUNCTION are among them, and the name of
+-- a SUBROUTINE is not
 abbrev pub are_data_names : Routine → Bool
 are_data_names u =
     not (has_twin (names_of_unit u))
@@ -111,7 +112,8 @@ are_functions u =
 abbrev pub has_right_dims : Dialect → Routine → DataName → Bool
 has_right_dims dialect u d =
     not (is_bad_shape dialect d.dims)
-    && list_all (λ x. same_role d.role Dummy && is_among x u.dummies && is_integer_scalar (scope_of_unit u) x) (names_in_dims d.dims)
+    && list_all (λ x. same_role d.role Dummy && is_among x u.dummies && is_integer_scalar (scope_of_unit u) x)
+        (names_in_dims d.dims)
 
 -- ---- blocks
 
@@ -190,10 +192,12 @@ is_known u x (argument_of f) = is_among x (names_of_unit u)
 is_known u x actual = is_among x (names_of_unit u)
 is_known u x (assigned_element n) = is_array (scope_of_unit u) x
 is_known u x (applied n) =
-    is_array (scope_of_unit u) x || (is_intrinsic_name x && not (is_among x (names_of_unit u))) || is_among x (functions_of_unit u)
+    is_array (scope_of_unit u) x || (is_intrinsic_name x && not (is_among x (names_of_unit u)))
+        || is_among x (functions_of_unit u)
 is_known u x called = is_name x && not (is_among x (names_of_unit u))
 
--- each name is known, arrays have as many subscripts as dimensions or are whole actuals, and intrinsic functions their number of arguments
+-- each name is known, arrays have as many subscripts as dimensions or are whole actuals, and intrinsic
+-- functions their number of arguments
 abbrev pub has_right_uses : Routine → Stmt → Bool
 has_right_uses u s = list_all (λ o. is_known u o.name o.«use» && not (is_misused (scope_of_unit u) o.name o.«use»)) (uses_of s)
 
@@ -237,8 +241,8 @@ abbrev pub AreWellFormedUnits : Dialect → List Routine → Type 0
 AreWellFormedUnits dialect [] = ⊤
 AreWellFormedUnits dialect (u ∷ us) = IsWellFormedUnit dialect u × AreWellFormedUnits dialect us
 
--- each unit is well formed, and any two of them agree on the blocks that both have; units stand one behind the other; notes stand on
--- ascending cards, in units that are there
+-- each unit is well formed, and any two of them agree on the blocks that both have; units stand one behind the
+-- other; notes stand on ascending cards, in units that are there
 pub record IsWellFormed (dialect : Dialect) (deck : Deck) : Type 0 where
   pub units : AreWellFormedUnits dialect deck.units
   pub blocks : IsTrue (list_all (λ u. list_all (agree_on_blocks u) deck.units) deck.units)

@@ -33,7 +33,8 @@ pub record IsKeptIn (d : Dialect) (bytes : List ℕ) (deck : Deck) (r : Remarks)
   pub kept : KeepsRules p
 
 -- The bytes are accepted: they keep all these rules, and with all paths of the units the program is within the limits on sizes.
-pub record IsAcceptedIn (d : Dialect) (bytes : List ℕ) (deck : Deck) (r : Remarks) (p : Program) (paths : List (List Path)) : Type 0 where
+pub record IsAcceptedIn (d : Dialect) (bytes : List ℕ) (deck : Deck) (r : Remarks) (p : Program)
+    (paths : List (List Path)) : Type 0 where
   pub is_deck : IsDeckIn d bytes deck
   pub accepted : IsAcceptedAs d deck r p paths
   pub within : IsWithinLimits p paths

@@ -36,17 +36,20 @@ KeptAreOne =
 -- bytes that are accepted are so with one list of paths, and with one list of conditions
 abbrev pub AcceptedInAreOne : Type 0
 AcceptedInAreOne =
-    (d : Dialect) (bytes : List ℕ) (a b : Deck) (r s : Remarks) (p q : Program) (paths others : List (List Path)) → IsAcceptedIn d bytes a r p paths → IsAcceptedIn d bytes b s q others
+    (d : Dialect) (bytes : List ℕ) (a b : Deck) (r s : Remarks) (p q : Program) (paths others : List (List Path))
+        → IsAcceptedIn d bytes a r p paths → IsAcceptedIn d bytes b s q others
     → (a ≡ b) × (r ≡ s) × (p ≡ q) × (paths ≡ others) × (conditions_of p paths ≡ conditions_of q others)
 
 -- bytes that keep all rules but those on sizes have no fault of such a rule
 abbrev pub KeptHaveNoFault : Type 0
-KeptHaveNoFault = (d : Dialect) (bytes : List ℕ) (deck : Deck) (r : Remarks) (p : Program) (f : Fault) → IsKeptIn d bytes deck r p → IsRuleFaultIn d bytes f → ⊥
+KeptHaveNoFault = (d : Dialect) (bytes : List ℕ) (deck : Deck) (r : Remarks) (p : Program) (f : Fault)
+    → IsKeptIn d bytes deck r p → IsRuleFaultIn d bytes f → ⊥
 
 -- no bytes are both accepted and at fault
 abbrev pub AcceptedInHaveNoFault : Type 0
 AcceptedInHaveNoFault =
-    (d : Dialect) (bytes : List ℕ) (deck : Deck) (r : Remarks) (p : Program) (paths : List (List Path)) (f : Fault) → IsAcceptedIn d bytes deck r p paths → IsFirstFaultIn d bytes f → ⊥
+    (d : Dialect) (bytes : List ℕ) (deck : Deck) (r : Remarks) (p : Program) (paths : List (List Path)) (f : Fault)
+        → IsAcceptedIn d bytes deck r p paths → IsFirstFaultIn d bytes f → ⊥
 
 -- bytes have at most one first fault
 abbrev pub FaultsInAreOne : Type 0
@@ -63,5 +66,6 @@ KeptAreAccepted =
 -- the conditions of bytes that are accepted are exact, and where all are valid, their program is totally correct
 abbrev pub AcceptedInAreSound : Type 0
 AcceptedInAreSound =
-    (d : Dialect) (bytes : List ℕ) (deck : Deck) (r : Remarks) (p : Program) (paths : List (List Path)) → IsAcceptedIn d bytes deck r p paths
+    (d : Dialect) (bytes : List ℕ) (deck : Deck) (r : Remarks) (p : Program) (paths : List (List Path))
+        → IsAcceptedIn d bytes deck r p paths
     → IsExact p (conditions_of p paths) × (AreValid p.functions (conditions_of p paths) → IsTotallyCorrect p)

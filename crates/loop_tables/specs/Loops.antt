@@ -32,7 +32,8 @@ last_of lines _ = None
 -- a table has at each point, the end among them, those DOs whose last statement stands there, of the statements from one on
 pub record AreLoopsFrom (u : Routine) (at : ℕ) (table : List (List ℕ)) : Type 0 where
   pub long : length table ≡ suc (length u.lines)
-  pub told : (pc : ℕ) → pc ≤ length u.lines → loops_told u.lines (get_or table pc []) ≡ loops_from u.lines pc at (drop at u.lines) []
+  pub told : (pc : ℕ) → pc ≤ length u.lines → loops_told u.lines (get_or table pc []) ≡ loops_from u.lines pc at
+      (drop at u.lines) []
 
 -- the same of all DOs of a unit
 pub record AreLoops (u : Routine) (loops : Loops) : Type 0 where

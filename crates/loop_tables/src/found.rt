@@ -36,7 +36,8 @@ pub(crate) fn put(
     point: usize,
 ) -> Result<(), NoMemory>
     requires { place < vec_len table.old }
-    ensures { OnOk result (table.new.items ≡ set table.old.items place (get_or table.old.items place [] ++ point ∷ [])) }
+    ensures { OnOk result (table.new.items ≡ set table.old.items place
+        (get_or table.old.items place [] ++ point ∷ [])) }
 {
     let mut points = taken(alloc, table, place);
     let Ok(()) = points.push(point) else {

@@ -22,7 +22,8 @@ pub struct Loops {
 fn last_of(unit: &Unit, labels: &LabelPoints, at: usize) -> Option<usize>
     requires labels { ArePointsOf unit.now.lines labels.now }
     requires within { at < length unit.now.lines }
-    ensures last { (line : Line) → slice_get unit.now.lines at ≡ Some line → result ≡ last_of unit.now.lines line.stmt }
+    ensures last { (line : Line) → slice_get unit.now.lines at ≡ Some line
+        → result ≡ last_of unit.now.lines line.stmt }
     ensures inside { IfSome result (λ p. p ≤ length unit.now.lines) }
 {
     let lines = unit.lines.as_slice();
@@ -88,7 +89,8 @@ impl Loops {
 
 /// Those of some points that stand before another.
 pub fn points_before(alloc: Global, points: &[usize], point: usize) -> Result<Vec<usize>, NoMemory>
-    ensures { IfOk result (λ found. (lines : Lines) → loops_told lines found.items ≡ around point (loops_told lines points.now)) }
+    ensures { IfOk result (λ found. (lines : Lines) → loops_told lines found.items
+        ≡ around point (loops_told lines points.now)) }
 {
     let mut found = Vec::new(alloc);
     for at in points {

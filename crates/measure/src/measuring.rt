@@ -25,10 +25,15 @@ use unit_tables::UnitNumbers;
 /// Measures the units of a program, one after another, by their graphs.
 fn measure_units(whole: &Whole, graphs: &[Graph]) -> Result<Counts, Refusal>
     requires ready { (p : Program) × IsReady whole.now.pool.now whole.now.scene.now p }
-    requires graphs { (p : Program) → IsReady whole.now.pool.now whole.now.scene.now p → AreGraphsOf p graphs.now }
-    ensures within { OnOk result ((p : Program) → IsReady whole.now.pool.now whole.now.scene.now p → (paths : List (List Path)) → AreAllPaths p paths → IsWithinLimits p paths) }
-    ensures counted { IfOk result (λ c. (p : Program) → IsReady whole.now.pool.now whole.now.scene.now p → (paths : List (List Path)) → AreAllPaths p paths → AreCountsOf p paths c) }
-    ensures broken { (f : Fault) → result ≡ Err (Broken f) → (p : Program) → IsReady whole.now.pool.now whole.now.scene.now p → IsSizeFault p f }
+    requires graphs { (p : Program) → IsReady whole.now.pool.now whole.now.scene.now p
+        → AreGraphsOf p graphs.now }
+    ensures within { OnOk result ((p : Program) → IsReady whole.now.pool.now whole.now.scene.now p
+        → (paths : List (List Path)) → AreAllPaths p paths → IsWithinLimits p paths) }
+    ensures counted { IfOk result (λ c. (p : Program)
+        → IsReady whole.now.pool.now whole.now.scene.now p → (paths : List (List Path))
+        → AreAllPaths p paths → AreCountsOf p paths c) }
+    ensures broken { (f : Fault) → result ≡ Err (Broken f) → (p : Program)
+        → IsReady whole.now.pool.now whole.now.scene.now p → IsSizeFault p f }
 {
     let mut totals = Totals {
         paths: 0,
@@ -47,9 +52,10 @@ fn measure_units(whole: &Whole, graphs: &[Graph]) -> Result<Counts, Refusal>
     })
 }
 
-/// Measures a program, whose units have these graphs. Ok: along all paths its sizes are within the
-/// limits, and so many are its paths and its conditions. Broken: its fault of sizes, at the head of the first unit that passes a limit, by the
-/// first limit that it passes. Else memory was wanted and not had. No answer depends on the keys.
+/// Measures a program, whose units have these graphs. Ok: along all paths its sizes are within the limits, and
+/// so many are its paths and its conditions. Broken: its fault of sizes, at the head of the first unit that
+/// passes a limit, by the first limit that it passes. Else memory was wanted and not had. No answer depends on
+/// the keys.
 pub fn measure(
     alloc: Global,
     keys: Keys,
@@ -59,9 +65,12 @@ pub fn measure(
 ) -> Result<Counts, Refusal>
     requires ready { (p : Program) × IsReady pool.now scene.now p }
     requires graphs { (p : Program) → IsReady pool.now scene.now p → AreGraphsOf p graphs.now }
-    ensures within { OnOk result ((p : Program) → IsReady pool.now scene.now p → (paths : List (List Path)) → AreAllPaths p paths → IsWithinLimits p paths) }
-    ensures counted { IfOk result (λ c. (p : Program) → IsReady pool.now scene.now p → (paths : List (List Path)) → AreAllPaths p paths → AreCountsOf p paths c) }
-    ensures broken { (f : Fault) → result ≡ Err (Broken f) → (p : Program) → IsReady pool.now scene.now p → IsSizeFault p f }
+    ensures within { OnOk result ((p : Program) → IsReady pool.now scene.now p
+        → (paths : List (List Path)) → AreAllPaths p paths → IsWithinLimits p paths) }
+    ensures counted { IfOk result (λ c. (p : Program) → IsReady pool.now scene.now p
+        → (paths : List (List Path)) → AreAllPaths p paths → AreCountsOf p paths c) }
+    ensures broken { (f : Fault) → result ≡ Err (Broken f) → (p : Program)
+        → IsReady pool.now scene.now p → IsSizeFault p f }
 {
     let Ok(numbers) = UnitNumbers::new(alloc, keys, scene.books.units) else {
         return Err(Refusal::NoMemory);

@@ -60,7 +60,9 @@ fn with_unit(
 ) -> Result<Totals, NoMemory>
     requires count { unit.now.paths ≡ length (ways_of graph.now) }
     requires few { totals.paths + length (ways_of graph.now) ≤ 4096 }
-    ensures { IfOk result (λ t. sizes_of t ≡ with_ways (seen_program whole.now.pool.now whole.now.scene.now) unit.now.number book.now.unit.now (sizes_of totals) (ways_of graph.now)) }
+    ensures { IfOk result (λ t. sizes_of t ≡ with_ways (seen_program whole.now.pool.now
+        whole.now.scene.now) unit.now.number book.now.unit.now (sizes_of totals)
+        (ways_of graph.now)) }
 {
     let lines = book.unit.lines.as_slice();
     let Ok(labels) = LabelPoints::new(whole.alloc, whole.keys, lines) else {
@@ -109,8 +111,14 @@ pub(crate) fn measure_unit(
 ) -> Result<Totals, Refusal>
     requires within { number < length whole.now.scene.now.books.now.units.now }
     requires few { totals.paths ≤ 4096 }
-    ensures within { IfOk result (λ t. (u : Routine) → slice_get whole.now.scene.now.books.now.units.now number ≡ Some u → StaysWithin (seen_program whole.now.pool.now whole.now.scene.now) number u graph.now (sizes_of totals) (sizes_of t)) }
-    ensures broken { (f : Fault) → result ≡ Err (Broken f) → (u : Routine) → slice_get whole.now.scene.now.books.now.units.now number ≡ Some u → PassesBy (seen_program whole.now.pool.now whole.now.scene.now) number u graph.now (sizes_of totals) f }
+    ensures within { IfOk result (λ t. (u : Routine)
+        → slice_get whole.now.scene.now.books.now.units.now number ≡ Some u
+        → StaysWithin (seen_program whole.now.pool.now whole.now.scene.now) number u graph.now
+        (sizes_of totals) (sizes_of t)) }
+    ensures broken { (f : Fault) → result ≡ Err (Broken f) → (u : Routine)
+        → slice_get whole.now.scene.now.books.now.units.now number ≡ Some u
+        → PassesBy (seen_program whole.now.pool.now whole.now.scene.now) number u graph.now
+        (sizes_of totals) f }
 {
     let book = whole.scene.books.book(number);
     let Ok(count) = count_paths(whole.alloc, graph, 4096 - totals.paths) else {

@@ -24,7 +24,8 @@ fn with_next(
     totals: &Totals,
 ) -> Result<Option<Totals>, NoMemory>
     requires few { totals.now.paths ≤ 4096 }
-    requires front { IsFront (sight_of course.now.subject.now) paths.old.course.steps.items (length paths.old.course.steps.items) front.old }
+    requires front { IsFront (sight_of course.now.subject.now) paths.old.course.steps.items
+        (length paths.old.course.steps.items) front.old }
     ensures next { IfOk result (IsNext (seen_program course.now.subject.now.pool.now course.now.subject.now.scene.now) course.now.subject.now.number
         course.now.subject.now.book.now.unit.now (sizes_of totals.now) (ways_left paths.old) (ways_left paths.new)) }
     ensures front { IfOk result (λ found. IfSome found (λ _. IsFront (sight_of course.now.subject.now) paths.new.course.steps.items

@@ -17,4 +17,5 @@ ConditionsAreOfEvents =
 
 -- they are of the pool that what was met is of
 abbrev pub ConditionsAreIn : Type 0
-ConditionsAreIn = (nodes : List Node) (unit : Name) (path : ℕ) (ms : List Met) → AreMet (length nodes) ms → All (IsConditionIn nodes) (conditions_at unit path 0 [] ms)
+ConditionsAreIn = (nodes : List Node) (unit : Name) (path : ℕ) (ms : List Met) → AreMet (length nodes) ms
+    → All (IsConditionIn nodes) (conditions_at unit path 0 [] ms)

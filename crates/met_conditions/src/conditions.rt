@@ -31,7 +31,8 @@ fn condition(
     hyps: &[TermId],
     check: Checked,
 ) -> Result<Condition, NoMemory>
-    ensures { IfOk result (λ c. c ≡ condition_of along.now.unit along.now.path check.number hyps.now check.kind check.card check.goal) }
+    ensures { IfOk result (λ c. c ≡ condition_of along.now.unit along.now.path check.number
+        hyps.now check.kind check.card check.goal) }
 {
     let Ok(hyps) = Vec::from_slice(alloc, hyps) else {
         return Err(NoMemory);
@@ -55,7 +56,9 @@ fn add_check(
     hyps: &mut Vec<TermId>,
     conditions: &mut Vec<Condition>,
 ) -> Result<(), NoMemory>
-    ensures conditions { OnOk result (conditions.new.items ≡ conditions.old.items ++ condition_of along.now.unit along.now.path check.number hyps.old.items check.kind check.card check.goal ∷ []) }
+    ensures conditions { OnOk result (conditions.new.items ≡ conditions.old.items ++ condition_of
+        along.now.unit along.now.path check.number hyps.old.items check.kind check.card
+        check.goal ∷ []) }
     ensures hyps { OnOk result (hyps.new.items ≡ hyps.old.items ++ check.goal ∷ []) }
 {
     let Ok(condition) = condition(alloc, along, hyps, check) else {
@@ -79,7 +82,8 @@ pub fn add_conditions(
     conditions: &mut Vec<Condition>,
 ) -> Result<(), NoMemory>
     requires few { checks_in met.now < 4294967296 }
-    ensures { OnOk result (conditions.new.items ≡ conditions.old.items ++ conditions_at along.now.unit along.now.path 0 [] met.now) }
+    ensures { OnOk result (conditions.new.items ≡ conditions.old.items ++ conditions_at
+        along.now.unit along.now.path 0 [] met.now) }
 {
     let mut checks: u32 = 0;
     let mut hyps = Vec::new(alloc);

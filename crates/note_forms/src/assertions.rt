@@ -36,7 +36,8 @@ fn clocked<'a>(
     text: &'a [u8],
 ) -> Result<(Asserted, &'a [u8]), Lack>
     requires { AllBelow (length pool.old) terms }
-    ensures form { Gives (λ r. parsed (assertion_of pool.new r.0) r.1.now) result (clock_form headings.now (trees_of pool.old terms) text.now) }
+    ensures form { Gives (λ r. parsed (assertion_of pool.new r.0) r.1.now) result
+        (clock_form headings.now (trees_of pool.old terms) text.now) }
     ensures below { IfOk result (λ r. IsAssertedIn pool.new r.0) }
     ensures grows { Grows pool.old pool.new }
 {
@@ -70,7 +71,8 @@ pub fn asserted<'a>(
     headings: &Headings,
     text: &'a [u8],
 ) -> Result<(Asserted, &'a [u8]), Lack>
-    ensures form { Gives (λ r. parsed (assertion_of pool.new r.0) r.1.now) result (assertion_form headings.now text.now) }
+    ensures form { Gives (λ r. parsed (assertion_of pool.new r.0) r.1.now) result
+        (assertion_form headings.now text.now) }
     ensures below { IfOk result (λ r. IsAssertedIn pool.new r.0) }
     ensures grows { Grows pool.old pool.new }
 {

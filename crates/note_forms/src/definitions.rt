@@ -30,7 +30,8 @@ fn last_term<'a>(
     next: Option<&Heading>,
     text: &'a [u8],
 ) -> Result<(TermId, &'a [u8]), Lack>
-    ensures term { Gives (λ r. parsed (tree_of pool.new r.0) r.1.now) result (whole (term headings.now (option_copied next.entry) text.now)) }
+    ensures term { Gives (λ r. parsed (tree_of pool.new r.0) r.1.now) result
+        (whole (term headings.now (option_copied next.entry) text.now)) }
     ensures is_in { IfOk result (λ r. IsIn pool.new r.0) }
     ensures grows { Grows pool.old pool.new }
 {
@@ -48,7 +49,8 @@ pub fn plain_definition<'a>(
     headings: &Headings,
     text: &'a [u8],
 ) -> Result<(Definition, &'a [u8]), Lack>
-    ensures form { Gives (λ r. parsed (definition (function_of pool.new r.0)) r.1.now) result (plain_form headings.now text.now) }
+    ensures form { Gives (λ r. parsed (definition (function_of pool.new r.0)) r.1.now) result
+        (plain_form headings.now text.now) }
     ensures is_in { IfOk result (λ r. IsBodyIn pool.new r.0.body) }
     ensures grows { Grows pool.old pool.new }
 {
@@ -71,7 +73,8 @@ pub fn counting_definition<'a>(
     headings: &Headings,
     text: &'a [u8],
 ) -> Result<(Definition, &'a [u8]), Lack>
-    ensures form { Gives (λ r. parsed (definition (function_of pool.new r.0)) r.1.now) result (counting_form headings.now text.now) }
+    ensures form { Gives (λ r. parsed (definition (function_of pool.new r.0)) r.1.now) result
+        (counting_form headings.now text.now) }
     ensures is_in { IfOk result (λ r. IsBodyIn pool.new r.0.body) }
     ensures grows { Grows pool.old pool.new }
 {

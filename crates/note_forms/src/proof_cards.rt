@@ -20,7 +20,8 @@ fn steps<'a>(
     headings: &Headings,
     text: &'a [u8],
 ) -> Result<(List<Step>, &'a [u8]), Lack>
-    ensures steps { Gives (λ r. parsed (steps_of pool.new r.0) r.1.now) result (rest_of (bracket (step_parts headings.now)) text.now) }
+    ensures steps { Gives (λ r. parsed (steps_of pool.new r.0) r.1.now) result
+        (rest_of (bracket (step_parts headings.now)) text.now) }
     ensures are_in { IfOk result (λ r. AreStepsIn pool.new r.0) }
     ensures grows { Grows pool.old pool.new }
 {
@@ -48,7 +49,8 @@ fn some_steps<'a>(
     headings: &Headings,
     text: &'a [u8],
 ) -> Result<(List<Step>, &'a [u8]), Lack>
-    ensures steps { Gives (λ r. parsed (steps_of pool.new r.0) r.1.now) result (some (rest_of (bracket (step_parts headings.now)) text.now)) }
+    ensures steps { Gives (λ r. parsed (steps_of pool.new r.0) r.1.now) result
+        (some (rest_of (bracket (step_parts headings.now)) text.now)) }
     ensures are_in { IfOk result (λ r. AreStepsIn pool.new r.0) }
     ensures grows { Grows pool.old pool.new }
 {
@@ -80,7 +82,8 @@ pub fn proof_card<'a>(
     earlier: &NameTable,
     text: &'a [u8],
 ) -> Result<(ProofCard, &'a [u8]), Lack>
-    ensures form { Gives (λ r. parsed (proof (proof_tree pool.new r.0)) r.1.now) result (proof_form headings.now earlier.now text.now) }
+    ensures form { Gives (λ r. parsed (proof (proof_tree pool.new r.0)) r.1.now) result
+        (proof_form headings.now earlier.now text.now) }
     ensures are_in { IfOk result (λ r. AreStepsIn pool.new r.0.steps) }
     ensures grows { Grows pool.old pool.new }
 {

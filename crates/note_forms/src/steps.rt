@@ -15,7 +15,8 @@ use std::alloc::Global;
 
 // HYP: the number of a hypothesis.
 fn hyp(text: &[u8]) -> Result<(Step, &[u8]), Lack>
-    ensures form { (pool : List Node) → Gives (λ r. parsed (step_tree pool r.0) r.1.now) result (one_count hypothesis text.now) }
+    ensures form { (pool : List Node) → Gives (λ r. parsed (step_tree pool r.0) r.1.now) result
+        (one_count hypothesis text.now) }
     ensures is_in { (pool : List Node) → IfOk result (λ r. IsStepIn pool r.0) }
 {
     let (i, rest) = count(text)?;
@@ -24,7 +25,8 @@ fn hyp(text: &[u8]) -> Result<(Step, &[u8]), Lack>
 
 // TAKE: the number of a hypothesis.
 fn take(text: &[u8]) -> Result<(Step, &[u8]), Lack>
-    ensures form { (pool : List Node) → Gives (λ r. parsed (step_tree pool r.0) r.1.now) result (one_count take text.now) }
+    ensures form { (pool : List Node) → Gives (λ r. parsed (step_tree pool r.0) r.1.now) result
+        (one_count take text.now) }
     ensures is_in { (pool : List Node) → IfOk result (λ r. IsStepIn pool r.0) }
 {
     let (i, rest) = count(text)?;
@@ -33,7 +35,8 @@ fn take(text: &[u8]) -> Result<(Step, &[u8]), Lack>
 
 // CELL: the numbers of two hypotheses.
 fn cell(text: &[u8]) -> Result<(Step, &[u8]), Lack>
-    ensures form { (pool : List Node) → Gives (λ r. parsed (step_tree pool r.0) r.1.now) result (two_counts cell_bounds text.now) }
+    ensures form { (pool : List Node) → Gives (λ r. parsed (step_tree pool r.0) r.1.now) result
+        (two_counts cell_bounds text.now) }
     ensures is_in { (pool : List Node) → IfOk result (λ r. IsStepIn pool r.0) }
 {
     let (i, rest) = count(text)?;
@@ -43,7 +46,8 @@ fn cell(text: &[u8]) -> Result<(Step, &[u8]), Lack>
 
 // USE: the numbers of two hypotheses.
 fn rewriting(text: &[u8]) -> Result<(Step, &[u8]), Lack>
-    ensures form { (pool : List Node) → Gives (λ r. parsed (step_tree pool r.0) r.1.now) result (two_counts rewrite text.now) }
+    ensures form { (pool : List Node) → Gives (λ r. parsed (step_tree pool r.0) r.1.now) result
+        (two_counts rewrite text.now) }
     ensures is_in { (pool : List Node) → IfOk result (λ r. IsStepIn pool r.0) }
 {
     let (i, rest) = count(text)?;
@@ -53,7 +57,8 @@ fn rewriting(text: &[u8]) -> Result<(Step, &[u8]), Lack>
 
 // SUM: the factor of the goal, and hypotheses with their factors.
 fn sum(alloc: Global, text: &[u8]) -> Result<(Step, &[u8]), Lack>
-    ensures form { (pool : List Node) → Gives (λ r. parsed (step_tree pool r.0) r.1.now) result (sum_parts text.now) }
+    ensures form { (pool : List Node) → Gives (λ r. parsed (step_tree pool r.0) r.1.now) result
+        (sum_parts text.now) }
     ensures is_in { (pool : List Node) → IfOk result (λ r. IsStepIn pool r.0) }
 {
     let (n, rest) = number(text)?;
@@ -68,7 +73,8 @@ fn case_step<'a>(
     headings: &Headings,
     text: &'a [u8],
 ) -> Result<(Step, &'a [u8]), Lack>
-    ensures form { Gives (λ r. parsed (step_tree pool.new r.0) r.1.now) result (one_term headings.now cases text.now) }
+    ensures form { Gives (λ r. parsed (step_tree pool.new r.0) r.1.now) result
+        (one_term headings.now cases text.now) }
     ensures is_in { IfOk result (λ r. IsStepIn pool.new r.0) }
     ensures grows { Grows pool.old pool.new }
 {
@@ -83,7 +89,8 @@ fn unfold<'a>(
     headings: &Headings,
     text: &'a [u8],
 ) -> Result<(Step, &'a [u8]), Lack>
-    ensures form { Gives (λ r. parsed (step_tree pool.new r.0) r.1.now) result (one_term headings.now unfolded text.now) }
+    ensures form { Gives (λ r. parsed (step_tree pool.new r.0) r.1.now) result
+        (one_term headings.now unfolded text.now) }
     ensures is_in { IfOk result (λ r. IsStepIn pool.new r.0) }
     ensures grows { Grows pool.old pool.new }
 {
@@ -98,7 +105,8 @@ fn branch<'a>(
     headings: &Headings,
     text: &'a [u8],
 ) -> Result<(Step, &'a [u8]), Lack>
-    ensures form { Gives (λ r. parsed (step_tree pool.new r.0) r.1.now) result (one_term headings.now branch text.now) }
+    ensures form { Gives (λ r. parsed (step_tree pool.new r.0) r.1.now) result
+        (one_term headings.now branch text.now) }
     ensures is_in { IfOk result (λ r. IsStepIn pool.new r.0) }
     ensures grows { Grows pool.old pool.new }
 {
@@ -114,7 +122,8 @@ fn linear<'a>(
     headings: &Headings,
     text: &'a [u8],
 ) -> Result<(Step, &'a [u8]), Lack>
-    ensures form { Gives (λ r. parsed (step_tree pool.new r.0) r.1.now) result (linear_parts headings.now text.now) }
+    ensures form { Gives (λ r. parsed (step_tree pool.new r.0) r.1.now) result
+        (linear_parts headings.now text.now) }
     ensures is_in { IfOk result (λ r. IsStepIn pool.new r.0) }
     ensures grows { Grows pool.old pool.new }
 {
@@ -137,7 +146,8 @@ fn later_step<'a>(
     requires sum { same_bytes (codes "SUM") word.now ≡ false }
     requires split { same_bytes (codes "SPLIT") word.now ≡ false }
     requires suppose { same_bytes (codes "SUPPOSE") word.now ≡ false }
-    ensures form { Gives (λ r. parsed (step_tree pool.new r.0) r.1.now) result (step_of headings.now word.now text.now) }
+    ensures form { Gives (λ r. parsed (step_tree pool.new r.0) r.1.now) result
+        (step_of headings.now word.now text.now) }
     ensures is_in { IfOk result (λ r. IsStepIn pool.new r.0) }
     ensures grows { Grows pool.old pool.new }
 {
@@ -173,7 +183,8 @@ fn step_of<'a>(
     word: &[u8],
     text: &'a [u8],
 ) -> Result<(Step, &'a [u8]), Lack>
-    ensures form { Gives (λ r. parsed (step_tree pool.new r.0) r.1.now) result (step_of headings.now word.now text.now) }
+    ensures form { Gives (λ r. parsed (step_tree pool.new r.0) r.1.now) result
+        (step_of headings.now word.now text.now) }
     ensures is_in { IfOk result (λ r. IsStepIn pool.new r.0) }
     ensures grows { Grows pool.old pool.new }
 {
@@ -205,7 +216,8 @@ pub(crate) fn step<'a>(
     headings: &Headings,
     text: &'a [u8],
 ) -> Result<(Step, &'a [u8]), Lack>
-    ensures form { Gives (λ r. parsed (step_tree pool.new r.0) r.1.now) result (bracket (step_parts headings.now) text.now) }
+    ensures form { Gives (λ r. parsed (step_tree pool.new r.0) r.1.now) result
+        (bracket (step_parts headings.now) text.now) }
     ensures is_in { IfOk result (λ r. IsStepIn pool.new r.0) }
     ensures grows { Grows pool.old pool.new }
 {

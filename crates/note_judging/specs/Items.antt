@@ -64,12 +64,14 @@ pub record Holds (pool : List Node) (ds : List Definition) (t : Taken) (items : 
 abbrev pub Learns : Taken → Taken → ℕ → NoteForm → Type 0
 Learns old new unit form =
     (pool : List Node) (ds : List Definition) (done : List Judged) (line card : ℕ) → Knows old ds done
-    → Knows new (ds ++ definitions_in form) (done ++ (record { unit = unit; line = line; card = card; form = form_tree pool form }) ∷ [])
+    → Knows new (ds ++ definitions_in form)
+        (done ++ (record { unit = unit; line = line; card = card; form = form_tree pool form }) ∷ [])
 
 -- a note was judged behind others, with the pool that grew: it stands behind them and the rest decides, or it is at fault
 abbrev pub Steps : Deck → List Judged → Placed → List Judged → Result (Unit {0}) Refused → Type 0
 Steps deck old n new (Ok r) = (rest : List Placed) → judged_from deck old (n ∷ rest) ≡ judged_from deck new rest
-Steps deck old n new (Err (note.Broken rule)) = (rest : List Placed) → judged_from deck old (n ∷ rest) ≡ Err (record { rule = rule; card = n.card })
+Steps deck old n new (Err (note.Broken rule)) = (rest : List Placed) → judged_from deck old (n ∷ rest)
+    ≡ Err (record { rule = rule; card = n.card })
 Steps deck old n new (Err note.Memory) = Unit {0}
 
 -- ---- seats

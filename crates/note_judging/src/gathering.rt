@@ -39,7 +39,8 @@ fn learn(taken: &mut Taken, unit: u32, form: &NoteForm) -> Result<(), NoMemory>
 
 // Puts a note behind the others.
 pub(crate) fn gather(gathered: &mut Gathered, note: &Placed, form: NoteForm) -> Result<(), NoMemory>
-    ensures items { OnOk result (gathered.new.items.items ≡ gathered.old.items.items ++ noted_as note.now form ∷ []) }
+    ensures items { OnOk result (gathered.new.items.items ≡ gathered.old.items.items ++
+        noted_as note.now form ∷ []) }
     ensures learns { OnOk result (Learns gathered.old.taken gathered.new.taken note.now.unit form) }
 {
     let Ok(()) = learn(&mut gathered.taken, note.unit, &form) else {

@@ -35,7 +35,8 @@ fn judge_all(
 ) -> Result<Vec<Noted>, Refusal>
     requires seated { IsSeated seat.old.sites.deck.now seat.old }
     requires empty { definitions.old ≡ [] }
-    ensures tells { Tells (λ noted. judged_trees pool.new noted.items) result (judged_from seat.old.sites.deck.now [] notes.now) }
+    ensures tells { Tells (λ noted. judged_trees pool.new noted.items) result
+        (judged_from seat.old.sites.deck.now [] notes.now) }
     ensures inside { IfOk result (λ noted. AreNotedIn pool.new noted.items) }
     ensures defined { IfOk result (λ noted. definitions.new ≡ definitions_among noted.items) }
     ensures added { OnOk result (AreAdded pool.new definitions.new) }

@@ -20,8 +20,12 @@ pub(crate) fn step(
     requires seated { IsSeated seat.old.sites.deck.now seat.old }
     ensures seated { OnOk result (IsSeated seat.old.sites.deck.now seat.new) }
     ensures grows { Grows pool.old pool.new }
-    ensures holds { OnOk result (Holds pool.old definitions.old gathered.old.taken gathered.old.items.items → Holds pool.new definitions.new gathered.new.taken gathered.new.items.items) }
-    ensures steps { Holds pool.old definitions.old gathered.old.taken gathered.old.items.items → Steps seat.old.sites.deck.now (judged_trees pool.old gathered.old.items.items) note.now (judged_trees pool.new gathered.new.items.items) result }
+    ensures holds { OnOk result (Holds pool.old definitions.old gathered.old.taken
+        gathered.old.items.items → Holds pool.new definitions.new gathered.new.taken
+        gathered.new.items.items) }
+    ensures steps { Holds pool.old definitions.old gathered.old.taken gathered.old.items.items
+        → Steps seat.old.sites.deck.now (judged_trees pool.old gathered.old.items.items) note.now
+        (judged_trees pool.new gathered.new.items.items) result }
 {
     let Ok(()) = sit(pool.keys(), seat, note.unit) else {
         return Err(Refused::Memory);

@@ -25,7 +25,8 @@ use Rattle.note_laws.specs.Readable.{AreReadableNotes, IsReadableProof}
 -- the notes of a well-formed deck fit its units
 abbrev pub NotesFitUnits : Type 0
 NotesFitUnits =
-    (dialect : Dialect) (deck : Deck) (r : Remarks) (table : List (List Name)) → IsWellFormed dialect deck → remarks_of deck ≡ Ok r
+    (dialect : Dialect) (deck : Deck) (r : Remarks) (table : List (List Name)) → IsWellFormed dialect deck
+        → remarks_of deck ≡ Ok r
     → HasFittingNotes (program_of dialect deck r table)
 
 -- the ASSERTs of each unit of a well-formed deck stand on cards that increase
@@ -37,7 +38,8 @@ AssertCardsIncrease =
 -- where the deck is made of statements and notes, they stand at points that increase too
 abbrev pub AssertPointsIncrease : Type 0
 AssertPointsIncrease =
-    (dialect : Dialect) (pieces : List Piece) (r : Remarks) → IsWellFormed dialect (deck_of pieces) → remarks_of (deck_of pieces) ≡ Ok r
+    (dialect : Dialect) (pieces : List Piece) (r : Remarks) → IsWellFormed dialect (deck_of pieces)
+        → remarks_of (deck_of pieces) ≡ Ok r
     → (i : ℕ) (notes : Notes) → slice_get r.units i ≡ Some notes → Increase (map (λ a. a.point) notes.asserts)
 
 -- ---- definitions, terms and the bound
@@ -49,11 +51,13 @@ DefinitionsAreReadable = (deck : Deck) (r : Remarks) → remarks_of deck ≡ Ok 
 -- each term of INPUT, OUTPUT, an ASSERT and its clock has numbers of at most 18 digits, names that are symbols, functions
 -- with their arguments, and uses of these definitions with their numbers of arguments
 abbrev pub TermsAreReadable : Type 0
-TermsAreReadable = (deck : Deck) (r : Remarks) → remarks_of deck ≡ Ok r → All (AreReadableNotes (headings_with r.definitions)) r.units
+TermsAreReadable = (deck : Deck) (r : Remarks) → remarks_of deck ≡ Ok r
+    → All (AreReadableNotes (headings_with r.definitions)) r.units
 
 -- so has each term of a certificate
 abbrev pub ProofsAreReadable : Type 0
-ProofsAreReadable = (deck : Deck) (r : Remarks) → remarks_of deck ≡ Ok r → All (IsReadableProof (headings_with r.definitions)) r.proofs
+ProofsAreReadable = (deck : Deck) (r : Remarks) → remarks_of deck ≡ Ok r
+    → All (IsReadableProof (headings_with r.definitions)) r.proofs
 
 -- the bound is from 1 to 10^18 - 1
 abbrev pub BoundsAreSmall : Type 0

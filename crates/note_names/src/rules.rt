@@ -22,7 +22,8 @@ use note_forms::Asserted;
 /// The rule that an INPUT breaks by its names.
 pub fn input_broken(pool: &TermPool, roles: &Roles, ids: &[TermId]) -> Option<Rule>
     requires { AllBelow (length pool.now) ids.now }
-    ensures { (done : List Judged) (u : Option Unit) → AreRolesOf u roles.now → result ≡ names_broken done u (input (trees_of pool.now ids.now)) }
+    ensures { (done : List Judged) (u : Option Unit) → AreRolesOf u roles.now
+        → result ≡ names_broken done u (input (trees_of pool.now ids.now)) }
 {
     if !all_pass(pool, NameTest::NoOld, roles, ids) {
         return Some(Rule::BadNote);
@@ -40,7 +41,8 @@ pub fn input_broken(pool: &TermPool, roles: &Roles, ids: &[TermId]) -> Option<Ru
 /// The rule that an OUTPUT breaks by its names.
 pub fn output_broken(pool: &TermPool, roles: &Roles, ids: &[TermId]) -> Option<Rule>
     requires { AllBelow (length pool.now) ids.now }
-    ensures { (done : List Judged) (u : Option Unit) → AreRolesOf u roles.now → result ≡ names_broken done u (output (trees_of pool.now ids.now)) }
+    ensures { (done : List Judged) (u : Option Unit) → AreRolesOf u roles.now
+        → result ≡ names_broken done u (output (trees_of pool.now ids.now)) }
 {
     if !all_pass(pool, NameTest::GoodOld, roles, ids) {
         return Some(Rule::BadNote);
@@ -57,7 +59,8 @@ pub fn output_broken(pool: &TermPool, roles: &Roles, ids: &[TermId]) -> Option<R
 /// The rule that an ASSERT breaks by its names.
 pub fn assertion_broken(pool: &TermPool, roles: &Roles, asserted: &Asserted) -> Option<Rule>
     requires { IsAssertedIn pool.now asserted.now }
-    ensures { (done : List Judged) (u : Option Unit) → AreRolesOf u roles.now → result ≡ names_broken done u (assertion_of pool.now asserted.now) }
+    ensures { (done : List Judged) (u : Option Unit) → AreRolesOf u roles.now
+        → result ≡ names_broken done u (assertion_of pool.now asserted.now) }
 {
     let terms = asserted.terms.as_slice();
     let clock = asserted.clock.as_slice();

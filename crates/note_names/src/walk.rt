@@ -27,7 +27,8 @@ pub(crate) fn passes(pool: &TermPool, test: NameTest, roles: &Roles, id: TermId)
 #[cycle(term)]
 fn row_passes(pool: &TermPool, test: NameTest, roles: &Roles, args: &[TermId]) -> bool
     requires { AllBelow (length pool.now) args.now }
-    ensures { result ≡ row_names_pass (now_passes test roles.now) (entry_passes test roles.now) (row_in (trees pool.now) args.now) }
+    ensures { result ≡ row_names_pass (now_passes test roles.now) (entry_passes test roles.now)
+        (row_in (trees pool.now) args.now) }
 {
     for i in 0..args.len() {
         if !passes(pool, test, roles, args[i]) {

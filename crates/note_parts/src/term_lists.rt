@@ -38,7 +38,8 @@ pub fn term_list<'a>(
     until: Until,
     text: &'a [u8],
 ) -> Result<(List<TermId>, &'a [u8]), Lack>
-    ensures terms { Gives (λ r. parsed (trees_of pool.new r.0) r.1.now) result (parts (ends_at until) (term headings.now None) text.now) }
+    ensures terms { Gives (λ r. parsed (trees_of pool.new r.0) r.1.now) result
+        (parts (ends_at until) (term headings.now None) text.now) }
     ensures below { IfOk result (λ r. AllBelow (length pool.new) r.0) }
     ensures grows { Grows pool.old pool.new }
 {
@@ -67,7 +68,8 @@ pub fn some_terms<'a>(
     until: Until,
     text: &'a [u8],
 ) -> Result<(List<TermId>, &'a [u8]), Lack>
-    ensures terms { Gives (λ r. parsed (trees_of pool.new r.0) r.1.now) result (some (parts (ends_at until) (term headings.now None) text.now)) }
+    ensures terms { Gives (λ r. parsed (trees_of pool.new r.0) r.1.now) result
+        (some (parts (ends_at until) (term headings.now None) text.now)) }
     ensures below { IfOk result (λ r. AllBelow (length pool.new) r.0) }
     ensures grows { Grows pool.old pool.new }
 {

@@ -17,7 +17,8 @@ pub fn term<'a>(
     next: Option<&Heading>,
     text: &'a [u8],
 ) -> Result<(TermId, &'a [u8]), Lack>
-    ensures term { Gives (λ r. parsed (tree_of pool.new r.0) r.1.now) result (term headings.now (option_copied next.entry) text.now) }
+    ensures term { Gives (λ r. parsed (tree_of pool.new r.0) r.1.now) result
+        (term headings.now (option_copied next.entry) text.now) }
     ensures is_in { IfOk result (λ r. IsIn pool.new r.0) }
     ensures grows { Grows pool.old pool.new }
 {
@@ -36,7 +37,8 @@ pub fn plain_term<'a>(
     headings: &Headings,
     text: &'a [u8],
 ) -> Result<(TermId, &'a [u8]), Lack>
-    ensures term { Gives (λ r. parsed (tree_of pool.new r.0) r.1.now) result (term headings.now None text.now) }
+    ensures term { Gives (λ r. parsed (tree_of pool.new r.0) r.1.now) result
+        (term headings.now None text.now) }
     ensures is_in { IfOk result (λ r. IsIn pool.new r.0) }
     ensures grows { Grows pool.old pool.new }
 {

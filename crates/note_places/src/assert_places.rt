@@ -64,7 +64,8 @@ impl AssertPlaces {
     }
 
     fn put(&mut self, place: u64, marks: (u32, bool)) -> Result<(), NoMemory>
-        ensures { OnOk result ((k : ℕ) → told self.new k ≡ cond (nat_eq place k) (Some marks) (told self.old k)) }
+        ensures { OnOk result ((k : ℕ) → told self.new k ≡ cond (nat_eq place k) (Some marks)
+            (told self.old k)) }
     {
         match self.map.insert(place, marks) {
             Ok(_) => Ok(()),
@@ -81,7 +82,9 @@ impl AssertPlaces {
 
     // An ASSERT more at a place.
     fn add_at(&mut self, unit: u32, line: u32, card: u32) -> Result<(), NoMemory>
-        ensures { OnOk result ((u l : ℕ) → l < 4294967296 → told self.new (key u l) ≡ (if (unit == u) && (line == l) then Some (more_marks (told self.old (key u l)) card) else told self.old (key u l))) }
+        ensures { OnOk result ((u l : ℕ) → l < 4294967296 → told self.new (key u l)
+            ≡ (if (unit == u) && (line == l) then Some (more_marks (told self.old (key u l)) card)
+            else told self.old (key u l))) }
     {
         let place = key(unit, line);
         let known = self.marks(unit, line);
@@ -92,7 +95,9 @@ impl AssertPlaces {
 
     // A note more; it counts where it is an ASSERT.
     fn add(&mut self, note: &Placed) -> Result<(), NoMemory>
-        ensures { OnOk result ((u l : ℕ) → l < 4294967296 → told self.new (key u l) ≡ (if begins_with judging.Assert note.now && is_at u l note.now then Some (more_marks (told self.old (key u l)) note.now.card) else told self.old (key u l))) }
+        ensures { OnOk result ((u l : ℕ) → l < 4294967296 → told self.new (key u l)
+            ≡ (if begins_with judging.Assert note.now && is_at u l note.now then Some
+            (more_marks (told self.old (key u l)) note.now.card) else told self.old (key u l))) }
     {
         if !begins_with_assert(note.text.as_slice()) {
             return Ok(());
@@ -124,7 +129,8 @@ impl AssertPlaces {
     /// places of the ASSERTs among the notes.
     pub fn is_alone(&self, notes: &[Placed], note: &Placed) -> bool
         requires { AreMarksOf notes.now self.now }
-        ensures { result ≡ not (list_any (λ m. begins_with judging.Assert m && is_beside note.now m) notes.now) }
+        ensures { result ≡ not (list_any (λ m. begins_with judging.Assert m && is_beside note.now m)
+            notes.now) }
     {
         self.is_alone_at(notes, note.unit, note.line, note.card)
     }

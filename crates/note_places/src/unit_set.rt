@@ -56,7 +56,8 @@ impl UnitSet {
 
     // The same, where it is to be added.
     fn add_where(&mut self, wanted: bool, unit: usize) -> Result<(), NoMemory>
-        ensures { OnOk result ((i : ℕ) → is_known i self.new ≡ ((nat_eq i unit && wanted) || is_known i self.old)) }
+        ensures { OnOk result ((i : ℕ) → is_known i self.new ≡ ((nat_eq i unit && wanted)
+            || is_known i self.old)) }
     {
         if !wanted {
             return Ok(());

@@ -66,5 +66,6 @@ clocks_broken text most = first_failing ((nat_le (clocks text) most, BadNote) �
 
 -- the rule that a form breaks by CLOCK and by names; whether a definition may be added is not looked at
 abbrev pub broken_by : List Judged → Option Routine → List ℕ → Form → Option Rule
-broken_by done u text (definition d) = or_else (clocks_broken text 0) (first_failing ((list_all has_no_old (body_terms d.body), BadNote) ∷ []))
+broken_by done u text (definition d) = or_else (clocks_broken text 0)
+    (first_failing ((list_all has_no_old (body_terms d.body), BadNote) ∷ []))
 broken_by done u text f = or_else (clocks_broken text (may_have_clocks f)) (names_broken done u f)

@@ -55,7 +55,8 @@ fn most_clocks(asserted: &Asserted) -> usize
 // The rule that entry values in a definition break.
 fn body_rule(pool: &TermPool, roles: &Roles, body: Body) -> Option<Rule>
     requires { IsBodyIn pool.now body }
-    ensures { result ≡ first_failing ((list_all has_no_old (body_terms (body_of pool.now body)), Rule.BadNote) ∷ []) }
+    ensures { result ≡ first_failing ((list_all has_no_old (body_terms (body_of pool.now body)),
+        Rule.BadNote) ∷ []) }
 {
     if body_has_no_old(pool, roles, body) {
         None
@@ -67,7 +68,9 @@ fn body_rule(pool: &TermPool, roles: &Roles, body: Body) -> Option<Rule>
 // The rule that entry values in a certificate break.
 fn steps_rule(pool: &TermPool, roles: &Roles, steps: &[Step]) -> Option<Rule>
     requires { AreStepsIn pool.now steps.now }
-    ensures { result ≡ first_failing ((list_all has_no_old (flat_map step_terms (steps_of pool.now steps.now)), Rule.BadNote) ∷ []) }
+    ensures { result ≡ first_failing
+        ((list_all has_no_old (flat_map step_terms (steps_of pool.now steps.now)), Rule.BadNote)
+        ∷ []) }
 {
     if steps_have_no_old(pool, roles, steps) {
         None
@@ -80,7 +83,8 @@ fn steps_rule(pool: &TermPool, roles: &Roles, steps: &[Step]) -> Option<Rule>
 /// the names of the note's unit. Whether a definition may be added is not looked at.
 pub fn broken(pool: &TermPool, roles: &Roles, text: &[u8], form: &NoteForm) -> Option<Rule>
     requires { IsFormIn pool.now form.now }
-    ensures { (done : List Judged) (u : Option Unit) → AreRolesOf u roles.now → result ≡ broken_by done u text.now (form_tree pool.now form.now) }
+    ensures { (done : List Judged) (u : Option Unit) → AreRolesOf u roles.now
+        → result ≡ broken_by done u text.now (form_tree pool.now form.now) }
 {
     match form {
         NoteForm::Bound(_) | NoteForm::Run(_) | NoteForm::Try(_) => first(

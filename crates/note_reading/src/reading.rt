@@ -30,7 +30,8 @@ fn plain_note<'a>(
     headings: &Headings,
     text: &'a [u8],
 ) -> Result<(NoteForm, &'a [u8]), Lack>
-    ensures form { Gives (λ r. parsed (form_tree pool.new r.0) r.1.now) result (plain_form headings.now text.now) }
+    ensures form { Gives (λ r. parsed (form_tree pool.new r.0) r.1.now) result
+        (plain_form headings.now text.now) }
     ensures is_in { IfOk result (λ r. IsFormIn pool.new r.0) }
     ensures grows { Grows pool.old pool.new }
 {
@@ -47,7 +48,8 @@ fn counting_note<'a>(
     headings: &Headings,
     text: &'a [u8],
 ) -> Result<(NoteForm, &'a [u8]), Lack>
-    ensures form { Gives (λ r. parsed (form_tree pool.new r.0) r.1.now) result (counting_form headings.now text.now) }
+    ensures form { Gives (λ r. parsed (form_tree pool.new r.0) r.1.now) result
+        (counting_form headings.now text.now) }
     ensures is_in { IfOk result (λ r. IsFormIn pool.new r.0) }
     ensures grows { Grows pool.old pool.new }
 {
@@ -64,7 +66,8 @@ fn input_note<'a>(
     headings: &Headings,
     text: &'a [u8],
 ) -> Result<(NoteForm, &'a [u8]), Lack>
-    ensures form { Gives (λ r. parsed (form_tree pool.new r.0) r.1.now) result (input_form headings.now text.now) }
+    ensures form { Gives (λ r. parsed (form_tree pool.new r.0) r.1.now) result
+        (input_form headings.now text.now) }
     ensures is_in { IfOk result (λ r. IsFormIn pool.new r.0) }
     ensures grows { Grows pool.old pool.new }
 {
@@ -81,7 +84,8 @@ fn output_note<'a>(
     headings: &Headings,
     text: &'a [u8],
 ) -> Result<(NoteForm, &'a [u8]), Lack>
-    ensures form { Gives (λ r. parsed (form_tree pool.new r.0) r.1.now) result (output_form headings.now text.now) }
+    ensures form { Gives (λ r. parsed (form_tree pool.new r.0) r.1.now) result
+        (output_form headings.now text.now) }
     ensures is_in { IfOk result (λ r. IsFormIn pool.new r.0) }
     ensures grows { Grows pool.old pool.new }
 {
@@ -98,7 +102,8 @@ fn assert_note<'a>(
     headings: &Headings,
     text: &'a [u8],
 ) -> Result<(NoteForm, &'a [u8]), Lack>
-    ensures form { Gives (λ r. parsed (form_tree pool.new r.0) r.1.now) result (assertion_form headings.now text.now) }
+    ensures form { Gives (λ r. parsed (form_tree pool.new r.0) r.1.now) result
+        (assertion_form headings.now text.now) }
     ensures is_in { IfOk result (λ r. IsFormIn pool.new r.0) }
     ensures grows { Grows pool.old pool.new }
 {
@@ -116,7 +121,8 @@ fn proof_note<'a>(
     lemmas: &NameTable,
     text: &'a [u8],
 ) -> Result<(NoteForm, &'a [u8]), Lack>
-    ensures form { Gives (λ r. parsed (form_tree pool.new r.0) r.1.now) result (proof_form headings.now lemmas.now text.now) }
+    ensures form { Gives (λ r. parsed (form_tree pool.new r.0) r.1.now) result
+        (proof_form headings.now lemmas.now text.now) }
     ensures is_in { IfOk result (λ r. IsFormIn pool.new r.0) }
     ensures grows { Grows pool.old pool.new }
 {
@@ -134,7 +140,8 @@ pub fn read_form<'a>(
     word: NoteWord,
     text: &'a [u8],
 ) -> Result<(NoteForm, &'a [u8]), Lack>
-    ensures form { Gives (λ r. parsed (form_tree pool.new r.0) r.1.now) result (form_by known.now.headings.now known.now.lemmas.now (kind_of word) text.now) }
+    ensures form { Gives (λ r. parsed (form_tree pool.new r.0) r.1.now) result
+        (form_by known.now.headings.now known.now.lemmas.now (kind_of word) text.now) }
     ensures is_in { IfOk result (λ r. IsFormIn pool.new r.0) }
     ensures grows { Grows pool.old pool.new }
 {

@@ -38,9 +38,11 @@ fn add(
     d: &Definition,
 ) -> Result<Option<Rule>, NoMemory>
     requires { IsBodyIn pool.now d.now.body }
-    ensures rule { IfOk result (λ r. r ≡ rule_if (adding_fault (headings_of definitions.old) d.now.name d.now.params (body_of pool.now d.now.body))) }
+    ensures rule { IfOk result (λ r. r ≡ rule_if (adding_fault (headings_of definitions.old)
+        d.now.name d.now.params (body_of pool.now d.now.body))) }
     ensures defined { IfOk result (λ r. r ≡ None → definitions.new ≡ definitions.old ++ d.now ∷ []) }
-    ensures added { IfOk result (λ r. r ≡ None → AreAdded pool.now definitions.old → AreAdded pool.now definitions.new) }
+    ensures added { IfOk result (λ r. r ≡ None → AreAdded pool.now definitions.old
+        → AreAdded pool.now definitions.new) }
 {
     let Ok(params) = d.params.copied(alloc) else {
         return Err(NoMemory);
@@ -62,9 +64,12 @@ pub(crate) fn define(
     form: &NoteForm,
 ) -> Result<Option<Rule>, NoMemory>
     requires { IsFormIn pool.now form.now }
-    ensures rule { IfOk result (λ r. r ≡ defined_broken (headings_of definitions.old) (form_tree pool.now form.now)) }
-    ensures defined { IfOk result (λ r. r ≡ None → definitions.new ≡ definitions.old ++ definitions_in form.now) }
-    ensures added { IfOk result (λ r. r ≡ None → AreAdded pool.now definitions.old → AreAdded pool.now definitions.new) }
+    ensures rule { IfOk result (λ r. r ≡ defined_broken (headings_of definitions.old)
+        (form_tree pool.now form.now)) }
+    ensures defined { IfOk result (λ r. r ≡ None → definitions.new ≡ definitions.old ++
+        definitions_in form.now) }
+    ensures added { IfOk result (λ r. r ≡ None → AreAdded pool.now definitions.old
+        → AreAdded pool.now definitions.new) }
 {
     match form {
         NoteForm::Definition(d) => add(alloc, pool, definitions, d),

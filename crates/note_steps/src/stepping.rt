@@ -28,7 +28,9 @@ fn read_behind(
     kind: NoteWord,
     text: &[u8],
 ) -> Result<NoteForm, Refused>
-    ensures form { Says (form_tree pool.new) result (form_only (form_behind known.now.headings.now known.now.lemmas.now (kind_of kind) text.now)) }
+    ensures form { Says (form_tree pool.new) result
+        (form_only (form_behind known.now.headings.now known.now.lemmas.now
+        (kind_of kind) text.now)) }
     ensures is_in { IfOk result (IsFormIn pool.new) }
     ensures grows { Grows pool.old pool.new }
 {
@@ -51,7 +53,8 @@ fn read(
 ) -> Result<NoteForm, Refused>
     requires last { sites.now.last_end ≡ last_end 0 sites.now.deck.now.units }
     requires marks { AreMarksOf sites.now.deck.now.notes sites.now.asserts }
-    ensures form { Says (form_tree pool.new) result (read_as sites.now.deck.now taken.now headings.now note.now (word_of_note note.now)) }
+    ensures form { Says (form_tree pool.new) result (read_as sites.now.deck.now taken.now
+        headings.now note.now (word_of_note note.now)) }
     ensures is_in { IfOk result (IsFormIn pool.new) }
     ensures grows { Grows pool.old pool.new }
 {
@@ -89,7 +92,8 @@ pub fn judged(
     requires last { sites.now.last_end ≡ last_end 0 sites.now.deck.now.units }
     requires marks { AreMarksOf sites.now.deck.now.notes sites.now.asserts }
     requires roles { AreRolesOf (unit_of_number sites.now.deck.now.units note.now.unit) sites.now.roles }
-    ensures says { Says (λ f. judged_note note.now (form_tree pool.new f)) result (told sites.now.deck.now taken.now (headings_of definitions.old) note.now) }
+    ensures says { Says (λ f. judged_note note.now (form_tree pool.new f)) result
+        (told sites.now.deck.now taken.now (headings_of definitions.old) note.now) }
     ensures is_in { IfOk result (IsFormIn pool.new) }
     ensures grows { Grows pool.old pool.new }
     ensures defined { IfOk result (λ f. definitions.new ≡ definitions.old ++ definitions_in f) }

@@ -16,7 +16,8 @@ use walk_terms::{greatest_integer, least_integer, natural, negative};
 fn low_bound(pool: &mut TermPool, bound: u64) -> Result<TermId, NoMemory>
     ensures grows { Grows pool.old pool.new }
     ensures is_in { IfOk result (λ id. IsIn pool.new id) }
-    ensures tree { IfOk result (λ id. tree_of pool.new id ≡ make2 of_terms AtMost (senses.least_integer of_terms) (num (neg_ℤ (pos bound)))) }
+    ensures tree { IfOk result (λ id. tree_of pool.new id ≡ make2 of_terms AtMost
+        (senses.least_integer of_terms) (num (neg_ℤ (pos bound)))) }
 {
     let least = least_integer(pool)?;
     let low = negative(pool, bound)?;
@@ -28,7 +29,8 @@ fn low_bound(pool: &mut TermPool, bound: u64) -> Result<TermId, NoMemory>
 fn high_bound(pool: &mut TermPool, bound: u64) -> Result<TermId, NoMemory>
     ensures grows { Grows pool.old pool.new }
     ensures is_in { IfOk result (λ id. IsIn pool.new id) }
-    ensures tree { IfOk result (λ id. tree_of pool.new id ≡ make2 of_terms AtMost (senses.natural of_terms bound) (senses.greatest_integer of_terms)) }
+    ensures tree { IfOk result (λ id. tree_of pool.new id ≡ make2 of_terms AtMost
+        (senses.natural of_terms bound) (senses.greatest_integer of_terms)) }
 {
     let high = natural(pool, bound)?;
     let greatest = greatest_integer(pool)?;

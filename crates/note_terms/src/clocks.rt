@@ -15,7 +15,8 @@ pub fn at_least_zero(
     numbers: &[TermId],
 ) -> Result<Vec<TermId>, NoMemory>
     requires { AllBelow (length pool.old) numbers.now }
-    ensures { IfOk result (λ terms. Makes pool.old pool.new terms.items (map at_least_0 (trees_in pool.old numbers.now))) }
+    ensures { IfOk result (λ terms. Makes pool.old pool.new terms.items
+        (map at_least_0 (trees_in pool.old numbers.now))) }
 {
     let mut terms = Vec::new(alloc);
     for number in numbers {
@@ -37,7 +38,8 @@ fn first_below(
     requires later { IsIn pool.old later }
     ensures grows { Grows pool.old pool.new }
     ensures is_in { IfOk result (λ id. IsIn pool.new id) }
-    ensures tree { IfOk result (λ id. tree_of pool.new id ≡ below (tree_of pool.old new) (tree_of pool.old old) (tree_of pool.old later)) }
+    ensures tree { IfOk result (λ id. tree_of pool.new id ≡ below (tree_of pool.old new)
+        (tree_of pool.old old) (tree_of pool.old later)) }
 {
     let less = pool.binary(BuiltIn::Less, new, old)?;
     let most = pool.binary(BuiltIn::AtMost, new, old)?;
@@ -53,7 +55,8 @@ pub fn fallen(pool: &mut TermPool, new: &[TermId], old: &[TermId]) -> Result<Ter
     requires old { AllBelow (length pool.old) old.now }
     ensures grows { Grows pool.old pool.new }
     ensures is_in { IfOk result (λ id. IsIn pool.new id) }
-    ensures tree { IfOk result (λ id. tree_of pool.new id ≡ falls_in (trees_in pool.old new.now) (trees_in pool.old old.now)) }
+    ensures tree { IfOk result (λ id. tree_of pool.new id ≡ falls_in (trees_in pool.old new.now)
+        (trees_in pool.old old.now)) }
 {
     let [first, more @ ..] = new else {
         return pool.truth(false);

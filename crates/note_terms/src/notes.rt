@@ -24,7 +24,8 @@ pub fn note_term(
     requires known { is_known_term names.now.table entry.now (tree_of pool.old id) ≡ true }
     ensures grows { Grows pool.old pool.new }
     ensures is_in { IfOk result (λ r. IsIn pool.new r) }
-    ensures tree { IfOk result (λ r. tree_of pool.new r ≡ stated pool.old names.now entry.now (tree_of pool.old id)) }
+    ensures tree { IfOk result (λ r. tree_of pool.new r ≡ stated pool.old names.now entry.now
+        (tree_of pool.old id)) }
 {
     let term = substitute_names(alloc, pool, &names.table, names.terms.as_slice(), entry, id)?;
     Ok(term)
@@ -42,7 +43,8 @@ pub fn note_terms(
     requires entry { AllBelow (length pool.old) entry.now }
     requires ids { AllBelow (length pool.old) ids.now }
     requires known { are_known_terms names.now.table entry.now (trees_in pool.old ids.now) ≡ true }
-    ensures { IfOk result (λ terms. Makes pool.old pool.new terms.items (map (stated pool.old names.now entry.now) (trees_in pool.old ids.now))) }
+    ensures { IfOk result (λ terms. Makes pool.old pool.new terms.items
+        (map (stated pool.old names.now entry.now) (trees_in pool.old ids.now))) }
 {
     let mut terms = Vec::new(alloc);
     for id in ids {

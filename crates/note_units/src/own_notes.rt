@@ -20,8 +20,11 @@ pub(crate) fn put_input(
     unit: u32,
     terms: List<TermId>,
 ) -> Result<(), NoMemory>
-    ensures units { OnOk result ((pool : List Node) (line card : ℕ) → map (notes_tree pool) units.new.items ≡ with_note_in (note_tree pool unit line card (note.Input terms)) 1 (map (notes_tree pool) units.old.items)) }
-    ensures inside { OnOk result ((n : ℕ) → AllBelow n terms → All (AreNotesIn n) units.old.items → All (AreNotesIn n) units.new.items) }
+    ensures units { OnOk result ((pool : List Node) (line card : ℕ)
+        → map (notes_tree pool) units.new.items ≡ with_note_in (note_tree pool unit line card
+        (note.Input terms)) 1 (map (notes_tree pool) units.old.items)) }
+    ensures inside { OnOk result ((n : ℕ) → AllBelow n terms → All (AreNotesIn n) units.old.items
+        → All (AreNotesIn n) units.new.items) }
 {
     let at = unit as usize;
     if at == 0 || units.len() < at {
@@ -41,8 +44,11 @@ pub(crate) fn put_output(
     unit: u32,
     terms: List<TermId>,
 ) -> Result<(), NoMemory>
-    ensures units { OnOk result ((pool : List Node) (line card : ℕ) → map (notes_tree pool) units.new.items ≡ with_note_in (note_tree pool unit line card (note.Output terms)) 1 (map (notes_tree pool) units.old.items)) }
-    ensures inside { OnOk result ((n : ℕ) → AllBelow n terms → All (AreNotesIn n) units.old.items → All (AreNotesIn n) units.new.items) }
+    ensures units { OnOk result ((pool : List Node) (line card : ℕ)
+        → map (notes_tree pool) units.new.items ≡ with_note_in (note_tree pool unit line card
+        (note.Output terms)) 1 (map (notes_tree pool) units.old.items)) }
+    ensures inside { OnOk result ((n : ℕ) → AllBelow n terms → All (AreNotesIn n) units.old.items
+        → All (AreNotesIn n) units.new.items) }
 {
     let at = unit as usize;
     if at == 0 || units.len() < at {
@@ -62,8 +68,13 @@ pub(crate) fn put_assert(
     unit: u32,
     assert: AssertSpec,
 ) -> Result<(), NoMemory>
-    ensures units { OnOk result ((pool : List Node) (c : Bool) → map (notes_tree pool) units.new.items ≡ with_note_in (note_tree pool unit assert.line assert.card (note.Assertion (record { terms = assert.terms; has_clock = c; clock = assert.clock }))) 1 (map (notes_tree pool) units.old.items)) }
-    ensures inside { OnOk result ((n : ℕ) → IsAssertIn n assert → All (AreNotesIn n) units.old.items → All (AreNotesIn n) units.new.items) }
+    ensures units { OnOk result ((pool : List Node) (c : Bool)
+        → map (notes_tree pool) units.new.items ≡ with_note_in
+        (note_tree pool unit assert.line assert.card (note.Assertion
+        (record { terms = assert.terms; has_clock = c; clock = assert.clock }))) 1
+        (map (notes_tree pool) units.old.items)) }
+    ensures inside { OnOk result ((n : ℕ) → IsAssertIn n assert → All (AreNotesIn n) units.old.items
+        → All (AreNotesIn n) units.new.items) }
 {
     let at = unit as usize;
     if at == 0 || units.len() < at {

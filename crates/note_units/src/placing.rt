@@ -26,8 +26,11 @@ fn push<X: Drop>(items: &mut Vec<X>, item: X) -> Result<(), NoMemory>
 
 // Puts a note where it belongs.
 pub(crate) fn put(alloc: Global, sorted: &mut Sorted, noted: Noted) -> Result<(), NoMemory>
-    ensures puts { OnOk result ((pool : List Node) → Puts pool sorted.old sorted.new (judged_tree pool noted)) }
-    ensures inside { OnOk result ((pool : List Node) → IsFormIn pool noted.form → AreIn pool sorted.old.units.items sorted.old.proofs.items → AreIn pool sorted.new.units.items sorted.new.proofs.items) }
+    ensures puts { OnOk result ((pool : List Node) → Puts pool sorted.old sorted.new
+        (judged_tree pool noted)) }
+    ensures inside { OnOk result ((pool : List Node) → IsFormIn pool noted.form
+        → AreIn pool sorted.old.units.items sorted.old.proofs.items
+        → AreIn pool sorted.new.units.items sorted.new.proofs.items) }
 {
     let Noted {
         unit,

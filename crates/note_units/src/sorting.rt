@@ -49,7 +49,9 @@ fn first_bound(bounds: &[u64]) -> u64
 
 // What stands where it belongs, as specs.
 fn specs(sorted: Sorted) -> Specs
-    ensures { result ≡ record { bound = first_or 32767 sorted.bounds.items; units = sorted.units.items; runs = sorted.runs.items; tries = sorted.tries.items; proofs = sorted.proofs.items } }
+    ensures { result ≡ record { bound = first_or 32767 sorted.bounds.items; units =
+        sorted.units.items; runs = sorted.runs.items; tries = sorted.tries.items; proofs =
+        sorted.proofs.items } }
 {
     let Sorted {
         bounds,
@@ -71,8 +73,10 @@ fn specs(sorted: Sorted) -> Specs
 /// the cards of RUN, TRY and PROOF, each in the order of the notes. It takes time and memory in the
 /// number of notes and of units, and nothing is copied.
 pub fn specs_of(alloc: Global, units: &[Unit], noted: Vec<Noted>) -> Result<Specs, NoMemory>
-    ensures says { IfOk result (λ s. (pool : List Node) → remarks_by units.now (judged_trees pool noted.items) ≡ remarks_tree pool (definitions_among noted.items) s) }
-    ensures inside { IfOk result (λ s. (pool : List Node) → AreNotedIn pool noted.items → AreIn pool s.units s.proofs) }
+    ensures says { IfOk result (λ s. (pool : List Node) → remarks_by units.now
+        (judged_trees pool noted.items) ≡ remarks_tree pool (definitions_among noted.items) s) }
+    ensures inside { IfOk result (λ s. (pool : List Node) → AreNotedIn pool noted.items
+        → AreIn pool s.units s.proofs) }
 {
     let Ok(mut sorted) = empty(alloc, units.len()) else {
         return Err(NoMemory);

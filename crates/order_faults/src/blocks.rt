@@ -113,7 +113,8 @@ pub(crate) fn scan_blocks(alloc: Global, unit: &[Line]) -> Result<Option<Fault>,
 /// The first fault of a unit by the rule on block IFs.
 #[tactic(auto, using(crate::proofs::BlockFaults::found))]
 pub fn block_fault(alloc: Global, unit: &[Line]) -> Result<Option<Fault>, NoMemory>
-    ensures { IfOk result (λ fault. (dialect : Dialect) (earlier : List Segment) → fault ≡ fault_in_stage block_rules (places_in dialect earlier unit.now [] unit.now)) }
+    ensures { IfOk result (λ fault. (dialect : Dialect) (earlier : List Segment)
+        → fault ≡ fault_in_stage block_rules (places_in dialect earlier unit.now [] unit.now)) }
 {
     scan_blocks(alloc, unit)
 }

@@ -31,7 +31,8 @@ fn scans(lines: &[Line]) -> Option<Fault>
 /// The first fault of a deck's statements by the rules on their order.
 #[tactic(auto, using(crate::proofs::OrderScans::all_scanned))]
 pub fn deck_order_fault(lines: &[Line]) -> Option<Fault>
-    ensures { (dialect : Dialect) → result ≡ fault_in_stage order_rules (places dialect (segments lines.now)) }
+    ensures { (dialect : Dialect) → result ≡ fault_in_stage order_rules
+        (places dialect (segments lines.now)) }
 {
     scans(lines)
 }
@@ -56,7 +57,8 @@ fn block_scans(alloc: Global, lines: &[Line]) -> Result<Option<Fault>, NoMemory>
 /// The first fault of a deck's statements by the rule on block IFs.
 #[tactic(auto, using(crate::proofs::BlockFaults::all_found))]
 pub fn deck_block_fault(alloc: Global, lines: &[Line]) -> Result<Option<Fault>, NoMemory>
-    ensures { IfOk result (λ fault. (dialect : Dialect) → fault ≡ fault_in_stage block_rules (places dialect (segments lines.now))) }
+    ensures { IfOk result (λ fault. (dialect : Dialect) → fault ≡ fault_in_stage block_rules
+        (places dialect (segments lines.now))) }
 {
     block_scans(alloc, lines)
 }

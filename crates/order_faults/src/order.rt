@@ -43,7 +43,8 @@ pub(crate) fn scan(unit: &[Line]) -> Option<Fault>
 /// The first fault of a unit by the rules on the order of its statements.
 #[tactic(auto, using(crate::proofs::OrderScans::scanned))]
 pub fn order_fault(unit: &[Line]) -> Option<Fault>
-    ensures { (dialect : Dialect) (earlier : List Segment) → result ≡ fault_in_stage order_rules (places_in dialect earlier unit.now [] unit.now) }
+    ensures { (dialect : Dialect) (earlier : List Segment) → result ≡ fault_in_stage order_rules
+        (places_in dialect earlier unit.now [] unit.now) }
 {
     scan(unit)
 }

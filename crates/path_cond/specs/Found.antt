@@ -38,16 +38,19 @@ trees_of d = map (condition_tree d.pool) d.conditions.items
 
 -- a graph is that of the unit of a number, in each program that a scene is ready for
 abbrev pub IsGraphAt : List Node → Scene → ℕ → Graph → Type 0
-IsGraphAt pool scene i graph = (p : Program) (u : Routine) → IsReady pool scene p → slice_get p.units i ≡ Some u → IsGraphOf p.dialect u (notes_of p i) graph
+IsGraphAt pool scene i graph = (p : Program) (u : Routine) → IsReady pool scene p → slice_get p.units i ≡ Some u
+    → IsGraphOf p.dialect u (notes_of p i) graph
 
 -- a graph is that of the unit of a plan, in each such program
 abbrev pub IsGraphIn : List Node → Plan → Graph → Type 0
 IsGraphIn pool plan graph =
-    (p : Program) → IsReady pool plan.setting.now.scene.now p → IsGraphOf p.dialect (unit_of plan) (notes_of p plan.setting.now.number) graph
+    (p : Program) → IsReady pool plan.setting.now.scene.now p → IsGraphOf p.dialect (unit_of plan)
+        (notes_of p plan.setting.now.number) graph
 
 -- the unit of a plan has a start, the entry or an ASSERT of this number, in each such program
 abbrev pub StartsIn : List Node → Plan → ℕ → Type 0
-StartsIn pool plan start = (p : Program) → IsReady pool plan.setting.now.scene.now p → HasStart (seen_from plan.setting.now p) start
+StartsIn pool plan start = (p : Program) → IsReady pool plan.setting.now.scene.now p
+    → HasStart (seen_from plan.setting.now p) start
 
 -- the unit of a number has fewer than 2^32 paths, with fewer than 2^32 checks along each
 pub record AreFew (p : Program) (i : ℕ) (u : Routine) (graph : Graph) : Type 0 where
@@ -56,16 +59,19 @@ pub record AreFew (p : Program) (i : ℕ) (u : Routine) (graph : Graph) : Type 0
 
 -- so it is with the unit of a number, in each program that a scene is ready for
 abbrev pub AreFewAt : List Node → Scene → ℕ → Graph → Type 0
-AreFewAt pool scene i graph = (p : Program) (u : Routine) → IsReady pool scene p → slice_get p.units i ≡ Some u → AreFew p i u graph
+AreFewAt pool scene i graph = (p : Program) (u : Routine) → IsReady pool scene p → slice_get p.units i ≡ Some u
+    → AreFew p i u graph
 
 -- so it is with the unit of a plan, in each such program
 abbrev pub AreFewIn : List Node → Plan → Graph → Type 0
-AreFewIn pool plan graph = (p : Program) → IsReady pool plan.setting.now.scene.now p → AreFew p plan.setting.now.number (unit_of plan) graph
+AreFewIn pool plan graph = (p : Program) → IsReady pool plan.setting.now.scene.now p
+    → AreFew p plan.setting.now.number (unit_of plan) graph
 
 -- along a way there are fewer than 2^32 checks, in each such program
 abbrev pub HasFewChecks : List Node → Plan → Way → Type 0
 HasFewChecks pool plan way =
-    (p : Program) → IsReady pool plan.setting.now.scene.now p → length (labels (along (seen_from plan.setting.now p) way.start way.steps way.end)) < 4294967296
+    (p : Program) → IsReady pool plan.setting.now.scene.now p
+        → length (labels (along (seen_from plan.setting.now p) way.start way.steps way.end)) < 4294967296
 
 -- conditions were added, in each program that a scene is ready for
 pub record Adds (scene : Scene) (before after : Drafts) (more : Program → List ConditionTree) : Type 0 where
@@ -75,7 +81,8 @@ pub record Adds (scene : Scene) (before after : Drafts) (more : Program → List
 
 -- the conditions along a way
 abbrev pub conditions_of_way : Plan → ℕ → Way → Program → List ConditionTree
-conditions_of_way plan n way p = conditions_from (unit_of plan).name n 1 [] (along (seen_from plan.setting.now p) way.start way.steps way.end)
+conditions_of_way plan n way p = conditions_from (unit_of plan).name n 1 []
+    (along (seen_from plan.setting.now p) way.start way.steps way.end)
 
 abbrev pub conditions_of_ways : Plan → ℕ → List Way → Program → List ConditionTree
 conditions_of_ways plan n [] p = []
@@ -91,7 +98,8 @@ AddsPaths plan n ways before after = Adds plan.setting.now.scene.now before afte
 pub record AddsUnit (scene : Scene) (i : ℕ) (before after : Drafts) : Type 0 where
   pub grows : Grows before.pool after.pool
   pub kept : IsDraft after
-  pub is : (p : Program) (u : Routine) (paths : List Path) → IsReady before.pool scene p → slice_get p.units i ≡ Some u → ArePathsInOrder p.dialect u (notes_of p i) paths
+  pub is : (p : Program) (u : Routine) (paths : List Path) → IsReady before.pool scene p
+      → slice_get p.units i ≡ Some u → ArePathsInOrder p.dialect u (notes_of p i) paths
       → trees_of after ≡ trees_of before ++ conditions_along p i u 1 paths
 
 -- the ways that are left, with the one that a cursor stands at

@@ -32,14 +32,18 @@ fn add_path(
 ) -> Result<Walked, NoMemory>
     requires plan { IsPlan plan.now }
     requires same { flow.now.setting.now ≡ plan.now.setting.now }
-    requires graph { (notes : Notes) × IsGraphOf flow.now.setting.now.scene.now.dialect flow.now.setting.now.book.now.unit.now notes flow.now.graph.now }
+    requires graph { (notes : Notes) × IsGraphOf flow.now.setting.now.scene.now.dialect
+        flow.now.setting.now.book.now.unit.now notes flow.now.graph.now }
     requires ready { (p : Program) × IsReady walked.front.walk.pool plan.now.setting.now.scene.now p }
     requires start { StartsIn walked.front.walk.pool plan.now path.now.start }
     requires few { HasFewChecks walked.front.walk.pool plan.now (way_seen path.now) }
-    requires front { (before : List Step) × SharesSteps path.now.shared before path.now.steps.now × IsFront plan.now.setting.now before (length before) walked.front }
+    requires front { (before : List Step) × SharesSteps path.now.shared before path.now.steps.now
+        × IsFront plan.now.setting.now before (length before) walked.front }
     requires drafts { IsDraft (drafts_of walked) }
-    ensures front { IfOk result (λ next. IsFront plan.now.setting.now path.now.steps.now (length path.now.steps.now) next.front) }
-    ensures adds { IfOk result (λ next. AddsPath plan.now (way_seen path.now) number (drafts_of walked) (drafts_of next)) }
+    ensures front { IfOk result (λ next. IsFront plan.now.setting.now path.now.steps.now
+        (length path.now.steps.now) next.front) }
+    ensures adds { IfOk result (λ next. AddsPath plan.now (way_seen path.now) number
+        (drafts_of walked) (drafts_of next)) }
 {
     let Walked {
         alloc,

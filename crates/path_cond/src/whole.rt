@@ -30,9 +30,12 @@ pub fn conditions(
 ) -> Result<Conditions, NoMemory>
     requires ready { (p : Program) × IsReady pool scene.now p }
     requires graphs { (p : Program) → IsReady pool scene.now p → AreGraphsOf p graphs.now }
-    requires within { (p : Program) → IsReady pool scene.now p → (paths : List (List Path)) → AreAllPaths p paths → IsWithinLimits p paths }
+    requires within { (p : Program) → IsReady pool scene.now p → (paths : List (List Path))
+        → AreAllPaths p paths → IsWithinLimits p paths }
     ensures grows { IfOk result (λ c. Grows pool c.pool) }
-    ensures trees { IfOk result (λ c. (p : Program) → IsReady pool scene.now p → (paths : List (List Path)) → AreAllPaths p paths → map (condition_tree c.pool) c.conditions ≡ conditions_of p paths) }
+    ensures trees { IfOk result (λ c. (p : Program) → IsReady pool scene.now p
+        → (paths : List (List Path)) → AreAllPaths p paths
+        → map (condition_tree c.pool) c.conditions ≡ conditions_of p paths) }
     ensures inside { IfOk result (λ c. All (IsConditionIn c.pool) c.conditions) }
 {
     let Ok(numbers) = UnitNumbers::new(alloc, keys, scene.books.units) else {

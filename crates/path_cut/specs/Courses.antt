@@ -23,9 +23,13 @@ pub record Moves (f : Flow) (old : Course) (stage : Stage) (new : Course) : Type
 
 -- a turn goes through the statement at a point
 pub record Enters (f : Flow) (old : Course) (p : ℕ) (new : Course) : Type 0 where
-  pub kept : all_left f new new.stage ≡ behind_statement f.graph.now (is_marked f.marks.items) old.start (ways_on f.graph.now (is_marked f.marks.items) f.limit old.start) old.steps.items p (slice_get f.graph.now.starts p)
+  pub kept : all_left f new new.stage ≡ behind_statement f.graph.now (is_marked f.marks.items) old.start
+      (ways_on f.graph.now (is_marked f.marks.items) f.limit old.start) old.steps.items p
+      (slice_get f.graph.now.starts p)
       ++ rest f.graph.now (is_marked f.marks.items) f.limit old.start old.steps.items
-  pub less : work_of f new new.stage ≤ suc (statement_work f.graph.now (is_marked f.marks.items) f.limit (work f.graph.now (is_marked f.marks.items) f.limit (f.limit - suc (length old.steps.items))) (slice_get f.graph.now.starts p)
+  pub less : work_of f new new.stage ≤ suc (statement_work f.graph.now (is_marked f.marks.items) f.limit
+      (work f.graph.now (is_marked f.marks.items) f.limit (f.limit - suc (length old.steps.items)))
+      (slice_get f.graph.now.starts p)
       + rest_work f.graph.now (is_marked f.marks.items) f.limit old.start old.steps.items)
 
 -- the last step is taken away

@@ -7,7 +7,8 @@ use Rattle.fort_model.specs.declared.graph.Target.TheVariants.{Point, Fork as At
 use Rattle.path_cut.specs.declared.step.Step.{Step}
 use Rattle.path_cut.specs.declared.step.Step.TheVariants.{At, Choice}
 
--- a way: the number of its start, 0 for the entry and else that of an ASSERT, counted from 1; its steps; and the point that ends it
+-- a way: the number of its start, 0 for the entry and else that of an ASSERT, counted from 1; its steps; and
+-- the point that ends it
 pub record Way : Type 0 where
   pub start : ℕ
   pub steps : List Step

@@ -14,7 +14,8 @@ module _ (graph : Graph) (cut : ℕ → Bool) (limit : ℕ) where
 
   -- behind some steps, the ways by those targets of a fork that were not tried
   abbrev pub turns_left : ℕ → List Step → ℕ → ℕ → List Way
-  turns_left s steps k c = by_each graph cut s (ways graph cut s (limit - suc (length steps))) steps k c (drop c (targets_of (slice_get graph.forks k)))
+  turns_left s steps k c = by_each graph cut s (ways graph cut s (limit - suc (length steps))) steps k c
+      (drop c (targets_of (slice_get graph.forks k)))
 
   abbrev pub left_at : ℕ → List Step → Step → List Way
   left_at s steps (At p) = []

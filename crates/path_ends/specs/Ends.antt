@@ -66,7 +66,8 @@ clock_checks card clock parts = checks ClockCheck card (map at_least_0 parts) ++
 
 -- what is checked at an ASSERT, by what a frame tells
 abbrev pub assert_checks : List Node → Frame → Option (List Tree) → AssertSpec → List (Event Tree)
-assert_checks nodes f clock a = checks AssertCheck a.card (told_by nodes f a.terms) ++ clock_checks a.card clock (told_by nodes f a.clock)
+assert_checks nodes f clock a = checks AssertCheck a.card (told_by nodes f a.terms) ++ clock_checks a.card clock
+    (told_by nodes f a.clock)
 
 -- ---- in a program
 
@@ -74,10 +75,12 @@ assert_checks nodes f clock a = checks AssertCheck a.card (told_by nodes f a.ter
 abbrev pub AssertArrives : Plan → Option Clock → ℕ → Walk → Walk → Type 0
 AssertArrives plan clock point w0 w1 =
     (card : ℕ) → DoesIn w0.pool plan.setting.now (moment w0)
-    (λ w. meet (arrive w (clock_trees w0.pool clock) card (cut_of (assertion_at (notes_of w.program w.number) point)) (moment w0).now [])) (moment w1) tt
+    (λ w. meet (arrive w (clock_trees w0.pool clock) card
+        (cut_of (assertion_at (notes_of w.program w.number) point)) (moment w0).now [])) (moment w1) tt
 
 -- what is checked where a path ends was checked
 abbrev pub Arrives : Plan → Option Clock → Last → Walk → Walk → Type 0
 Arrives plan clock last w0 w1 =
     DoesIn w0.pool plan.setting.now (moment w0)
-    (λ w. meet (arrive w (clock_trees w0.pool clock) last.card (cut_at w.unit (notes_of w.program w.number) last.point) (moment w0).now [])) (moment w1) tt
+    (λ w. meet (arrive w (clock_trees w0.pool clock) last.card (cut_at w.unit (notes_of w.program w.number)
+        last.point) (moment w0).now [])) (moment w1) tt

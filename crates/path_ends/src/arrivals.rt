@@ -34,7 +34,8 @@ fn check_assert(
     requires parts { IsStartOf walk.old frame.now assert.now.clock }
     requires clock { IsClockIn (length walk.old.pool) clock.now }
     ensures on { OnOk result (Follows walk.old walk.new) }
-    ensures did { OnOk result (Did (moment walk.old) (meet (assert_checks walk.old.pool frame.now (clock_trees walk.old.pool clock.now) assert.now)) (moment walk.new) tt) }
+    ensures did { OnOk result (Did (moment walk.old) (meet (assert_checks walk.old.pool frame.now
+        (clock_trees walk.old.pool clock.now) assert.now)) (moment walk.new) tt) }
 {
     let terms = assert.terms.as_slice();
     let Ok(()) = check_notes(walk, frame, Kind::AssertCheck, assert.card, terms) else {
@@ -54,7 +55,8 @@ fn check_output(walk: &mut Walk, plan: &Plan, frame: &Frame, card: u32) -> Resul
     requires ready { (p : Program) × IsReady walk.old.pool plan.now.setting.now.scene.now p }
     requires frame { TellsNow plan.now walk.old frame.now }
     ensures on { OnOk result (Follows walk.old walk.new) }
-    ensures did { OnOk result (DoesIn walk.old.pool plan.now.setting.now (moment walk.old) (λ w. meet (arrive w None card AtEnd (moment walk.old).now [])) (moment walk.new) tt) }
+    ensures did { OnOk result (DoesIn walk.old.pool plan.now.setting.now (moment walk.old)
+        (λ w. meet (arrive w None card AtEnd (moment walk.old).now [])) (moment walk.new) tt) }
 {
     let output = plan.spec.output.as_slice();
     let Ok(()) = check_notes(walk, frame, Kind::OutputCheck, card, output) else {

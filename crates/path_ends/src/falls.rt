@@ -24,7 +24,9 @@ pub(crate) fn check_fall(
     requires clock { IsClockIn (length walk.old.pool) clock.now }
     requires new { AllBelow (length walk.old.pool) new.now }
     ensures on { OnOk result (Follows walk.old walk.new) }
-    ensures did { OnOk result (Did (moment walk.old) (meet (fall_in card (clock_trees walk.old.pool clock.now) (trees_in walk.old.pool new.now))) (moment walk.new) tt) }
+    ensures did { OnOk result (Did (moment walk.old)
+        (meet (fall_in card (clock_trees walk.old.pool clock.now) (trees_in walk.old.pool new.now)))
+        (moment walk.new) tt) }
 {
     let Some(old) = clock else {
         return Ok(());

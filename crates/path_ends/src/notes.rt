@@ -27,7 +27,8 @@ pub(crate) fn check_notes(
     requires well { IsWalk walk.old }
     requires terms { IsStartOf walk.old frame.now ids.now }
     ensures on { OnOk result (Follows walk.old walk.new) }
-    ensures did { OnOk result (Did (moment walk.old) (meet (checks kind card (told_by walk.old.pool frame.now ids.now))) (moment walk.new) tt) }
+    ensures did { OnOk result (Did (moment walk.old)
+        (meet (checks kind card (told_by walk.old.pool frame.now ids.now))) (moment walk.new) tt) }
 {
     let Ok(goals) = note_terms(walk.alloc, &mut walk.pool, &frame.names, &frame.entry, ids) else {
         return Err(NoMemory);
@@ -50,7 +51,9 @@ pub(crate) fn check_clock(
     requires terms { IsStartOf walk.old frame.now ids.now }
     requires clock { IsClockIn (length walk.old.pool) clock.now }
     ensures on { OnOk result (Follows walk.old walk.new) }
-    ensures did { OnOk result (Did (moment walk.old) (meet (clock_checks card (clock_trees walk.old.pool clock.now) (told_by walk.old.pool frame.now ids.now))) (moment walk.new) tt) }
+    ensures did { OnOk result (Did (moment walk.old)
+        (meet (clock_checks card (clock_trees walk.old.pool clock.now)
+        (told_by walk.old.pool frame.now ids.now))) (moment walk.new) tt) }
 {
     let Ok(parts) = note_terms(walk.alloc, &mut walk.pool, &frame.names, &frame.entry, ids) else {
         return Err(NoMemory);

@@ -18,7 +18,9 @@ fn set_one(walk: &mut Walk, frame: &mut Frame, unit: &Unit, name: &Name) -> Resu
     requires frame { IsSomeFrame walk.old.pool unit.now frame.old }
     ensures on { OnOk result (Follows walk.old walk.new) }
     ensures same { OnOk result (moment walk.new ≡ moment walk.old) }
-    ensures frame { OnOk result ((was : Named Tree) → IsFrame walk.old.pool unit.now frame.old was → IsFrame walk.new.pool unit.now frame.new (with_name was name.now ((moment walk.old).now name.now))) }
+    ensures frame { OnOk result ((was : Named Tree) → IsFrame walk.old.pool unit.now frame.old was
+        → IsFrame walk.new.pool unit.now frame.new (with_name was name.now
+        ((moment walk.old).now name.now))) }
 {
     let Ok(term) = walk.term(name) else {
         return Err(NoMemory);
@@ -35,7 +37,9 @@ pub(crate) fn set_now(walk: &mut Walk, frame: &mut Frame, unit: &Unit) -> Result
     requires frame { IsSomeFrame walk.old.pool unit.now frame.old }
     ensures on { OnOk result (Follows walk.old walk.new) }
     ensures same { OnOk result (moment walk.new ≡ moment walk.old) }
-    ensures frame { OnOk result ((was : Named Tree) → IsFrame walk.old.pool unit.now frame.old was → IsFrame walk.new.pool unit.now frame.new (told_in unit.now.names (moment walk.old).now was)) }
+    ensures frame { OnOk result ((was : Named Tree) → IsFrame walk.old.pool unit.now frame.old was
+        → IsFrame walk.new.pool unit.now frame.new (told_in unit.now.names
+        (moment walk.old).now was)) }
 {
     let entities = unit.names.as_slice();
     for entity in entities {

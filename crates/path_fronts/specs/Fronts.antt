@@ -26,10 +26,12 @@ total m g = record { card = g.card; now = g.now; events = m.events ++ g.events; 
 -- some statements lead from one moment to another, and to a card: whatever statements follow, these come to the same from there
 abbrev pub Leads : Sight Tree → Moment → List (ℕ × List ℕ) → ℕ → Moment → Type 0
 Leads w m0 front card m =
-    (more : List (ℕ × List ℕ)) → total m (gone w more card m.now m.answers) ≡ total m0 (gone w (front ++ more) 0 m0.now m0.answers)
+    (more : List (ℕ × List ℕ)) → total m (gone w more card m.now m.answers) ≡ total m0
+        (gone w (front ++ more) 0 m0.now m0.answers)
 
 -- a mark tells a moment to which some statements lead, by what names stood for at marks and by what was met
-pub record IsMark (w : Sight Tree) (m0 : Moment) (front : List (ℕ × List ℕ)) (told : List (Named Tree)) (events : List (Event Tree)) (mark : Mark) : Type 0 where
+pub record IsMark (w : Sight Tree) (m0 : Moment) (front : List (ℕ × List ℕ)) (told : List (Named Tree))
+    (events : List (Event Tree)) (mark : Mark) : Type 0 where
   pub at : Moment
   pub more : List (Event Tree)
   pub names : told ≡ at.now ∷ at.past
@@ -58,14 +60,16 @@ pub record IsFront (s : Setting) (steps : List Step) (bound : ℕ) (f : Front) :
   pub well : IsWalk f.walk
   pub clock : IsClockIn (length f.walk.pool) f.clock
   pub places : ArePlaces steps bound f.marks
-  pub parts : (p : Program) → IsReady f.walk.pool s.scene.now p → clock_trees f.walk.pool f.clock ≡ clock_from (seen_from s p) f.start
+  pub parts : (p : Program) → IsReady f.walk.pool s.scene.now p → clock_trees f.walk.pool f.clock
+      ≡ clock_from (seen_from s p) f.start
   pub marked : (p : Program) → IsReady f.walk.pool s.scene.now p
       → AreMarks (seen_from s p) (set_out_at (seen_from s p) f.start) steps (moment f.walk).past (moment f.walk).events f.marks
 
 -- the walk stands behind the statements that begin within the first steps
 abbrev pub Reaches : Setting → List Step → ℕ → ℕ → Front → Type 0
 Reaches s steps k card f =
-    (p : Program) → IsReady f.walk.pool s.scene.now p → Leads (seen_from s p) (set_out_at (seen_from s p) f.start) (firsts k steps) card (moment f.walk)
+    (p : Program) → IsReady f.walk.pool s.scene.now p → Leads (seen_from s p) (set_out_at (seen_from s p) f.start)
+        (firsts k steps) card (moment f.walk)
 
 -- the walk stands behind all statements of a way, the last of them at a card
 abbrev pub HasGone : Setting → List Step → ℕ → Front → Type 0

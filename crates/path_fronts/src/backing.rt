@@ -14,7 +14,9 @@ fn step_back(front: &mut Front) -> Option<Mark>
     ensures start { front.new.start ≡ front.old.start }
     ensures pool { front.new.walk.pool ≡ front.old.walk.pool }
     ensures less { IfSome result (λ mark. front.old.marks ≡ mark ∷ front.new.marks) }
-    ensures at { IfSome result (λ mark. (s : Setting) (steps : List Step) (bound : ℕ) → ((p : Program) × IsReady front.old.walk.pool s.scene.now p) → IsFront s steps bound front.old → IsAt s steps mark front.new) }
+    ensures at { IfSome result (λ mark. (s : Setting) (steps : List Step) (bound : ℕ)
+        → ((p : Program) × IsReady front.old.walk.pool s.scene.now p)
+        → IsFront s steps bound front.old → IsAt s steps mark front.new) }
 {
     let Some(mark) = front.marks.pop() else {
         return None;
@@ -31,7 +33,9 @@ pub(crate) fn back_to(front: &mut Front, start: usize, shared: usize) -> Option<
     ensures start { IfSome result (λ _. front.new.start ≡ start) }
     ensures pool { front.new.walk.pool ≡ front.old.walk.pool }
     ensures before { IfSome result (λ mark. mark.place < shared) }
-    ensures at { IfSome result (λ mark. (s : Setting) (steps : List Step) (bound : ℕ) → ((p : Program) × IsReady front.old.walk.pool s.scene.now p) → IsFront s steps bound front.old → IsAt s steps mark front.new) }
+    ensures at { IfSome result (λ mark. (s : Setting) (steps : List Step) (bound : ℕ)
+        → ((p : Program) × IsReady front.old.walk.pool s.scene.now p)
+        → IsFront s steps bound front.old → IsAt s steps mark front.new) }
 {
     if front.start != start {
         return None;

@@ -31,7 +31,8 @@ fn finish(front: &mut Front, plan: &Plan, path: &PathView, card: u32) -> Result<
     requires front { IsFront plan.now.setting.now path.now.steps.now (length path.now.steps.now) front.old }
     requires gone { HasGone plan.now.setting.now path.now.steps.now card front.old }
     ensures grows { OnOk result (Grows front.old.walk.pool front.new.walk.pool) }
-    ensures front { OnOk result (IsFront plan.now.setting.now path.now.steps.now (length path.now.steps.now) front.new) }
+    ensures front { OnOk result (IsFront plan.now.setting.now path.now.steps.now
+        (length path.now.steps.now) front.new) }
     ensures along { OnOk result (WalksAlong plan.now front.old.walk.pool (way_seen path.now) front.new.walk) }
 {
     let unit = plan.setting.book.unit;
@@ -61,11 +62,14 @@ pub fn follow(
 ) -> Result<Front, NoMemory>
     requires plan { IsPlan plan.now }
     requires same { flow.now.setting.now ≡ plan.now.setting.now }
-    requires graph { (notes : Notes) × IsGraphOf flow.now.setting.now.scene.now.dialect flow.now.setting.now.book.now.unit.now notes flow.now.graph.now }
+    requires graph { (notes : Notes) × IsGraphOf flow.now.setting.now.scene.now.dialect
+        flow.now.setting.now.book.now.unit.now notes flow.now.graph.now }
     requires ready { (p : Program) × IsReady front.walk.pool plan.now.setting.now.scene.now p }
-    requires front { (before : List OneStep) × SharesSteps path.now.shared before path.now.steps.now × IsFront plan.now.setting.now before (length before) front }
+    requires front { (before : List OneStep) × SharesSteps path.now.shared before path.now.steps.now
+        × IsFront plan.now.setting.now before (length before) front }
     ensures grows { IfOk result (λ next. Grows front.walk.pool next.walk.pool) }
-    ensures front { IfOk result (λ next. IsFront plan.now.setting.now path.now.steps.now (length path.now.steps.now) next) }
+    ensures front { IfOk result (λ next. IsFront plan.now.setting.now path.now.steps.now
+        (length path.now.steps.now) next) }
     ensures along { IfOk result (λ next. WalksAlong plan.now front.walk.pool (way_seen path.now) next.walk) }
 {
     let Ok(standing) = stand(front, plan, path) else {

@@ -31,9 +31,14 @@ fn perform_at(
     requires well { IsWalk walk.old }
     requires ready { (p : Program) × IsReady walk.old.pool flow.now.setting.now.scene.now p }
     requires within { point < length flow.now.setting.now.book.now.unit.now.lines }
-    requires graph { (notes : Notes) × IsGraphOf flow.now.setting.now.scene.now.dialect flow.now.setting.now.book.now.unit.now notes flow.now.graph.now }
+    requires graph { (notes : Notes) × IsGraphOf flow.now.setting.now.scene.now.dialect
+        flow.now.setting.now.book.now.unit.now notes flow.now.graph.now }
     ensures on { OnOk result (Follows walk.old walk.new) }
-    ensures did { OnOk result ((line : Line) → slice_get flow.now.setting.now.book.now.unit.now.lines point ≡ Some line → PerformsIn walk.old.pool flow.now.setting.now (moment walk.old) (λ w. forms.performed w line.card point (moment walk.old).now line.stmt (turns behind.now)) (moment walk.new)) }
+    ensures did { OnOk result ((line : Line)
+        → slice_get flow.now.setting.now.book.now.unit.now.lines point ≡ Some line
+        → PerformsIn walk.old.pool flow.now.setting.now (moment walk.old)
+        (λ w. forms.performed w line.card point (moment walk.old).now line.stmt (turns behind.now))
+        (moment walk.new)) }
 {
     let Ok(choices) = turns(walk.alloc, behind) else {
         return Err(NoMemory);
@@ -55,7 +60,8 @@ pub(crate) fn go(
 ) -> Result<u32, NoMemory>
     requires within { place ≤ length steps.now }
     requires ready { (p : Program) × IsReady front.old.walk.pool flow.now.setting.now.scene.now p }
-    requires graph { (notes : Notes) × IsGraphOf flow.now.setting.now.scene.now.dialect flow.now.setting.now.book.now.unit.now notes flow.now.graph.now }
+    requires graph { (notes : Notes) × IsGraphOf flow.now.setting.now.scene.now.dialect
+        flow.now.setting.now.book.now.unit.now notes flow.now.graph.now }
     requires front { IsFront flow.now.setting.now steps.now place front.old }
     requires at { Reaches flow.now.setting.now steps.now place card front.old }
     ensures start { OnOk result (front.new.start ≡ front.old.start) }

@@ -12,8 +12,11 @@ use edge_io::NoMemory;
 pub(crate) fn set_mark(front: &mut Front, place: usize, card: u32) -> Result<(), NoMemory>
     ensures start { OnOk result (front.new.start ≡ front.old.start) }
     ensures pool { OnOk result (front.new.walk.pool ≡ front.old.walk.pool) }
-    ensures front { OnOk result ((s : Setting) (steps : List Step) → IsFront s steps place front.old → Reaches s steps place card front.old → HasAt steps place → IsFront s steps (suc place) front.new) }
-    ensures at { OnOk result ((s : Setting) (steps : List Step) → IsFront s steps place front.old → Reaches s steps place card front.old → Reaches s steps place card front.new) }
+    ensures front { OnOk result ((s : Setting) (steps : List Step) → IsFront s steps place front.old
+        → Reaches s steps place card front.old → HasAt steps place
+        → IsFront s steps (suc place) front.new) }
+    ensures at { OnOk result ((s : Setting) (steps : List Step) → IsFront s steps place front.old
+        → Reaches s steps place card front.old → Reaches s steps place card front.new) }
 {
     let mark = Mark {
         place,

@@ -33,8 +33,10 @@ fn begin(alloc: Global, pool: TermPool, plan: &Plan, start: usize) -> Result<Fro
     requires ready { (p : Program) × IsReady pool plan.now.setting.now.scene.now p }
     ensures start { IfOk result (λ front. front.start ≡ start) }
     ensures grows { IfOk result (λ front. Grows pool front.walk.pool) }
-    ensures front { IfOk result (λ front. (steps : List OneStep) → IsFront plan.now.setting.now steps 0 front) }
-    ensures at { IfOk result (λ front. (steps : List OneStep) → Reaches plan.now.setting.now steps 0 0 front) }
+    ensures front { IfOk result (λ front. (steps : List OneStep)
+        → IsFront plan.now.setting.now steps 0 front) }
+    ensures at { IfOk result (λ front. (steps : List OneStep)
+        → Reaches plan.now.setting.now steps 0 0 front) }
 {
     let keys = pool.keys();
     let Ok(mut begun) = enter(alloc, keys, pool, plan) else {
@@ -57,12 +59,14 @@ fn begin(alloc: Global, pool: TermPool, plan: &Plan, start: usize) -> Result<Fro
 pub(crate) fn stand(front: Front, plan: &Plan, path: &PathView) -> Result<Standing, NoMemory>
     requires plan { IsPlan plan.now }
     requires ready { (p : Program) × IsReady front.walk.pool plan.now.setting.now.scene.now p }
-    requires front { (before : List OneStep) × SharesSteps path.now.shared before path.now.steps.now × IsFront plan.now.setting.now before (length before) front }
+    requires front { (before : List OneStep) × SharesSteps path.now.shared before path.now.steps.now
+        × IsFront plan.now.setting.now before (length before) front }
     ensures start { IfOk result (λ at. at.front.start ≡ path.now.start) }
     ensures grows { IfOk result (λ at. Grows front.walk.pool at.front.walk.pool) }
     ensures within { IfOk result (λ at. at.place ≤ length path.now.steps.now) }
     ensures front { IfOk result (λ at. IsFront plan.now.setting.now path.now.steps.now at.place at.front) }
-    ensures at { IfOk result (λ at. Reaches plan.now.setting.now path.now.steps.now at.place at.card at.front) }
+    ensures at { IfOk result (λ at. Reaches plan.now.setting.now path.now.steps.now at.place
+        at.card at.front) }
 {
     let mut front = front;
     if let Some(mark) = back_to(&mut front, path.start, path.shared) {

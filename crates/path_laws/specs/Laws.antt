@@ -16,7 +16,8 @@ use Rattle.accepted_laws.specs.Accepted.{IsProgramOf, IsAcceptedAs}
 
 -- a unit without uncut cycles has a list of its paths in order
 abbrev pub PathsExist : Type 0
-PathsExist = (dialect : Dialect) (u : Routine) (notes : Notes) → IsCutUp dialect u notes → (paths : List Path) × ArePathsInOrder dialect u notes paths
+PathsExist = (dialect : Dialect) (u : Routine) (notes : Notes) → IsCutUp dialect u notes → (paths : List Path)
+    × ArePathsInOrder dialect u notes paths
 
 -- so has each unit of a program without uncut cycles
 abbrev pub AllPathsExist : Type 0
@@ -24,10 +25,12 @@ AllPathsExist = (p : Program) → KeepsRule p UncutCycle → (paths : List (List
 
 -- conditions are those of a deck as it is accepted
 abbrev pub AreConditionsOf : Dialect → Deck → List ConditionTree → Type 0
-AreConditionsOf dialect deck list = (r : Remarks) × (p : Program) × (paths : List (List Path)) × IsAcceptedAs dialect deck r p paths × (list ≡ conditions_of p paths)
+AreConditionsOf dialect deck list = (r : Remarks) × (p : Program) × (paths : List (List Path))
+    × IsAcceptedAs dialect deck r p paths × (list ≡ conditions_of p paths)
 
 -- a deck whose program keeps all rules has just one list of conditions
 abbrev pub ConditionsAreOne : Type 0
 ConditionsAreOne =
     (dialect : Dialect) (deck : Deck) (r : Remarks) (p : Program) → IsProgramOf dialect deck r p → KeepsRules p
-    → (list : List ConditionTree) × AreConditionsOf dialect deck list × ((other : List ConditionTree) → AreConditionsOf dialect deck other → other ≡ list)
+    → (list : List ConditionTree) × AreConditionsOf dialect deck list × ((other : List ConditionTree)
+        → AreConditionsOf dialect deck other → other ≡ list)

@@ -50,5 +50,7 @@ clock_from w (suc k) = clock_at w (slice_get (notes_here w).asserts k)
 pub record Sets (plan : Plan) (start : ℕ) (w0 : Walk) (b : Begun) (clock : Option Clock) : Type 0 where
   pub framed : IsSomeFrame b.walk.pool (unit_of plan) b.frame
   pub inside : IsClockIn (length b.walk.pool) clock
-  pub is : (p : Program) → IsReady w0.pool plan.setting.now.scene.now p → moment b.walk ≡ set_from (seen_from plan.setting.now p) start (moment w0)
-  pub parts : (p : Program) → IsReady w0.pool plan.setting.now.scene.now p → clock_trees b.walk.pool clock ≡ clock_from (seen_from plan.setting.now p) start
+  pub is : (p : Program) → IsReady w0.pool plan.setting.now.scene.now p → moment b.walk ≡ set_from
+      (seen_from plan.setting.now p) start (moment w0)
+  pub parts : (p : Program) → IsReady w0.pool plan.setting.now.scene.now p → clock_trees b.walk.pool clock
+      ≡ clock_from (seen_from plan.setting.now p) start

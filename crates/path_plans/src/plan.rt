@@ -44,7 +44,9 @@ fn table_of<'a>(scene: &Scene<'a>, number: usize) -> Option<&'a NameSet>
 
 /// The smashed names of a unit in order.
 fn order_of(alloc: Global, setting: &Setting) -> Result<Vec<Name>, NoMemory>
-    ensures { IfOk result (λ names. names.items ≡ smashed_names (names_if_any (slice_get setting.now.scene.now.smashes.now setting.now.number)) setting.now.book.now.unit.now) }
+    ensures { IfOk result (λ names. names.items ≡ smashed_names
+        (names_if_any (slice_get setting.now.scene.now.smashes.now setting.now.number))
+        setting.now.book.now.unit.now) }
 {
     let Some(set) = table_of(setting.scene, setting.number) else {
         return Ok(Vec::new(alloc));

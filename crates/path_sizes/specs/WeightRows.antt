@@ -47,18 +47,21 @@ zero_program dialect =
 abbrev pub WeightsOfLoops : Type 0
 WeightsOfLoops =
     (weight_along (twice_program Common) 0 twice
-    (the_path ([] ∷ [] ∷ []) ∷ from_assert 1 ((1 ∷ []) ∷ []) ∷ from_assert 1 ((2 ∷ 1 ∷ []) ∷ [] ∷ []) ∷ from_assert 1 ((2 ∷ 2 ∷ []) ∷ [] ∷ [] ∷ []) ∷ [])
+    (the_path ([] ∷ [] ∷ []) ∷ from_assert 1 ((1 ∷ []) ∷ []) ∷ from_assert 1 ((2 ∷ 1 ∷ []) ∷ [] ∷ [])
+        ∷ from_assert 1 ((2 ∷ 2 ∷ []) ∷ [] ∷ [] ∷ []) ∷ [])
     ≡ 2205)
     × (weight_along (zero_program Common) 0 up_to
     (the_path ([] ∷ []) ∷ from_assert 1 ((1 ∷ []) ∷ []) ∷ from_assert 1 ((2 ∷ []) ∷ [] ∷ [] ∷ []) ∷ [])
     ≡ 712)
     × (weight_along (zero_program SeventySeven) 0 up_to
-    (the_path ((1 ∷ []) ∷ []) ∷ the_path ((2 ∷ []) ∷ [] ∷ [] ∷ []) ∷ from_assert 1 ((1 ∷ []) ∷ []) ∷ from_assert 1 ((2 ∷ []) ∷ [] ∷ [] ∷ []) ∷ [])
+    (the_path ((1 ∷ []) ∷ []) ∷ the_path ((2 ∷ []) ∷ [] ∷ [] ∷ []) ∷ from_assert 1 ((1 ∷ []) ∷ []) ∷ from_assert 1
+        ((2 ∷ []) ∷ [] ∷ [] ∷ []) ∷ [])
     ≡ 965)
 
 abbrev pub WeightsOfCalls : Type 0
 WeightsOfCalls =
-    weight_along rotate_program 0 swap (the_path ([] ∷ [] ∷ [] ∷ [] ∷ []) ∷ []) + weight_along rotate_program 1 rotate (the_path ([] ∷ [] ∷ [] ∷ []) ∷ []) ≡ 319
+    weight_along rotate_program 0 swap (the_path ([] ∷ [] ∷ [] ∷ [] ∷ []) ∷ []) + weight_along rotate_program
+        1 rotate (the_path ([] ∷ [] ∷ [] ∷ []) ∷ []) ≡ 319
 
 -- J = MAX0(1,2,3) + MOD(7,2)**3: the divisor, the quotient, two products, the sum, and OUTPUT
 abbrev pub powers : Routine
@@ -68,4 +71,5 @@ powers = routine (codes "P") (I ∷ []) (scalar Dummy I ∷ scalar Local J ∷ [
     ∷ [])
 
 abbrev pub WeightsOfPowers : Type 0
-WeightsOfPowers = weights_of (alone Common powers (plain_notes []) (J ∷ [])) 0 powers (the_path ([] ∷ [] ∷ [])) ≡ 7 ∷ 11 ∷ 20 ∷ 33 ∷ 51 ∷ 53 ∷ []
+WeightsOfPowers = weights_of (alone Common powers (plain_notes []) (J ∷ [])) 0 powers (the_path ([] ∷ [] ∷ []))
+    ≡ 7 ∷ 11 ∷ 20 ∷ 33 ∷ 51 ∷ 53 ∷ []

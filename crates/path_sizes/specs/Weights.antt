@@ -370,7 +370,8 @@ module _ (w : Sight ℕ) where
   go_on clock None now on = weighed tt
   go_on clock (Some q) now on = arrive clock (cut_at w.unit notes_here q) now (on q)
 
-  abbrev pub perform_line : Option (List ℕ) → Option Line → ℕ → Named ℕ → List ℕ → (ℕ → Named ℕ → Weigh (Unit {0})) → Weigh (Unit {0})
+  abbrev pub perform_line : Option (List ℕ) → Option Line → ℕ → Named ℕ → List ℕ → (ℕ → Named ℕ → Weigh (Unit {0}))
+      → Weigh (Unit {0})
   perform_line clock None pc now cs on = weighed tt
   perform_line clock (Some line) pc now cs on = do
     after ← performed pc now line.stmt cs
@@ -379,7 +380,8 @@ module _ (w : Sight ℕ) where
   -- the statements from a point on, where names weigh `now`, under the choices of each
   abbrev pub weigh_from : Option (List ℕ) → ℕ → Named ℕ → List (List ℕ) → Weigh (Unit {0})
   weigh_from clock pc now [] = weighed tt
-  weigh_from clock pc now (cs ∷ way) = perform_line clock (slice_get w.unit.lines pc) pc now cs (λ q after. weigh_from clock q after way)
+  weigh_from clock pc now (cs ∷ way) = perform_line clock (slice_get w.unit.lines pc) pc now cs
+      (λ q after. weigh_from clock q after way)
 
   abbrev pub from_assert : Option Assertion → List (List ℕ) → Weigh (Unit {0})
   from_assert None way = weighed tt
@@ -395,4 +397,5 @@ module _ (w : Sight ℕ) where
 
 -- the weights of the conditions along a path of a unit
 abbrev pub weights_of : Program → ℕ → Routine → Path → List ℕ
-weights_of p i u path = (from_start (record { sense = of_weights; program = p; number = i; unit = u }) path.start path.choices 0).weights
+weights_of p i u path = (from_start (record { sense = of_weights; program = p; number = i; unit = u })
+    path.start path.choices 0).weights

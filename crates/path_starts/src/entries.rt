@@ -18,7 +18,8 @@ fn set_entries(walk: &mut Walk, keys: Keys, unit: &Unit) -> Result<(), NoMemory>
     requires first { (moment walk.old).now ≡ entry_of }
     requires shapes { AreGoodShapes unit.now.names }
     ensures on { OnOk result (Follows walk.old walk.new) }
-    ensures names { OnOk result (moment walk.new ≡ with_names (moment walk.old) (at_entry_in unit.now.names)) }
+    ensures names { OnOk result (moment walk.new ≡ with_names (moment walk.old)
+        (at_entry_in unit.now.names)) }
 {
     let Ok(()) = entry_names(walk.alloc, keys, &mut walk.pool, &mut walk.names, unit) else {
         return Err(NoMemory);

@@ -49,9 +49,11 @@ pub fn take_entry(walk: &mut Walk, plan: &Plan, frame: &Frame) -> Result<(), NoM
     requires plan { IsPlan plan.now }
     requires ready { (p : Program) × IsReady walk.old.pool plan.now.setting.now.scene.now p }
     requires at { (moment walk.old).now ≡ at_entry_in plan.now.setting.now.book.now.unit.now.names }
-    requires frame { IsFrame walk.old.pool plan.now.setting.now.book.now.unit.now frame.now (at_entry_in plan.now.setting.now.book.now.unit.now.names) }
+    requires frame { IsFrame walk.old.pool plan.now.setting.now.book.now.unit.now frame.now
+        (at_entry_in plan.now.setting.now.book.now.unit.now.names) }
     ensures on { OnOk result (Follows walk.old walk.new) }
-    ensures did { OnOk result (DoesIn walk.old.pool plan.now.setting.now (moment walk.old) (λ w. meet (takes (entry_facts w))) (moment walk.new) tt) }
+    ensures did { OnOk result (DoesIn walk.old.pool plan.now.setting.now (moment walk.old)
+        (λ w. meet (takes (entry_facts w))) (moment walk.new) tt) }
 {
     let Ok(()) = take_shapes(walk, plan) else {
         return Err(NoMemory);

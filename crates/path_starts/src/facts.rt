@@ -17,7 +17,8 @@ use walk_state::Walk;
 pub(crate) fn take_bound(walk: &mut Walk, bound: u64) -> Result<(), NoMemory>
     requires well { IsWalk walk.old }
     ensures on { OnOk result (Follows walk.old walk.new) }
-    ensures did { OnOk result (Did (moment walk.old) (meet (takes (facts_of_bound bound))) (moment walk.new) tt) }
+    ensures did { OnOk result (Did (moment walk.old) (meet (takes (facts_of_bound bound)))
+        (moment walk.new) tt) }
 {
     let Ok(facts) = bound_facts(walk.alloc, &mut walk.pool, bound) else {
         return Err(NoMemory);
@@ -32,7 +33,8 @@ pub(crate) fn take_bound(walk: &mut Walk, bound: u64) -> Result<(), NoMemory>
 pub(crate) fn take_dims(walk: &mut Walk, dims: &[Name]) -> Result<(), NoMemory>
     requires well { IsWalk walk.old }
     ensures on { OnOk result (Follows walk.old walk.new) }
-    ensures did { OnOk result (Did (moment walk.old) (meet (takes (facts_of_dims (moment walk.old).now dims.now))) (moment walk.new) tt) }
+    ensures did { OnOk result (Did (moment walk.old)
+        (meet (takes (facts_of_dims (moment walk.old).now dims.now))) (moment walk.new) tt) }
 {
     let Ok(facts) = dim_terms(walk.alloc, &mut walk.pool, &walk.names, dims) else {
         return Err(NoMemory);

@@ -21,7 +21,8 @@ use walk_state::Walk;
 /// The names that the unit smashes stand for symbols of their own, on the walk and in the frame.
 fn set_starts(walk: &mut Walk, plan: &Plan, frame: &mut Frame) -> Result<(), NoMemory>
     requires well { IsWalk walk.old }
-    requires frame { IsFrame walk.old.pool plan.now.setting.now.book.now.unit.now frame.old (at_entry_in plan.now.setting.now.book.now.unit.now.names) }
+    requires frame { IsFrame walk.old.pool plan.now.setting.now.book.now.unit.now frame.old
+        (at_entry_in plan.now.setting.now.book.now.unit.now.names) }
     requires at { (moment walk.old).now ≡ at_entry_in plan.now.setting.now.book.now.unit.now.names }
     ensures on { OnOk result (Follows walk.old walk.new) }
     ensures stands { OnOk result (StandsAtStart plan.now walk.old walk.new frame.new) }
@@ -73,7 +74,8 @@ fn take_assert(
     requires terms { IsStartOf walk.old frame.now assert.now.terms }
     requires clock { IsStartOf walk.old frame.now assert.now.clock }
     ensures on { OnOk result (Follows walk.old walk.new) }
-    ensures did { IfOk result (λ told. TakesStart plan.now assert.now walk.old frame.now walk.new told.items) }
+    ensures did { IfOk result (λ told. TakesStart plan.now assert.now walk.old frame.now
+        walk.new told.items) }
 {
     let Ok(()) = take_sorts(walk, plan.setting.book, &plan.order) else {
         return Err(NoMemory);
@@ -102,10 +104,12 @@ pub fn start_at(
     requires plan { IsPlan plan.now }
     requires ready { (p : Program) × IsReady walk.old.pool plan.now.setting.now.scene.now p }
     requires at { (moment walk.old).now ≡ at_entry_in plan.now.setting.now.book.now.unit.now.names }
-    requires frame { IsFrame walk.old.pool plan.now.setting.now.book.now.unit.now frame.old (at_entry_in plan.now.setting.now.book.now.unit.now.names) }
+    requires frame { IsFrame walk.old.pool plan.now.setting.now.book.now.unit.now frame.old
+        (at_entry_in plan.now.setting.now.book.now.unit.now.names) }
     requires assert { IsAssertOf plan.now assert.now }
     ensures on { OnOk result (Follows walk.old walk.new) }
-    ensures did { IfOk result (λ clock. StartsAt plan.now assert.now walk.old walk.new frame.new clock.items) }
+    ensures did { IfOk result (λ clock. StartsAt plan.now assert.now walk.old walk.new
+        frame.new clock.items) }
 {
     let Ok(()) = set_starts(walk, plan, frame) else {
         return Err(NoMemory);

@@ -49,15 +49,18 @@ module _ (pool : List Node) (ds : List Definition) (c : Condition) where
   AreAskedOnce (o ∷ os) [] mark = ⊥
   AreAskedOnce (o ∷ os) (n ∷ ns) mark =
       (n ≡ once_more o)
-      × ((IsAnswer o.test Bool.true × (ns ≡ os) × (mark ≡ shown o.letter)) ⊎ (IsAnswer o.test Bool.false × AreAskedOnce os ns mark))
+      × ((IsAnswer o.test Bool.true × (ns ≡ os) × (mark ≡ shown o.letter)) ⊎ (IsAnswer o.test Bool.false
+          × AreAskedOnce os ns mark))
 
 -- ---- all conditions
 
 -- provers were asked for conditions, one after another, with these marks
-pub data AreAsked (pool : List Node) (ds : List Definition) (before : List Seen) : List Condition → List Seen → List ℕ → Type 0 where
+pub data AreAsked (pool : List Node) (ds : List Definition) (before : List Seen) : List Condition → List Seen
+    → List ℕ → Type 0 where
   nothing : AreAsked pool ds before [] before []
   next : {cs : List Condition} {now : List Seen} {marks : List ℕ} (c : Condition) (later : List Seen) (mark : ℕ)
-      → AreAsked pool ds before cs now marks → AreAskedOnce pool ds c now later mark → AreAsked pool ds before (cs ++ c ∷ []) later (marks ++ mark ∷ [])
+      → AreAsked pool ds before cs now marks → AreAskedOnce pool ds c now later mark
+          → AreAsked pool ds before (cs ++ c ∷ []) later (marks ++ mark ∷ [])
 
 -- what is told of provers: the letter that is shown, and the count
 abbrev pub told : Seen → ℕ × ℕ

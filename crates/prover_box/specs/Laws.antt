@@ -20,7 +20,8 @@ AreUnclosedValid fs (mark ∷ marks) (c ∷ cs) = (mark ≡ unclosed → IsValid
 -- where conditions have the marks that provers gave, and those with `-` are valid, all are valid
 abbrev pub UnclosedAreEnough : Type 0
 UnclosedAreEnough =
-    (fs : List Function) (marks : List ℕ) (cs : List ConditionTree) → AreMarked fs marks cs → AreUnclosedValid fs marks cs → AreValid fs cs
+    (fs : List Function) (marks : List ℕ) (cs : List ConditionTree) → AreMarked fs marks cs
+        → AreUnclosedValid fs marks cs → AreValid fs cs
 
 -- ---- counts
 
@@ -49,7 +50,8 @@ unclosed_count (mark ∷ marks) = (if mark == unclosed then 1 else 0) + unclosed
 -- the first prover is asked for each condition, and each prover at least for those that end with the mark `-`
 abbrev pub CountsRise : Type 0
 CountsRise =
-    (pool : List Node) (ds : List Definition) (before : List Seen) (cs : List Condition) (now : List Seen) (marks : List ℕ) → AreAsked pool ds before cs now marks
+    (pool : List Node) (ds : List Definition) (before : List Seen) (cs : List Condition) (now : List Seen)
+        (marks : List ℕ) → AreAsked pool ds before cs now marks
     → FirstRose (length cs) before now × EachRose (unclosed_count marks) before now
 
 -- ---- marks by tests
@@ -73,7 +75,8 @@ module _ (pool : List Node) (ds : List Definition) where
   -- the letter of the first prover whose test a condition passes; `-` where it passes none
   abbrev pub IsMarkByTests : List Seen → ℕ → Condition → Type 0
   IsMarkByTests [] mark c = mark ≡ unclosed
-  IsMarkByTests (s ∷ ss) mark c = (PassesTold s.test c × (mark ≡ shown s.letter)) ⊎ ((PassesTold s.test c → ⊥) × IsMarkByTests ss mark c)
+  IsMarkByTests (s ∷ ss) mark c = (PassesTold s.test c × (mark ≡ shown s.letter))
+      ⊎ ((PassesTold s.test c → ⊥) × IsMarkByTests ss mark c)
 
   -- each condition has the mark that tests give it
   abbrev pub AreMarksByTests : List Seen → List ℕ → List Condition → Type 0
@@ -85,5 +88,6 @@ module _ (pool : List Node) (ds : List Definition) where
 -- where all provers tell their tests, each mark is that of the first whose test the condition passes
 abbrev pub TestsMark : Type 0
 TestsMark =
-    (pool : List Node) (ds : List Definition) (before : List Seen) (cs : List Condition) (now : List Seen) (marks : List ℕ) → AllTell before → AreAsked pool ds before cs now marks
+    (pool : List Node) (ds : List Definition) (before : List Seen) (cs : List Condition) (now : List Seen)
+        (marks : List ℕ) → AllTell before → AreAsked pool ds before cs now marks
     → AreMarksByTests pool ds before marks cs

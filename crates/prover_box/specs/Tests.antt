@@ -32,7 +32,8 @@ is_true_closed fs goal = not (has_symbol goal) && comes_true (bounded fs (assign
 -- The second test: the goal or F is a hypothesis, or the goal is T, or it is an equation with one term twice.
 abbrev pub IsSubsumed : List Tree → Tree → Type 0
 IsSubsumed hyps goal =
-    Contains hyps goal ⊎ (Contains hyps (truth false) ⊎ ((goal ≡ truth true) ⊎ ((t : Tree) × (goal ≡ apply (BuiltIn Equal) (more t (more t none))))))
+    Contains hyps goal ⊎ (Contains hyps (truth false) ⊎ ((goal ≡ truth true)
+        ⊎ ((t : Tree) × (goal ≡ apply (BuiltIn Equal) (more t (more t none))))))
 
 -- a condition passes the test of a number; no other number is that of a test
 abbrev pub passes_test : List Function → ℕ → List Tree → Tree → Type 0

@@ -23,7 +23,8 @@ fn ask(
 ) -> Result<bool, NoMemory>
     requires terms { IsConditionIn pool.now c.now }
     requires added { AreAdded pool.now definitions.now }
-    ensures answer { IfOk result (λ closed. IsAnswer pool.now definitions.now c.now (seen prover.old).test closed) }
+    ensures answer { IfOk result (λ closed. IsAnswer pool.now definitions.now c.now
+        (seen prover.old).test closed) }
     ensures counted { seen prover.new ≡ once_more (seen prover.old) }
 {
     prover.close(alloc, pool, definitions, c)
@@ -64,7 +65,8 @@ fn close_one(
 ) -> Result<u8, NoMemory>
     requires terms { IsConditionIn pool.now c.now }
     requires added { AreAdded pool.now definitions.now }
-    ensures asked { IfOk result (AreAskedOnce pool.now definitions.now c.now (map seen provers.old.items) (map seen provers.new.items)) }
+    ensures asked { IfOk result (AreAskedOnce pool.now definitions.now c.now
+        (map seen provers.old.items) (map seen provers.new.items)) }
     ensures kept { AreKept (map seen provers.old.items) (map seen provers.new.items) }
 {
     for i in 0..provers.len() {
@@ -102,8 +104,10 @@ pub fn close_all(
 ) -> Result<Marks, NoMemory>
     requires terms { All (IsConditionIn pool.now) conditions.now }
     requires added { AreAdded pool.now definitions.now }
-    ensures asked { IfOk result (λ m. AreAsked pool.now definitions.now (map seen provers.old.items) conditions.now (map seen provers.new.items) m.letters) }
-    ensures sound { IfOk result (λ m. AreMarked (functions_of pool.now definitions.now) m.letters (map (condition_tree pool.now) conditions.now)) }
+    ensures asked { IfOk result (λ m. AreAsked pool.now definitions.now (map seen provers.old.items)
+        conditions.now (map seen provers.new.items) m.letters) }
+    ensures sound { IfOk result (λ m. AreMarked (functions_of pool.now definitions.now) m.letters
+        (map (condition_tree pool.now) conditions.now)) }
     ensures told { IfOk result (λ m. m.asked ≡ map told (map seen provers.new.items)) }
     ensures kept { AreKept (map seen provers.old.items) (map seen provers.new.items) }
 {

@@ -45,7 +45,8 @@ fn passes(
 ) -> Result<bool, NoMemory>
     requires goal { IsIn pool.now goal }
     requires added { AreAdded pool.now definitions.now }
-    ensures { IfOk result (λ closed. closed ≡ is_true_closed (functions_of pool.now definitions.now) (tree_of pool.now goal)) }
+    ensures { IfOk result (λ closed. closed ≡ is_true_closed (functions_of pool.now definitions.now)
+        (tree_of pool.now goal)) }
 {
     if pool.has_symbol(goal) {
         return Ok(false);

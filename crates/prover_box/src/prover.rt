@@ -26,7 +26,8 @@ pub trait Prover: Drop {
     ) -> Result<bool, NoMemory>
         requires terms { IsConditionIn pool.now c.now }
         requires added { AreAdded pool.now definitions.now }
-        ensures answer { IfOk result (λ closed. IsAnswer pool.now definitions.now c.now (seen self.old).test closed) }
+        ensures answer { IfOk result (λ closed. IsAnswer pool.now definitions.now c.now
+            (seen self.old).test closed) }
         ensures counted { seen self.new ≡ once_more (seen self.old) };
 
     /// Its letter.

@@ -78,7 +78,8 @@ fn is_same(pool: &TermPool, a: TermId, b: TermId) -> bool
 fn is_goal_or_false(pool: &TermPool, hyp: TermId, goal: TermId) -> bool
     requires hyp { IsIn pool.now hyp }
     requires goal { IsIn pool.now goal }
-    ensures { (result ≡ true) ↔ ((tree_of pool.now hyp ≡ tree_of pool.now goal) ⊎ (tree_of pool.now hyp ≡ truth false)) }
+    ensures { (result ≡ true) ↔ ((tree_of pool.now hyp ≡ tree_of pool.now goal)
+        ⊎ (tree_of pool.now hyp ≡ truth false)) }
 {
     is_same(pool, hyp, goal) || is_truth(pool, hyp, false)
 }
@@ -86,7 +87,8 @@ fn is_goal_or_false(pool: &TermPool, hyp: TermId, goal: TermId) -> bool
 /// Whether a term is an equation with one term twice.
 fn is_equal_twice(pool: &TermPool, id: TermId) -> bool
     requires { IsIn pool.now id }
-    ensures { (result ≡ true) ↔ ((t : Tree) × (tree_of pool.now id ≡ apply (func.BuiltIn built_in.Equal) (more t (more t none)))) }
+    ensures { (result ≡ true) ↔ ((t : Tree) × (tree_of pool.now id ≡ apply
+        (func.BuiltIn built_in.Equal) (more t (more t none)))) }
 {
     match pool.node(id) {
         Node::Apply(Func::BuiltIn(BuiltIn::Equal), args) => match args.as_slice() {
@@ -101,7 +103,8 @@ fn is_equal_twice(pool: &TermPool, id: TermId) -> bool
 fn stands_among(pool: &TermPool, hyps: &[TermId], goal: TermId) -> bool
     requires hyps { AllBelow (length pool.now) hyps.now }
     requires goal { IsIn pool.now goal }
-    ensures { (result ≡ true) ↔ (Contains (map (tree_of pool.now) hyps.now) (tree_of pool.now goal) ⊎ Contains (map (tree_of pool.now) hyps.now) (truth false)) }
+    ensures { (result ≡ true) ↔ (Contains (map (tree_of pool.now) hyps.now) (tree_of pool.now goal)
+        ⊎ Contains (map (tree_of pool.now) hyps.now) (truth false)) }
 {
     for hyp in hyps {
         if is_goal_or_false(pool, *hyp, goal) {

@@ -1,5 +1,6 @@
--- Ranges of points by their ends. Behind each point b one range may begin: it has the points from suc b up to the number that a list
--- has at b, and is empty where that is b or less. So it covers a point q where b < q and q is at most that number.
+-- Ranges of points by their ends. Behind each point b one range may begin: it has the points from suc b up to
+-- the number that a list has at b, and is empty where that is b or less. So it covers a point q where b < q and
+-- q is at most that number.
 use Rattle.std.specs.Prelude.{◌≡◌, ℕ, suc, ◌<◌, ◌≤◌, List, length, get_or}
 use Rattle.range_cover.specs.declared.covering.Covers.{Covers}
 
@@ -41,7 +42,8 @@ pub record BeginsAt (far : List ℕ) (e near : ℕ) : Type 0 where
   pub is_first : suc begin ≡ near
   pub is_end : get_or far begin 0 ≡ e
 
--- of the ranges behind the points from one on that end at e, near is the first point of the one that begins first; behind e where there is none
+-- of the ranges behind the points from one on that end at e, near is the first point of the one that begins
+-- first; behind e where there is none
 pub record IsNear (far : List ℕ) (from e near : ℕ) : Type 0 where
   pub first : (b : ℕ) → from ≤ b → b < e → get_or far b 0 ≡ e → near ≤ suc b
   pub begins : near ≤ e → BeginsAt far e near

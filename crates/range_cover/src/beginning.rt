@@ -22,7 +22,8 @@ fn innermost(far: &[usize], firsts: &[usize], point: usize) -> usize
 /// For each point the first point of the range that covers it and begins last.
 pub(crate) fn firsts(alloc: Global, far: &[usize]) -> Result<Vec<usize>, NoMemory>
     ensures long { IfOk result (λ v. length v.items ≡ length far.now) }
-    ensures each { IfOk result (λ v. (q : ℕ) → q < length far.now → IsInnermost far.now q (get_or v.items q 0)) }
+    ensures each { IfOk result (λ v. (q : ℕ) → q < length far.now → IsInnermost far.now q
+        (get_or v.items q 0)) }
 {
     let mut firsts = Vec::with_capacity(alloc, far.len())?;
     for point in 0..far.len() {

@@ -70,9 +70,11 @@ fn pass(far: &[usize], nears: &[usize], lasts: &mut Vec<usize>, point: usize)
     requires near { AreNear far.now 0 nears.now }
     requires lasts_long { length lasts.old.items ≡ suc (length far.now) }
     requires point { point < length far.now }
-    requires behind { (k : ℕ) → point < k → k ≤ length far.now → IsSoonest far.now k (get_or lasts.old.items k 0) }
+    requires behind { (k : ℕ) → point < k → k ≤ length far.now → IsSoonest far.now k
+        (get_or lasts.old.items k 0) }
     ensures long { length lasts.new.items ≡ suc (length far.now) }
-    ensures from { (k : ℕ) → point ≤ k → k ≤ length far.now → IsSoonest far.now k (get_or lasts.new.items k 0) }
+    ensures from { (k : ℕ) → point ≤ k → k ≤ length far.now → IsSoonest far.now k
+        (get_or lasts.new.items k 0) }
 {
     let last = soonest(far, nears, lasts.as_slice(), point);
     lasts[point] = last;
@@ -82,7 +84,8 @@ fn pass(far: &[usize], nears: &[usize], lasts: &mut Vec<usize>, point: usize)
 pub(crate) fn lasts(alloc: Global, far: &[usize]) -> Result<Vec<usize>, NoMemory>
     requires ends { AreEnds far.now }
     ensures long { IfOk result (λ v. length v.items ≡ suc (length far.now)) }
-    ensures each { IfOk result (λ v. (q : ℕ) → q ≤ length far.now → IsSoonest far.now q (get_or v.items q 0)) }
+    ensures each { IfOk result (λ v. (q : ℕ) → q ≤ length far.now → IsSoonest far.now q
+        (get_or v.items q 0)) }
 {
     let count = far.len();
     let nears = nears(alloc, far)?;

@@ -54,9 +54,12 @@ fn first_fault(alloc: Global, units: &[Unit], specs: &[UnitSpec]) -> Result<Opti
 /// units are those of a deck that is well formed, and their notes fit them. Ok: the program of the scene keeps the rules. Broken:
 /// its first fault, on the least card and there of the least number. Else memory was wanted and not had.
 pub fn check_units(alloc: Global, scene: &Scene) -> Result<(), Refusal>
-    requires noted { (pool : List Node) × (p : Program) × (deck : Deck) × IsScene pool scene.now p × (deck.units ≡ p.units) × IsWellFormed p.dialect deck × HasFittingNotes p }
-    ensures kept { IfOk result (λ _. (pool : List Node) (p : Program) → IsScene pool scene.now p → KeepsAll p rules_of_ranges) }
-    ensures broken { (f : Fault) → result ≡ Err (Broken f) → (pool : List Node) (p : Program) → IsScene pool scene.now p → IsFirstBroken p rules_of_ranges f }
+    requires noted { (pool : List Node) × (p : Program) × (deck : Deck) × IsScene pool scene.now p
+        × (deck.units ≡ p.units) × IsWellFormed p.dialect deck × HasFittingNotes p }
+    ensures kept { IfOk result (λ _. (pool : List Node) (p : Program) → IsScene pool scene.now p
+        → KeepsAll p rules_of_ranges) }
+    ensures broken { (f : Fault) → result ≡ Err (Broken f) → (pool : List Node) (p : Program)
+        → IsScene pool scene.now p → IsFirstBroken p rules_of_ranges f }
 {
     match first_fault(alloc, scene.books.units, scene.notes) {
         Ok(None) => Ok(()),

@@ -35,8 +35,9 @@ UnmarkedAreMarks = (cs : List ConditionTree) → MayMark cs (unmarked cs)
 
 -- ---- accepted decks
 
--- The conditions of an accepted deck, whose program is within the limits on sizes, can be read back from their text with the
--- definitions of the deck: where its cards have small numbers, its statements name few labels, and the INPUT of each unit has a term.
+-- The conditions of an accepted deck, whose program is within the limits on sizes, can be read back from their
+-- text with the definitions of the deck: where its cards have small numbers, its statements name few labels,
+-- and the INPUT of each unit has a term.
 abbrev pub SmallConditionsAreReadable : Type 0
 SmallConditionsAreReadable =
     (dialect : Dialect) (deck : Deck) (r : Remarks) (p : Program) (paths : List (List Path)) → IsAcceptedAs dialect deck r p paths → IsWithinLimits p paths → IsSmall p → HasInputs p
@@ -47,19 +48,23 @@ SmallConditionsAreReadable =
 -- the conditions of bytes that are accepted can be read back from their text, with the definitions of the deck and with any marks
 abbrev pub ConditionsInAreReadable : Type 0
 ConditionsInAreReadable =
-    (d : Dialect) (bytes : List ℕ) (deck : Deck) (r : Remarks) (p : Program) (paths : List (List Path)) → IsAcceptedIn d bytes deck r p paths
+    (d : Dialect) (bytes : List ℕ) (deck : Deck) (r : Remarks) (p : Program) (paths : List (List Path))
+        → IsAcceptedIn d bytes deck r p paths
     → (marks : Marks) → MayMark (conditions_of p paths) marks → IsReadable p.functions (conditions_of p paths) marks
 
 -- so they can without marks
 abbrev pub UnmarkedInAreReadable : Type 0
 UnmarkedInAreReadable =
-    (d : Dialect) (bytes : List ℕ) (deck : Deck) (r : Remarks) (p : Program) (paths : List (List Path)) → IsAcceptedIn d bytes deck r p paths
+    (d : Dialect) (bytes : List ℕ) (deck : Deck) (r : Remarks) (p : Program) (paths : List (List Path))
+        → IsAcceptedIn d bytes deck r p paths
     → IsReadable p.functions (conditions_of p paths) (unmarked (conditions_of p paths))
 
 -- and what can be read back from that text is these conditions, with definitions that stand for the same, and these marks
 abbrev pub TextTellsConditions : Type 0
 TextTellsConditions =
-    (d : Dialect) (bytes : List ℕ) (deck : Deck) (r : Remarks) (p : Program) (paths : List (List Path)) → IsAcceptedIn d bytes deck r p paths
+    (d : Dialect) (bytes : List ℕ) (deck : Deck) (r : Remarks) (p : Program) (paths : List (List Path))
+        → IsAcceptedIn d bytes deck r p paths
     → (marks : Marks) → MayMark (conditions_of p paths) marks
-    → (es : List Function) (cs : List ConditionTree) (others : Marks) → IsReadable es cs others → event_text p.functions (conditions_of p paths) marks ≡ event_text es cs others
+    → (es : List Function) (cs : List ConditionTree) (others : Marks) → IsReadable es cs others
+        → event_text p.functions (conditions_of p paths) marks ≡ event_text es cs others
     → AreAlike p.functions es (conditions_of p paths) cs marks others

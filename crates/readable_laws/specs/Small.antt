@@ -1,4 +1,5 @@
--- Programs whose text is not too long: on how many cards they stand, how many labels a statement names, and that calls have an INPUT.
+-- Programs whose text is not too long: on how many cards they stand, how many labels a statement names, and
+-- that calls have an INPUT.
 use Rattle.std.specs.Prelude.{ℕ, ◌≡◌, ◌<◌, ◌^◌, length, Some, slice_get}
 use Rattle.fort_syntax.specs.TreePatterns.{carried}
 use Rattle.fort_syntax.specs.declared.stmt.Stmt.{Stmt}
@@ -21,8 +22,10 @@ pub record IsSmallLine (line : Line) : Type 0 where
 
 -- the statements and the ASSERTs of a program stand on cards with small numbers, and no statement names too many labels
 pub record IsSmall (p : Program) : Type 0 where
-  pub lines : (i pc : ℕ) (u : Routine) (line : Line) → slice_get p.units i ≡ Some u → slice_get u.lines pc ≡ Some line → IsSmallLine line
-  pub asserts : (i k : ℕ) (u : Routine) (a : Assertion) → slice_get p.units i ≡ Some u → slice_get (notes_of p i).asserts k ≡ Some a → a.card < 2 ^ 32
+  pub lines : (i pc : ℕ) (u : Routine) (line : Line) → slice_get p.units i ≡ Some u
+      → slice_get u.lines pc ≡ Some line → IsSmallLine line
+  pub asserts : (i k : ℕ) (u : Routine) (a : Assertion) → slice_get p.units i ≡ Some u
+      → slice_get (notes_of p i).asserts k ≡ Some a → a.card < 2 ^ 32
 
 -- the INPUT of each unit has a term at least
 abbrev pub HasInputs : Program → Type 0

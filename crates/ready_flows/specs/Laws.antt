@@ -10,8 +10,10 @@ use Rattle.path_scene.specs.declared.scene.Scene.{Scene}
 
 -- each unit is well formed
 abbrev pub ReadyUnitsStand : Type 0
-ReadyUnitsStand = (pool : List Node) (scene : Scene) (p : Program) (i : ℕ) (u : Routine) → IsReady pool scene p → slice_get p.units i ≡ Some u → IsWellFormedUnit p.dialect u
+ReadyUnitsStand = (pool : List Node) (scene : Scene) (p : Program) (i : ℕ) (u : Routine) → IsReady pool scene p
+    → slice_get p.units i ≡ Some u → IsWellFormedUnit p.dialect u
 
 -- each unit has a flow
 abbrev pub ReadyUnitsFlow : Type 0
-ReadyUnitsFlow = (pool : List Node) (scene : Scene) (p : Program) (i : ℕ) (u : Routine) → IsReady pool scene p → slice_get p.units i ≡ Some u → IsFlowing u
+ReadyUnitsFlow = (pool : List Node) (scene : Scene) (p : Program) (i : ℕ) (u : Routine) → IsReady pool scene p
+    → slice_get p.units i ≡ Some u → IsFlowing u

@@ -95,7 +95,8 @@ pub record HasRoomFor (xs : List Item) (m : State) : Type 0 where
 -- a call of a unit, where there is one
 abbrev pub called_at : Setting → UnitCode → CallCode → ℕ → Option UnitCode → State → State
 called_at setting unit call callee None m = lost m
-called_at setting unit call callee (Some g) m = called (copies_by setting.passing unit.name call.number) call.number call.actuals callee m
+called_at setting unit call callee (Some g) m = called (copies_by setting.passing unit.name call.number)
+    call.number call.actuals callee m
 
 abbrev pub called_of : Code → Setting → UnitCode → CallCode → Option ℕ → State → State
 called_of code setting unit call None m = lost m
@@ -131,14 +132,16 @@ pub record HasRoomToGive (sizes : List ℕ) (m : State) : Type 0 where
 
 -- a COMMON entity has the cells that it has in the whole run
 abbrev pub shared_one : ℕ → State → State
-shared_one j m = record m { extents = record m.extents { items = m.extents.items ++ slice_index_or m.extents.items j no_cells ∷ [] } }
+shared_one j m = record m { extents = record m.extents { items = m.extents.items ++ slice_index_or m.extents.items
+    j no_cells ∷ [] } }
 
 abbrev pub shared_all : List ℕ → State → State
 shared_all [] m = m
 shared_all (j ∷ js) m = shared_all js (shared_one j m)
 
 abbrev pub begun : State → State
-begun m = record m { stage = stage.Between; frame = record m.frame { line = 0; before = length m.cells.items; floor = length m.values.items } }
+begun m = record m { stage = stage.Between; frame = record m.frame { line = 0; before = length m.cells.items;
+    floor = length m.values.items } }
 
 -- a unit is entered whose own names have so many cells, with these COMMON entities
 abbrev pub entered : List ℕ → List ℕ → State → State
@@ -146,7 +149,8 @@ entered sizes shared m = shared_all shared (given_all sizes (begun m))
 
 -- the unit of a number has own names with so many cells each, whatever it is entered with
 abbrev pub AreSizesOf : List Routine → ℕ → List ℕ → Type 0
-AreSizesOf units i sizes = (g : Routine) → slice_get units i ≡ Some g → (env : Environment) (st : Storage) → sizes ≡ own_sizes g env st
+AreSizesOf units i sizes = (g : Routine) → slice_get units i ≡ Some g → (env : Environment) (st : Storage)
+    → sizes ≡ own_sizes g env st
 
 -- ---- leaving
 
@@ -157,12 +161,14 @@ value_at unit m = cond unit.is_function (load m.cells.items (extent_at m unit.va
 -- a copy is written back
 abbrev pub given_back : Bool → Item → ℕ → State → State
 given_back copy (Fresh c) next m = m
-given_back true (Cells e) next m = record m { cells = record m.cells { items = write (contents m.cells.items next e.size) e.first m.cells.items } }
+given_back true (Cells e) next m = record m { cells = record m.cells { items = write
+    (contents m.cells.items next e.size) e.first m.cells.items } }
 given_back false (Cells e) next m = m
 
 abbrev pub given_back_all : (ℕ → Bool) → ℕ → ℕ → List Item → State → State
 given_back_all copies i next [] m = m
-given_back_all copies i next (x ∷ xs) m = given_back_all copies (suc i) (far (next + new_size (copies i) x)) xs (given_back (copies i) x next m)
+given_back_all copies i next (x ∷ xs) m = given_back_all copies (suc i) (far (next + new_size (copies i) x)) xs
+    (given_back (copies i) x next m)
 
 -- its own cells, its names and its values are dropped
 abbrev pub cleared : State → State

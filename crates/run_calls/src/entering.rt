@@ -57,7 +57,8 @@ fn begin(m: &mut State)
 /// Enters a unit whose own names have so many cells each, and whose COMMON entities stand at these
 /// places among those of the deck.
 pub fn enter(m: &mut State, sizes: &[usize], shared: &[usize])
-    requires extents { length m.old.extents.items + length sizes.now + length shared.now ≤ m.old.extents.room }
+    requires extents { length m.old.extents.items + length sizes.now + length shared.now
+        ≤ m.old.extents.room }
     requires cells { length m.old.cells.items + sum sizes.now ≤ m.old.cells.room }
     ensures { m.new ≡ entered sizes.now shared.now m.old }
 {

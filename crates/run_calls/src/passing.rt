@@ -39,7 +39,8 @@ fn hand(m: &mut State, copy: bool, item: Item, base: usize)
 /// Passes so many actuals on, which stand at the top of the stack, in the call of a number.
 fn hand_all(m: &mut State, setting: &Setting, unit: &Name, number: usize, count: usize)
     requires { HasRoomFor (newest_in count m.old.values.items []) m.old }
-    ensures { m.new ≡ handed_all (copies_by setting.now.passing unit.now number) 1 (length m.old.cells.items) (newest_in count m.old.values.items []) m.old }
+    ensures { m.new ≡ handed_all (copies_by setting.now.passing unit.now number) 1
+        (length m.old.cells.items) (newest_in count m.old.values.items []) m.old }
 {
     let base = m.cells.len();
     for i in 0..count {
@@ -53,7 +54,8 @@ fn hand_all(m: &mut State, setting: &Setting, unit: &Name, number: usize, count:
 pub(crate) fn call(m: &mut State, setting: &Setting, unit: &Name, call: CallCode, callee: usize)
     requires room { HasRoomFor (newest_in call.actuals m.old.values.items []) m.old }
     requires frames { length m.old.callers.items < m.old.callers.room }
-    ensures { m.new ≡ called (copies_by setting.now.passing unit.now call.number) call.number call.actuals callee m.old }
+    ensures { m.new ≡ called (copies_by setting.now.passing unit.now call.number) call.number
+        call.actuals callee m.old }
 {
     let base = m.cells.len();
     let first = m.extents.len();

@@ -115,7 +115,8 @@ abbrev mutual
   actuals_size u (more_of-Expr e es) = size u false e + actuals_size u es
 
 -- the code of an element, an intrinsic function or a call, by the code of its arguments
-abbrev pub code_by : List Routine → Bool → ℕ → Name → Applied → ℕ → (List Instr → List Instr) → (List Instr → List Instr) → List Instr → List Instr
+abbrev pub code_by : List Routine → Bool → ℕ → Name → Applied → ℕ → (List Instr → List Instr)
+    → (List Instr → List Instr) → List Instr → List Instr
 code_by units reads k f (Element dims) n vs ws is = vs (array f dims n ∷ cond reads (value ∷ is) is)
 code_by units reads k f (BuiltIn i) n vs ws is = vs (built_in i n ∷ is)
 code_by units reads k f Reference n vs ws is = ws (refer (suc k) (function units f) n ∷ is)
@@ -132,11 +133,15 @@ abbrev mutual
   code u units reads k (Pos' _ (only a)) is = code u units true k a is
   code u units reads k (Neg' _ (only a)) is = code u units true k a (negate ∷ is)
   code u units reads k (Power' _ (only a) n) is = code u units true k a (raise n ∷ is)
-  code u units reads k (Bin' o _ (only a) _ (only b)) is = code u units true k a (code u units true (k + calls_in u a) b (operation o ∷ is))
-  code u units reads k (Rel' o _ (only a) _ (only b)) is = code u units true k a (code u units true (k + calls_in u a) b (comparison o ∷ is))
+  code u units reads k (Bin' o _ (only a) _ (only b)) is = code u units true k a
+      (code u units true (k + calls_in u a) b (operation o ∷ is))
+  code u units reads k (Rel' o _ (only a) _ (only b)) is = code u units true k a
+      (code u units true (k + calls_in u a) b (comparison o ∷ is))
   code u units reads k (Not' _ (only a)) is = code u units true k a (negation ∷ is)
-  code u units reads k (And' _ (only a) _ (only b)) is = code u units true k a (skip_false (suc (size u true b)) ∷ code u units true (k + calls_in u a) b (both ∷ is))
-  code u units reads k (Or' _ (only a) _ (only b)) is = code u units true k a (skip_true (suc (size u true b)) ∷ code u units true (k + calls_in u a) b (either ∷ is))
+  code u units reads k (And' _ (only a) _ (only b)) is = code u units true k a
+      (skip_false (suc (size u true b)) ∷ code u units true (k + calls_in u a) b (both ∷ is))
+  code u units reads k (Or' _ (only a) _ (only b)) is = code u units true k a
+      (skip_true (suc (size u true b)) ∷ code u units true (k + calls_in u a) b (either ∷ is))
 
   -- the same for a row of which each expression is read, and for one of which each is only taken
   pub values_code : Routine → List Routine → ℕ → {m : Count} → Row_of-Expr m → List Instr → List Instr
@@ -198,7 +203,8 @@ abbrev pub chooses : {A : Type 0} → Dialect → ℕ → List ℕ → ℤ → (
 chooses Common card qs i next behind = do
   check ChoiceCheck card (is_between (pos 1) (pos (length qs)) i)
   led_to (chosen qs (values_of.count i)) next
-chooses SeventySeven card qs i next behind = cond (is_between (pos 1) (pos (length qs)) i) (led_to (chosen qs (values_of.count i)) next) behind
+chooses SeventySeven card qs i next behind = cond (is_between (pos 1) (pos (length qs)) i)
+    (led_to (chosen qs (values_of.count i)) next) behind
 
 -- a DO begins: it is entered, or under 77 passed over
 abbrev pub begins : {A : Type 0} → Dialect → Scene → ℕ → Name → ℤ → ℤ → ℤ → Act A → Act A → Act A
@@ -239,14 +245,19 @@ exec s run card next (raise n ∷ is) zero xs = do
 exec s run card next (operation o ∷ is) zero xs = do
   v ← operate s.processor card o (second_of xs) (first_of xs)
   exec s run card next is zero (Fresh v ∷ below (below xs))
-exec s run card next (comparison o ∷ is) zero xs = exec s run card next is zero (Fresh (Logical (compares o (second_of xs) (first_of xs))) ∷ below (below xs))
-exec s run card next (negation ∷ is) zero xs = exec s run card next is zero (Fresh (Logical (not (holds (first_of xs)))) ∷ below xs)
+exec s run card next (comparison o ∷ is) zero xs = exec s run card next is zero
+    (Fresh (Logical (compares o (second_of xs) (first_of xs))) ∷ below (below xs))
+exec s run card next (negation ∷ is) zero xs = exec s run card next is zero
+    (Fresh (Logical (not (holds (first_of xs)))) ∷ below xs)
 exec s run card next (skip_false k ∷ is) zero xs =
-    cond (s.processor.lazy && not (holds (first_of xs))) (exec s run card next is k (Fresh (Logical false) ∷ below xs)) (exec s run card next is zero xs)
-exec s run card next (both ∷ is) zero xs = exec s run card next is zero (Fresh (Logical (holds (second_of xs) && holds (first_of xs))) ∷ below (below xs))
+    cond (s.processor.lazy && not (holds (first_of xs))) (exec s run card next is k
+        (Fresh (Logical false) ∷ below xs)) (exec s run card next is zero xs)
+exec s run card next (both ∷ is) zero xs = exec s run card next is zero
+    (Fresh (Logical (holds (second_of xs) && holds (first_of xs))) ∷ below (below xs))
 exec s run card next (skip_true k ∷ is) zero xs =
     cond (s.processor.lazy && holds (first_of xs)) (exec s run card next is k (Fresh (Logical true) ∷ below xs)) (exec s run card next is zero xs)
-exec s run card next (either ∷ is) zero xs = exec s run card next is zero (Fresh (Logical (holds (second_of xs) || holds (first_of xs))) ∷ below (below xs))
+exec s run card next (either ∷ is) zero xs = exec s run card next is zero
+    (Fresh (Logical (holds (second_of xs) || holds (first_of xs))) ∷ below (below xs))
 exec s run card next (array f dims n ∷ is) zero xs = do
   x ← element s.environment card (s.environment f) dims (cells_of (newest n xs []))
   exec s run card next is zero (x ∷ under n xs)
@@ -264,8 +275,10 @@ exec s run card next (test_loops c q ds ∷ is) zero xs = do
   choices ← tests s c ds
   led_to (through q ds choices) (λ p. next p xs)
 exec s run card next (jump q ∷ is) zero xs = next q xs
-exec s run card next (turn ∷ is) zero xs = cond (holds (first_of xs)) (step >> exec s run card next is 1 (below xs)) (exec s run card next is zero (below xs))
-exec s run card next (signs l m r ∷ is) zero xs = next (cond (int_lt (num (first_of xs)) (pos 0)) l (cond (same (first_of xs) (Int (pos 0))) m r)) (below xs)
+exec s run card next (turn ∷ is) zero xs = cond (holds (first_of xs)) (step >> exec s run card next is 1 (below xs))
+    (exec s run card next is zero (below xs))
+exec s run card next (signs l m r ∷ is) zero xs = next (cond (int_lt (num (first_of xs)) (pos 0)) l
+    (cond (same (first_of xs) (Int (pos 0))) m r)) (below xs)
 exec s run card next (ways q r ∷ is) zero xs = next (cond (holds (first_of xs)) q r) (below xs)
 exec s run card next (choose qs ∷ is) zero xs =
     chooses s.processor.dialect card qs (num (first_of xs)) (λ q. next q (below xs)) (exec s run card next is zero (below xs))
@@ -300,16 +313,20 @@ step_code (Some m) is = param_code m is
 
 -- the code of a statement at a card and a point, with k calls before it
 abbrev pub stmt_code : Routine → List Routine → ℕ → ℕ → ℕ → Stmt → List Instr
-stmt_code u units card pc k (Assign l r) = code u units true (k + calls_in u l) r (code u units false k l (assigned ∷ behind_code u card pc ∷ []))
+stmt_code u units card pc k (Assign l r) = code u units true (k + calls_in u l) r
+    (code u units false k l (assigned ∷ behind_code u card pc ∷ []))
 stmt_code u units card pc k (GoTo label) = jump (target u.lines label) ∷ []
 stmt_code u units card pc k (Computed labels x) = load x ∷ choose (map (target u.lines) labels) ∷ behind_code u card pc ∷ []
-stmt_code u units card pc k (ArithIf e l m n) = code u units true k e (signs (target u.lines l) (target u.lines m) (target u.lines n) ∷ [])
-stmt_code u units card pc k (LogicalIf' e _ (carried b)) = code u units true k e (turn ∷ behind_code u card pc ∷ stmt_code u units card pc (k + calls_in u e) b)
+stmt_code u units card pc k (ArithIf e l m n) = code u units true k e (signs (target u.lines l) (target u.lines m)
+    (target u.lines n) ∷ [])
+stmt_code u units card pc k (LogicalIf' e _ (carried b)) = code u units true k e
+    (turn ∷ behind_code u card pc ∷ stmt_code u units card pc (k + calls_in u e) b)
 stmt_code u units card pc k (Do label x first last by) =
     param_code first (param_code last (step_code by (begin_do x (suc pc) ∷ over_code u (target u.lines label) pc ∷ [])))
 stmt_code u units card pc k Continue = behind_code u card pc ∷ []
 stmt_code u units card pc k (Call f args) =
-    actuals_code u units (suc k) (row_of args) (refer (suc k) (subroutine units f) (count (row_of args)) ∷ forget ∷ behind_code u card pc ∷ [])
+    actuals_code u units (suc k) (row_of args) (refer (suc k) (subroutine units f) (count (row_of args))
+        ∷ forget ∷ behind_code u card pc ∷ [])
 stmt_code u units card pc k Return = result_of ∷ jump (length u.lines) ∷ []
 stmt_code u units card pc k (BlockIf e) = code u units true k e (ways (next_point u pc) (next_branch u pc) ∷ [])
 stmt_code u units card pc k (ElseIf e) = code u units true k e (ways (next_point u pc) (next_branch u pc) ∷ [])
@@ -327,21 +344,27 @@ taken_so false s run card k e = taken s run card k e
 -- the code of an expression before other code takes the expression, and then the other code goes on
 abbrev pub ExpressionsAreTaken : Type 0
 ExpressionsAreTaken =
-    (s : Scene) (run : Caller) (card k : ℕ) (next : ℕ → List Taken → Act Cell) (reads : Bool) (e : Expr) (is : List Instr) (xs : List Taken) (st : Storage) (n : ℕ)
-    → exec s run card next (code s.unit s.units reads k e is) 0 xs st n ≡ (taken_so reads s run card k e >>= (λ x. exec s run card next is 0 (x ∷ xs))) st n
+    (s : Scene) (run : Caller) (card k : ℕ) (next : ℕ → List Taken → Act Cell) (reads : Bool) (e : Expr)
+        (is : List Instr) (xs : List Taken) (st : Storage) (n : ℕ)
+    → exec s run card next (code s.unit s.units reads k e is) 0 xs st n ≡ (taken_so reads s run card k e >>=
+        (λ x. exec s run card next is 0 (x ∷ xs))) st n
 
 -- the code of a statement performs the statement, and goes on where that leads
 abbrev pub StatementsArePerformed : Type 0
 StatementsArePerformed =
-    (s : Scene) (run : Caller) (card pc k : ℕ) (next : ℕ → List Taken → Act Cell) (stmt : Stmt) (xs : List Taken) (st : Storage) (n : ℕ)
+    (s : Scene) (run : Caller) (card pc k : ℕ) (next : ℕ → List Taken → Act Cell) (stmt : Stmt) (xs : List Taken)
+        (st : Storage) (n : ℕ)
     → exec s run card next (stmt_code s.unit s.units card pc k stmt) 0 xs st n
-    ≡ (perform s run card pc k stmt >>= (λ choices. led_to (leads s.processor.dialect s.unit pc stmt choices) (λ q. next q xs))) st n
+    ≡ (perform s run card pc k stmt >>= (λ choices. led_to (leads s.processor.dialect s.unit pc stmt choices)
+        (λ q. next q xs))) st n
 
 -- the code of an expression before other code is its code before the first part of that, and then the second
 abbrev pub CodeStandsBefore : Type 0
 CodeStandsBefore =
-    (u : Routine) (units : List Routine) (reads : Bool) (k : ℕ) (e : Expr) (is js : List Instr) → code u units reads k e (is ++ js) ≡ code u units reads k e is ++ js
+    (u : Routine) (units : List Routine) (reads : Bool) (k : ℕ) (e : Expr) (is js : List Instr)
+        → code u units reads k e (is ++ js) ≡ code u units reads k e is ++ js
 
 -- the code of an expression before other code is as long as both
 abbrev pub CodeIsSoLong : Type 0
-CodeIsSoLong = (u : Routine) (units : List Routine) (reads : Bool) (k : ℕ) (e : Expr) (is : List Instr) → length (code u units reads k e is) ≡ size u reads e + length is
+CodeIsSoLong = (u : Routine) (units : List Routine) (reads : Bool) (k : ℕ) (e : Expr) (is : List Instr)
+    → length (code u units reads k e is) ≡ size u reads e + length is

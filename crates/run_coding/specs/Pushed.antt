@@ -40,7 +40,8 @@ closing names reads f (names_of.Element dims) n = Array (slot_in names f) n ∷ 
 closing names reads f (names_of.BuiltIn i) n = BuiltIn (function_of f) n ∷ []
 closing names reads f names_of.Reference n = []
 
--- the instructions of an element, an intrinsic function or a call, by those of its arguments; a call stands at a place of the table
+-- the instructions of an element, an intrinsic function or a call, by those of its arguments; a call stands at
+-- a place of the table
 abbrev pub applied_pushed : List Name → Bool → ℕ → Name → Applied → ℕ → List Instr → List Instr → List Instr
 applied_pushed names reads place f (names_of.Element dims) n vs ws = vs ++ closing names reads f (names_of.Element dims) n
 applied_pushed names reads place f (names_of.BuiltIn i) n vs ws = vs ++ closing names reads f (names_of.BuiltIn i) n
@@ -53,7 +54,8 @@ abbrev mutual
   pushed u names reads k (expr.Truth b) = Truth b ∷ []
   pushed u names reads k (expr.Var x) = name_pushed names reads x ∷ []
   pushed u names reads k (expr.Apply' f _ args) =
-      applied_pushed names reads k f (applied u f) (code.count args) (values_pushed u names k args) (actuals_pushed u names (suc k) args)
+      applied_pushed names reads k f (applied u f) (code.count args) (values_pushed u names k args)
+          (actuals_pushed u names (suc k) args)
   pushed u names reads k (expr.Paren' _ (only a)) = pushed u names true k a
   pushed u names reads k (expr.Pos' _ (only a)) = pushed u names true k a
   pushed u names reads k (expr.Neg' _ (only a)) = pushed u names true k a ++ Negate ∷ []

@@ -26,7 +26,8 @@ pub fn push_call(
     actuals: usize,
 ) -> Result<usize, NoMemory>
     ensures place { IfOk result (λ place. place ≡ length calls.old.items) }
-    ensures listed { OnOk result (calls.new.items ≡ calls.old.items ++ next_call calls.old.items callee actuals ∷ []) }
+    ensures listed { OnOk result (calls.new.items ≡ calls.old.items ++ next_call calls.old.items
+        callee actuals ∷ []) }
 {
     let place = calls.len();
     let call = CallCode {
@@ -66,7 +67,8 @@ fn patch(out: &mut Vec<Instr>, place: usize, instr: Instr)
 
 /// Adds the code of a name: its cells, or what the first of them holds.
 fn code_name(scope: &Scope, out: &mut Vec<Instr>, reads: bool, name: &Name) -> Result<(), NoMemory>
-    ensures { OnOk result (out.new.items ≡ out.old.items ++ name_pushed scope.now.names.now reads name.now ∷ []) }
+    ensures { OnOk result (out.new.items ≡ out.old.items ++ name_pushed scope.now.names.now
+        reads name.now ∷ []) }
 {
     let slot = scope.slot(name);
     if reads {
@@ -85,7 +87,8 @@ fn close(
     name: &Name,
     count: usize,
 ) -> Result<(), NoMemory>
-    ensures { OnOk result (out.new.items ≡ out.old.items ++ closing scope.now.names.now reads name.now (applied (unit_of scope.now) name.now) count) }
+    ensures { OnOk result (out.new.items ≡ out.old.items ++ closing scope.now.names.now
+        reads name.now (applied (unit_of scope.now) name.now) count) }
 {
     if scope.book.is_call(name) {
         return Ok(());
@@ -110,8 +113,10 @@ pub fn code_of(
     reads: bool,
     e: &Expr,
 ) -> Result<(), NoMemory>
-    ensures calls { OnOk result (calls.new.items ≡ with_calls scope.now (sites_in (unit_of scope.now) e.now) calls.old.items) }
-    ensures code { OnOk result (out.new.items ≡ out.old.items ++ pushed (unit_of scope.now) scope.now.names.now reads (length calls.old.items) e.now) }
+    ensures calls { OnOk result (calls.new.items ≡ with_calls scope.now
+        (sites_in (unit_of scope.now) e.now) calls.old.items) }
+    ensures code { OnOk result (out.new.items ≡ out.old.items ++ pushed (unit_of scope.now)
+        scope.now.names.now reads (length calls.old.items) e.now) }
 {
     match e {
         Expr::Const(c) => push(out, Instr::Number(*c)),
@@ -181,8 +186,10 @@ fn code_values(
     out: &mut Vec<Instr>,
     args: &[Expr],
 ) -> Result<(), NoMemory>
-    ensures calls { OnOk result (calls.new.items ≡ with_calls scope.now (flat_map (sites_in (unit_of scope.now)) args.now) calls.old.items) }
-    ensures code { OnOk result (out.new.items ≡ out.old.items ++ values_listed (unit_of scope.now) scope.now.names.now (length calls.old.items) args.now) }
+    ensures calls { OnOk result (calls.new.items ≡ with_calls scope.now
+        (flat_map (sites_in (unit_of scope.now)) args.now) calls.old.items) }
+    ensures code { OnOk result (out.new.items ≡ out.old.items ++ values_listed
+        (unit_of scope.now) scope.now.names.now (length calls.old.items) args.now) }
 {
     for e in args {
         code_of(scope, calls, out, true, e)?;
@@ -198,8 +205,10 @@ pub fn code_actuals(
     out: &mut Vec<Instr>,
     args: &[Expr],
 ) -> Result<(), NoMemory>
-    ensures calls { OnOk result (calls.new.items ≡ with_calls scope.now (flat_map (sites_in (unit_of scope.now)) args.now) calls.old.items) }
-    ensures code { OnOk result (out.new.items ≡ out.old.items ++ actuals_listed (unit_of scope.now) scope.now.names.now (length calls.old.items) args.now) }
+    ensures calls { OnOk result (calls.new.items ≡ with_calls scope.now
+        (flat_map (sites_in (unit_of scope.now)) args.now) calls.old.items) }
+    ensures code { OnOk result (out.new.items ≡ out.old.items ++ actuals_listed
+        (unit_of scope.now) scope.now.names.now (length calls.old.items) args.now) }
 {
     for e in args {
         code_of(scope, calls, out, false, e)?;

@@ -100,7 +100,8 @@ did_skip_true s k m = cond (s.lazy && holds (value_below 0 m)) (decided true k m
 
 -- a value is assigned to what was taken behind it
 abbrev pub assigned_to : Item → State → State
-assigned_to (Cells e) m = with_values (behind (behind m.values.items)) (with_cells (store m.cells.items e.first (value_below 1 m)) m)
+assigned_to (Cells e) m = with_values (behind (behind m.values.items))
+    (with_cells (store m.cells.items e.first (value_below 1 m)) m)
 assigned_to (Fresh c) m = lost m
 
 abbrev pub did_assign : State → State

@@ -77,7 +77,8 @@ pub fn intrinsic(
     function: Function,
     count: usize,
 ) -> Result<Held, Kind>
-    ensures { result ≡ intrinsic_to bounds (intrinsic_of function) (values_in (newest_in count values.now.items [])) }
+    ensures { result ≡ intrinsic_to bounds (intrinsic_of function)
+        (values_in (newest_in count values.now.items [])) }
 {
     match function {
         Function::Absolute => absolute_of(values, bounds, count),

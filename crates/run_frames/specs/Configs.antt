@@ -87,7 +87,8 @@ module _ (p : Processor) (units : List Routine) where
 
   -- a step, where one is wanted
   abbrev pub stepped : Config → Storage → Config × Storage
-  stepped (entering g env ws xs) st = (between (entered g env (length xs) st) 0 ws xs, st ++ replicate (sum (own_sizes g env st)) Undefined)
+  stepped (entering g env ws xs) st = (between (entered g env (length xs) st) 0 ws xs, st ++ replicate
+      (sum (own_sizes g env st)) Undefined)
   stepped (between f q ws xs) st = (begun_at (slice_get f.unit.lines q) f q ws xs, st)
   stepped (carried f card is ws xs) st = (inside f card is ws xs, st)
   stepped (testing f c q (d ∷ ds) ws xs) st = placed f c ws (tested (scene_at p units f) c d q ds xs st)
@@ -135,7 +136,8 @@ module _ {p : Processor} {units : List Routine} (r : Runs p units) where
   rest (between f q ws xs) = goes_on r f (finish r ws) q xs
   rest (inside f card is ws xs) = exec (scene_at p units f) r.run card (goes_on r f (finish r ws)) is 0 xs
   rest (carried f card is ws xs) = step >> exec (scene_at p units f) r.run card (goes_on r f (finish r ws)) is 0 xs
-  rest (testing f c q ds ws xs) = tests (scene_at p units f) c ds >>= (λ cs. led_to (through q ds cs) (λ q. goes_on r f (finish r ws) q xs))
+  rest (testing f c q ds ws xs) = tests (scene_at p units f) c ds >>= (λ cs. led_to (through q ds cs)
+      (λ q. goes_on r f (finish r ws) q xs))
   rest (ended v) = give v
   rest (erred kind c) = λ st n. Erred kind c st
   rest nowhere = stuck
@@ -143,7 +145,8 @@ module _ {p : Processor} {units : List Routine} (r : Runs p units) where
 -- a piece of work leaves the rest of the run as it was
 abbrev pub WorkChangesNothing : Type 0
 WorkChangesNothing =
-    (p : Processor) (units : List Routine) (r : Runs p units) (c : Config) (st : Storage) (n : ℕ) → rest r (worked p units c st).0 (worked p units c st).1 n ≡ rest r c st n
+    (p : Processor) (units : List Routine) (r : Runs p units) (c : Config) (st : Storage) (n : ℕ)
+        → rest r (worked p units c st).0 (worked p units c st).1 n ≡ rest r c st n
 
 -- where a step is wanted and there is none, the run needs one more; with one it goes on behind that step
 abbrev pub StepsAreTaken : Type 0
@@ -153,9 +156,11 @@ StepsAreTaken =
 
 -- there is an end of work
 abbrev pub WorkEnds : Type 0
-WorkEnds = (p : Processor) (units : List Routine) (c : Config) (st : Storage) → waits c ≡ false → is_over c ≡ false → weight (worked p units c st).0 < weight c
+WorkEnds = (p : Processor) (units : List Routine) (c : Config) (st : Storage) → waits c ≡ false → is_over c ≡ false
+    → weight (worked p units c st).0 < weight c
 
 -- runs of the model go on so, and a run is what is left where its unit is to be entered
 abbrev pub RunsAreRests : Type 0
 RunsAreRests =
-    (p : Processor) (units : List Routine) → (r : Runs p units) × ((u : Routine) (env : Environment) (st : Storage) (n : ℕ) → rest r (entering u env [] []) st n ≡ run p units u env st n)
+    (p : Processor) (units : List Routine) → (r : Runs p units) × ((u : Routine) (env : Environment)
+        (st : Storage) (n : ℕ) → rest r (entering u env [] []) st n ≡ run p units u env st n)

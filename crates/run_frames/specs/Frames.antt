@@ -24,9 +24,11 @@ pub record Runs (p : Processor) (units : List Routine) : Type 0 where
     own ← enter u env
     from u own 0
     leave u own (length before)) st n
-  pub goes : (u : Routine) (env : Environment) (pc : ℕ) (st : Storage) (n : ℕ) → from u env pc st n ≡ at_line (slice_get u.lines pc) (λ line. do
+  pub goes : (u : Routine) (env : Environment) (pc : ℕ) (st : Storage) (n : ℕ) → from u env pc st n
+      ≡ at_line (slice_get u.lines pc) (λ line. do
     step
-    choices ← perform (record { processor = p; units = units; unit = u; environment = env }) run line.card pc (calls_before u pc) line.stmt
+    choices ← perform (record { processor = p; units = units; unit = u; environment = env }) run line.card pc
+        (calls_before u pc) line.stmt
     go_to (leads p.dialect u pc line.stmt choices) (from u env)) st n
 
 -- A unit that is being run: the cells of its names, its own among them; how many cells there were before those; and how

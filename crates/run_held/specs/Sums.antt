@@ -62,7 +62,11 @@ power_to b base exponent = power_to_on b base (pred exponent) base
 
 -- the model's parts come to just that
 pub record SumsAreExact : Type 0 where
-  pub ranged : (b : Bounds) (m : Manner) (card : ℕ) (z : ℤ) (st : Storage) → model.ranged (processor_of b m) card z st 0 ≡ came_to (ranged_to b z) card st
-  pub constant : (b : Bounds) (m : Manner) (card c : ℕ) (st : Storage) → model.constant (processor_of b m) card c st 0 ≡ came_to (constant_to b c) card st
-  pub operate : (b : Bounds) (m : Manner) (card : ℕ) (o : BinOp) (v w : Cell) (st : Storage) → model.operate (processor_of b m) card o v w st 0 ≡ came_to (operated_to b o v w) card st
-  pub power : (b : Bounds) (m : Manner) (card : ℕ) (base : ℤ) (exponent : ℕ) (st : Storage) → model.power (processor_of b m) card base exponent st 0 ≡ came_to (power_to b base exponent) card st
+  pub ranged : (b : Bounds) (m : Manner) (card : ℕ) (z : ℤ) (st : Storage)
+      → model.ranged (processor_of b m) card z st 0 ≡ came_to (ranged_to b z) card st
+  pub constant : (b : Bounds) (m : Manner) (card c : ℕ) (st : Storage)
+      → model.constant (processor_of b m) card c st 0 ≡ came_to (constant_to b c) card st
+  pub operate : (b : Bounds) (m : Manner) (card : ℕ) (o : BinOp) (v w : Cell) (st : Storage)
+      → model.operate (processor_of b m) card o v w st 0 ≡ came_to (operated_to b o v w) card st
+  pub power : (b : Bounds) (m : Manner) (card : ℕ) (base : ℤ) (exponent : ℕ) (st : Storage)
+      → model.power (processor_of b m) card base exponent st 0 ≡ came_to (power_to b base exponent) card st

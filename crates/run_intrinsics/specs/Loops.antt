@@ -36,6 +36,7 @@ begun_move (Err kind) card place q m1 is xs st = to_error kind card st
 
 -- a DO begins just so
 abbrev pub StartsAreExact : Type 0
-StartsAreExact = (b : Bounds) (m : Manner) (d : Dialect) (s : Scene) (card : ℕ) (x : Name) (q : ℕ) (m1 m2 m3 : ℤ) (is : List Instr) (xs : List Taken) (st : Storage)
+StartsAreExact = (b : Bounds) (m : Manner) (d : Dialect) (s : Scene) (card : ℕ) (x : Name) (q : ℕ) (m1 m2 m3 : ℤ)
+    (is : List Instr) (xs : List Taken) (st : Storage)
     → s.processor ≡ processor_of b m
     → beginning d s card x q m1 m2 m3 is xs st ≡ begun_move (begun_to d b m1 m2 m3) card (s.environment x).first q m1 is xs st

@@ -11,4 +11,5 @@ use Rattle.run_lines.specs.Stated.{stmt_pushed}
 -- those that a draft gets
 abbrev pub pushed_at : Scope → Spot → Draft → Stmt → List Instr
 pushed_at s spot draft stmt =
-    stmt_pushed (unit_of s) s.names.now spot.behind spot.over spot.point (length draft.targets.items) (length draft.calls.items) stmt
+    stmt_pushed (unit_of s) s.names.now spot.behind spot.over spot.point (length draft.targets.items)
+        (length draft.calls.items) stmt

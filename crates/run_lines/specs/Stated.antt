@@ -38,17 +38,21 @@ abbrev pub stmt_pushed : Routine → List Name → Instr → Instr → ℕ → �
 stmt_pushed u names behind over pc place k (stmt.Assign l r) =
     pushed u names true (k + length (sites_in u l)) r ++ (pushed u names false k l ++ (Assigned ∷ behind ∷ []))
 stmt_pushed u names behind over pc place k (stmt.GoTo label) = Jump (target u.lines label) ∷ []
-stmt_pushed u names behind over pc place k (stmt.Computed labels x) = Load (slot_in names x) ∷ Choose place (length labels) ∷ behind ∷ []
+stmt_pushed u names behind over pc place k (stmt.Computed labels x) = Load (slot_in names x) ∷ Choose place
+    (length labels) ∷ behind ∷ []
 stmt_pushed u names behind over pc place k (stmt.ArithIf e l m n) = pushed u names true k e ++ (Signs place ∷ [])
 stmt_pushed u names behind over pc place k (stmt.LogicalIf' e _ (carried b)) =
     pushed u names true k e ++ (Turn ∷ behind ∷ stmt_pushed u names behind over pc place (k + length (sites_in u e)) b)
 stmt_pushed u names behind over pc place k (stmt.Do label x first last by) =
     param_pushed names first ∷ param_pushed names last ∷ step_pushed names by ∷ BeginDo (slot_in names x) (suc pc) ∷ over ∷ []
 stmt_pushed u names behind over pc place k stmt.Continue = behind ∷ []
-stmt_pushed u names behind over pc place k (stmt.Call f args) = actuals_listed u names (suc k) args ++ (Refer k ∷ Forget ∷ behind ∷ [])
+stmt_pushed u names behind over pc place k (stmt.Call f args) = actuals_listed u names (suc k) args ++
+    (Refer k ∷ Forget ∷ behind ∷ [])
 stmt_pushed u names behind over pc place k stmt.Return = ResultOf ∷ Jump (length u.lines) ∷ []
-stmt_pushed u names behind over pc place k (stmt.BlockIf e) = pushed u names true k e ++ (Ways (next_point u pc) (next_branch u pc) ∷ [])
-stmt_pushed u names behind over pc place k (stmt.ElseIf e) = pushed u names true k e ++ (Ways (next_point u pc) (next_branch u pc) ∷ [])
+stmt_pushed u names behind over pc place k (stmt.BlockIf e) = pushed u names true k e ++
+    (Ways (next_point u pc) (next_branch u pc) ∷ [])
+stmt_pushed u names behind over pc place k (stmt.ElseIf e) = pushed u names true k e ++
+    (Ways (next_point u pc) (next_branch u pc) ∷ [])
 stmt_pushed u names behind over pc place k stmt.Else = behind ∷ []
 stmt_pushed u names behind over pc place k stmt.EndIf = behind ∷ []
 stmt_pushed u names behind over pc place k _ = Stop ∷ []
@@ -73,13 +77,15 @@ StepHere names (Some m) = ParamHere names m
 -- each name of a statement with k calls before it has a slot, each call stands at its place, and behind the range of a DO the
 -- flow goes on as it is to go on
 abbrev pub StmtHere : Routine → List Routine → List Name → List CallCode → code.Instr → ℕ → ℕ → Stmt → Type 0
-StmtHere u units names calls over pc k (stmt.Assign l r) = IsHere u units names calls k l × IsHere u units names calls (k + calls_in u l) r
+StmtHere u units names calls over pc k (stmt.Assign l r) = IsHere u units names calls k l
+    × IsHere u units names calls (k + calls_in u l) r
 StmtHere u units names calls over pc k (stmt.Computed labels x) = is_among x names ≡ true
 StmtHere u units names calls over pc k (stmt.ArithIf e l m n) = IsHere u units names calls k e
 StmtHere u units names calls over pc k (stmt.LogicalIf' e _ (carried b)) =
     IsHere u units names calls k e × StmtHere u units names calls over pc (k + calls_in u e) b
 StmtHere u units names calls over pc k (stmt.Do label x first last by) =
-    (is_among x names ≡ true) × ParamHere names first × ParamHere names last × StepHere names by × (over ≡ code.over_code u (target u.lines label) pc)
+    (is_among x names ≡ true) × ParamHere names first × ParamHere names last × StepHere names by
+        × (over ≡ code.over_code u (target u.lines label) pc)
 StmtHere u units names calls over pc k (stmt.Call f args) =
     (call_at calls k ≡ record { number = suc k; callee = subroutine units f; actuals = code.count (row_of args) })
     × AreHere u units names calls (suc k) (row_of args)
@@ -92,6 +98,8 @@ abbrev pub StmtPushedIsCode : Type 0
 StmtPushedIsCode =
     (u : Routine) (units : List Routine) (slots : Slots) (tests : List Test) (calls : List CallCode) (targets : List ℕ)
     (behind over : Instr) (card pc place k : ℕ) (s : Stmt) (more : List ℕ)
-    → AreSlotsOf u slots → seen slots tests calls targets behind ≡ code.behind_code u card pc → drop place targets ≡ aims u s ++ more
+    → AreSlotsOf u slots → seen slots tests calls targets behind ≡ code.behind_code u card pc
+        → drop place targets ≡ aims u s ++ more
     → StmtHere u units slots.names calls (seen slots tests calls targets over) pc k s
-    → map (seen slots tests calls targets) (stmt_pushed u slots.names behind over pc place k s) ≡ code.stmt_code u units card pc k s
+    → map (seen slots tests calls targets) (stmt_pushed u slots.names behind over pc place k s)
+        ≡ code.stmt_code u units card pc k s

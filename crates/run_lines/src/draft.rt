@@ -69,7 +69,8 @@ pub(crate) fn push_three(
     labels: (u32, u32, u32),
 ) -> Result<(), NoMemory>
     requires { ArePointsOf lines.now points.now }
-    ensures { OnOk result (targets.new.items ≡ targets.old.items ++ target lines.now labels.0 ∷ target lines.now labels.1 ∷ target lines.now labels.2 ∷ []) }
+    ensures { OnOk result (targets.new.items ≡ targets.old.items ++ target lines.now labels.0
+        ∷ target lines.now labels.1 ∷ target lines.now labels.2 ∷ []) }
 {
     push_point(targets, points.point(lines, labels.0))?;
     push_point(targets, points.point(lines, labels.1))?;

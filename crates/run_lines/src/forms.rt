@@ -41,8 +41,13 @@ pub(crate) fn code_sides(
     right: &Expr,
 ) -> Result<(), NoMemory>
     ensures targets { OnOk result (draft.new.targets.items ≡ draft.old.targets.items) }
-    ensures calls { OnOk result (draft.new.calls.items ≡ with_calls scope.now (sites_in (unit_of scope.now) left.now ++ sites_in (unit_of scope.now) right.now) draft.old.calls.items) }
-    ensures code { let k = length draft.old.calls.items in OnOk result (draft.new.instrs.items ≡ draft.old.instrs.items ++ (pushed (unit_of scope.now) scope.now.names.now true (k + length (sites_in (unit_of scope.now) left.now)) right.now ++ pushed (unit_of scope.now) scope.now.names.now false k left.now)) }
+    ensures calls { OnOk result (draft.new.calls.items ≡ with_calls scope.now
+        (sites_in (unit_of scope.now) left.now ++ sites_in (unit_of scope.now) right.now)
+        draft.old.calls.items) }
+    ensures code { let k = length draft.old.calls.items in OnOk result (draft.new.instrs.items
+        ≡ draft.old.instrs.items ++ (pushed (unit_of scope.now) scope.now.names.now true
+        (k + length (sites_in (unit_of scope.now) left.now)) right.now ++ pushed
+        (unit_of scope.now) scope.now.names.now false k left.now)) }
 {
     let mut side = Vec::new(alloc);
     code_of(scope, &mut draft.calls, &mut side, false, left)?;
@@ -58,7 +63,8 @@ pub(crate) fn code_values(
     last: Param,
     by: Option<Param>,
 ) -> Result<(), NoMemory>
-    ensures { OnOk result (out.new.items ≡ out.old.items ++ param_pushed scope.now.names.now first ∷ param_pushed scope.now.names.now last ∷ step_pushed scope.now.names.now by ∷ []) }
+    ensures { OnOk result (out.new.items ≡ out.old.items ++ param_pushed scope.now.names.now
+        first ∷ param_pushed scope.now.names.now last ∷ step_pushed scope.now.names.now by ∷ []) }
 {
     push(out, param(scope, first))?;
     push(out, param(scope, last))?;
@@ -73,8 +79,12 @@ pub(crate) fn code_call(
     actuals: &[Expr],
 ) -> Result<(), NoMemory>
     ensures targets { OnOk result (draft.new.targets.items ≡ draft.old.targets.items) }
-    ensures calls { OnOk result (draft.new.calls.items ≡ with_calls scope.now (record { reference = false; callee = callee.now; actuals = actuals.now } ∷ flat_map (sites_in (unit_of scope.now)) actuals.now) draft.old.calls.items) }
-    ensures code { OnOk result (draft.new.instrs.items ≡ draft.old.instrs.items ++ (actuals_listed (unit_of scope.now) scope.now.names.now (suc (length draft.old.calls.items)) actuals.now ++ (instr.Refer (length draft.old.calls.items) ∷ instr.Forget ∷ []))) }
+    ensures calls { OnOk result (draft.new.calls.items ≡ with_calls scope.now
+        (record { reference = false; callee = callee.now; actuals = actuals.now } ∷ flat_map
+        (sites_in (unit_of scope.now)) actuals.now) draft.old.calls.items) }
+    ensures code { OnOk result (draft.new.instrs.items ≡ draft.old.instrs.items ++
+        (actuals_listed (unit_of scope.now) scope.now.names.now (suc (length draft.old.calls.items))
+        actuals.now ++ (instr.Refer (length draft.old.calls.items) ∷ instr.Forget ∷ []))) }
 {
     let place = push_call(&mut draft.calls, scope.subroutine(callee), actuals.len())?;
     code_actuals(scope, &mut draft.calls, &mut draft.instrs, actuals)?;

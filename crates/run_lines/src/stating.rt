@@ -48,8 +48,10 @@ fn code_ways(lines: &Lines, spot: &Spot, draft: &mut Draft, e: &Expr) -> Result<
     requires next { spot.now.next ≡ next_point (unit_of lines.now.scope.now) spot.now.point }
     requires branch { spot.now.branch ≡ next_branch (unit_of lines.now.scope.now) spot.now.point }
     ensures targets { OnOk result (draft.new.targets.items ≡ draft.old.targets.items) }
-    ensures calls { OnOk result (draft.new.calls.items ≡ with_calls lines.now.scope.now (sites_of (unit_of lines.now.scope.now) (stmt.BlockIf e.now)) draft.old.calls.items) }
-    ensures code { OnOk result (draft.new.instrs.items ≡ draft.old.instrs.items ++ pushed_at lines.now.scope.now spot.now draft.old (stmt.BlockIf e.now)) }
+    ensures calls { OnOk result (draft.new.calls.items ≡ with_calls lines.now.scope.now
+        (sites_of (unit_of lines.now.scope.now) (stmt.BlockIf e.now)) draft.old.calls.items) }
+    ensures code { OnOk result (draft.new.instrs.items ≡ draft.old.instrs.items ++ pushed_at
+        lines.now.scope.now spot.now draft.old (stmt.BlockIf e.now)) }
 {
     code_of(lines.scope, &mut draft.calls, &mut draft.instrs, true, e)?;
     push(&mut draft.instrs, Instr::Ways(spot.next, spot.branch))
@@ -60,9 +62,12 @@ pub fn code_stmt(lines: &Lines, spot: &Spot, draft: &mut Draft, stmt: &Stmt) -> 
     requires within { spot.now.point < length (unit_of lines.now.scope.now).lines }
     requires next { spot.now.next ≡ next_point (unit_of lines.now.scope.now) spot.now.point }
     requires branch { spot.now.branch ≡ next_branch (unit_of lines.now.scope.now) spot.now.point }
-    ensures targets { OnOk result (draft.new.targets.items ≡ draft.old.targets.items ++ aims (unit_of lines.now.scope.now) stmt.now) }
-    ensures calls { OnOk result (draft.new.calls.items ≡ with_calls lines.now.scope.now (sites_of (unit_of lines.now.scope.now) stmt.now) draft.old.calls.items) }
-    ensures code { OnOk result (draft.new.instrs.items ≡ draft.old.instrs.items ++ pushed_at lines.now.scope.now spot.now draft.old stmt.now) }
+    ensures targets { OnOk result (draft.new.targets.items ≡ draft.old.targets.items ++ aims
+        (unit_of lines.now.scope.now) stmt.now) }
+    ensures calls { OnOk result (draft.new.calls.items ≡ with_calls lines.now.scope.now
+        (sites_of (unit_of lines.now.scope.now) stmt.now) draft.old.calls.items) }
+    ensures code { OnOk result (draft.new.instrs.items ≡ draft.old.instrs.items ++ pushed_at
+        lines.now.scope.now spot.now draft.old stmt.now) }
 {
     let scope = lines.scope;
     match stmt {

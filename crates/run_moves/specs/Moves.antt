@@ -46,7 +46,8 @@ goes_by s run card next (on is xs st) n = exec s run card next is 0 xs st n
 goes_by s run card next (to_point q xs st) n = next q xs st n
 goes_by s run card next (to_carried is xs st) n = (step >> exec s run card next is 0 xs) st n
 goes_by s run card next (to_tests c q ds xs st) n = (tests s c ds >>= (λ cs. led_to (through q ds cs) (λ p. next p xs))) st n
-goes_by s run card next (to_call k g m is xs st) n = (call_unit run s.environment g (passed_on s k m xs) >>= (λ v. exec s run card next is 0 (Fresh v ∷ under m xs))) st n
+goes_by s run card next (to_call k g m is xs st) n = (call_unit run s.environment g (passed_on s k m xs) >>=
+    (λ v. exec s run card next is 0 (Fresh v ∷ under m xs))) st n
 goes_by s run card next (to_error kind c st) n = Erred kind c st
 goes_by s run card next (to_nothing st) n = Running st
 
@@ -68,13 +69,16 @@ calling k (Some g) m is xs st = to_call k g m is xs st
 
 -- a computed GO TO by a number; without 77 it must count a label
 abbrev pub choosing : Dialect → ℕ → List ℕ → ℤ → List Instr → List Taken → Storage → Move
-choosing Common card qs i is xs st = settled (check ChoiceCheck card (is_between (pos 1) (pos (length qs)) i) st 0) (λ _ st. to_chosen (chosen qs (count i)) xs st)
-choosing SeventySeven card qs i is xs st = cond (is_between (pos 1) (pos (length qs)) i) (to_chosen (chosen qs (count i)) xs st) (on is xs st)
+choosing Common card qs i is xs st = settled (check ChoiceCheck card (is_between (pos 1) (pos (length qs)) i) st 0)
+    (λ _ st. to_chosen (chosen qs (count i)) xs st)
+choosing SeventySeven card qs i is xs st = cond (is_between (pos 1) (pos (length qs)) i)
+    (to_chosen (chosen qs (count i)) xs st) (on is xs st)
 
 -- the beginning of a DO
 abbrev pub beginning : Dialect → Scene → ℕ → Name → ℕ → ℤ → ℤ → ℤ → List Instr → List Taken → Storage → Move
 beginning Common s card x q m1 m2 m3 is xs st =
-    settled (check LoopCheck card (int_le (pos 1) m1 && (int_le m1 m2 && int_le (pos 1) m3)) st 0) (λ _ st. to_point q xs (store st (s.environment x).first (Int m1)))
+    settled (check LoopCheck card (int_le (pos 1) m1 && (int_le m1 m2 && int_le (pos 1) m3)) st 0)
+        (λ _ st. to_point q xs (store st (s.environment x).first (Int m1)))
 beginning SeventySeven s card x q m1 m2 m3 is xs st =
     settled (check LoopCheck card (int_le (pos 1) m3) st 0)
     (λ _ st.
@@ -82,7 +86,8 @@ beginning SeventySeven s card x q m1 m2 m3 is xs st =
     (λ _ st.
     settled (ranged s.processor card (m2 -ℤ m1 +ℤ m3) st 0)
     (λ _ st.
-    cond (int_le m1 m2) (to_point q xs (store st (s.environment x).first (Int m1))) (on is xs (store st (s.environment x).first (Int m1))))))
+    cond (int_le m1 m2) (to_point q xs (store st (s.environment x).first (Int m1)))
+        (on is xs (store st (s.environment x).first (Int m1))))))
 
 -- what an instruction at a card does, before other code, on a stack and storage
 abbrev pub moved : Scene → ℕ → Instr → List Instr → List Taken → Storage → Move
@@ -92,28 +97,37 @@ moved s card (truth b) is xs st = on is (Fresh (Logical b) ∷ xs) st
 moved s card (place x) is xs st = on is (Cells (s.environment x) ∷ xs) st
 moved s card (load x) is xs st = settled (read card (s.environment x).first st 0) (λ v st. on is (Fresh v ∷ xs) st)
 moved s card value is xs st = settled (value_of card (top xs) st 0) (λ v st. on is (Fresh v ∷ below xs) st)
-moved s card negate is xs st = settled (ranged s.processor card (neg_ℤ (num (first_of xs))) st 0) (λ v st. on is (Fresh v ∷ below xs) st)
-moved s card (raise n) is xs st = settled (power s.processor card (num (first_of xs)) n st 0) (λ v st. on is (Fresh v ∷ below xs) st)
-moved s card (operation o) is xs st = settled (operate s.processor card o (second_of xs) (first_of xs) st 0) (λ v st. on is (Fresh v ∷ below (below xs)) st)
+moved s card negate is xs st = settled (ranged s.processor card (neg_ℤ (num (first_of xs))) st 0)
+    (λ v st. on is (Fresh v ∷ below xs) st)
+moved s card (raise n) is xs st = settled (power s.processor card (num (first_of xs)) n st 0)
+    (λ v st. on is (Fresh v ∷ below xs) st)
+moved s card (operation o) is xs st = settled (operate s.processor card o (second_of xs) (first_of xs) st 0)
+    (λ v st. on is (Fresh v ∷ below (below xs)) st)
 moved s card (comparison o) is xs st = on is (Fresh (Logical (compares o (second_of xs) (first_of xs))) ∷ below (below xs)) st
 moved s card negation is xs st = on is (Fresh (Logical (not (holds (first_of xs)))) ∷ below xs) st
-moved s card (skip_false k) is xs st = cond (s.processor.lazy && not (holds (first_of xs))) (on (drop k is) (Fresh (Logical false) ∷ below xs) st) (on is xs st)
+moved s card (skip_false k) is xs st = cond (s.processor.lazy && not (holds (first_of xs)))
+    (on (drop k is) (Fresh (Logical false) ∷ below xs) st) (on is xs st)
 moved s card both is xs st = on is (Fresh (Logical (holds (second_of xs) && holds (first_of xs))) ∷ below (below xs)) st
-moved s card (skip_true k) is xs st = cond (s.processor.lazy && holds (first_of xs)) (on (drop k is) (Fresh (Logical true) ∷ below xs) st) (on is xs st)
+moved s card (skip_true k) is xs st = cond (s.processor.lazy && holds (first_of xs))
+    (on (drop k is) (Fresh (Logical true) ∷ below xs) st) (on is xs st)
 moved s card either is xs st = on is (Fresh (Logical (holds (second_of xs) || holds (first_of xs))) ∷ below (below xs)) st
-moved s card (array f dims n) is xs st = settled (element s.environment card (s.environment f) dims (cells_of (newest n xs [])) st 0) (λ x st. on is (x ∷ under n xs) st)
-moved s card (built_in i n) is xs st = settled (intrinsic_value s.processor card i (cells_of (newest n xs [])) st 0) (λ v st. on is (Fresh v ∷ under n xs) st)
+moved s card (array f dims n) is xs st = settled (element s.environment card (s.environment f) dims
+    (cells_of (newest n xs [])) st 0) (λ x st. on is (x ∷ under n xs) st)
+moved s card (built_in i n) is xs st = settled (intrinsic_value s.processor card i (cells_of (newest n xs [])) st 0)
+    (λ v st. on is (Fresh v ∷ under n xs) st)
 moved s card (refer k callee n) is xs st = calling k (unit_at s.units callee) n is xs st
 moved s card forget is xs st = on is (below xs) st
 moved s card assigned is xs st = settled (assign (top xs) (second_of xs) st 0) (λ _ st. on is (below (below xs)) st)
 moved s card (test_loops c q ds) is xs st = to_tests c q ds xs st
 moved s card (jump q) is xs st = to_point q xs st
 moved s card turn is xs st = cond (holds (first_of xs)) (to_carried (drop 1 is) (below xs) st) (on is (below xs) st)
-moved s card (signs l m r) is xs st = to_point (cond (int_lt (num (first_of xs)) (pos 0)) l (cond (same (first_of xs) (Int (pos 0))) m r)) (below xs) st
+moved s card (signs l m r) is xs st = to_point (cond (int_lt (num (first_of xs)) (pos 0)) l
+    (cond (same (first_of xs) (Int (pos 0))) m r)) (below xs) st
 moved s card (ways q r) is xs st = to_point (cond (holds (first_of xs)) q r) (below xs) st
 moved s card (choose qs) is xs st = choosing s.processor.dialect card qs (num (first_of xs)) is (below xs) st
 moved s card (begin_do x q) is xs st =
-    beginning s.processor.dialect s card x q (num (third_of xs)) (num (second_of xs)) (num (first_of xs)) is (below (below (below xs))) st
+    beginning s.processor.dialect s card x q (num (third_of xs)) (num (second_of xs)) (num (first_of xs)) is
+        (below (below (below xs))) st
 moved s card result_of is xs st = settled (result s card (is_function s.unit) st 0) (λ _ st. on is xs st)
 moved s card stop is xs st = to_nothing st
 
@@ -135,12 +149,15 @@ tested s card d q ds xs st =
 -- an instruction does just that
 abbrev pub MovesAreExact : Type 0
 MovesAreExact =
-    (s : Scene) (run : Caller) (card : ℕ) (next : ℕ → List Taken → Act Cell) (c : Instr) (is : List Instr) (xs : List Taken) (st : Storage) (n : ℕ)
+    (s : Scene) (run : Caller) (card : ℕ) (next : ℕ → List Taken → Act Cell) (c : Instr) (is : List Instr)
+        (xs : List Taken) (st : Storage) (n : ℕ)
     → exec s run card next (c ∷ is) 0 xs st n ≡ goes_by s run card next (moved s card c is xs st) n
 
 -- without a step a test would need one; with one it does just that
 abbrev pub TestsAreExact : Type 0
 TestsAreExact =
-    (s : Scene) (run : Caller) (card c q : ℕ) (next : ℕ → List Taken → Act Cell) (d : Loop) (ds : List Loop) (xs : List Taken) (st : Storage)
+    (s : Scene) (run : Caller) (card c q : ℕ) (next : ℕ → List Taken → Act Cell) (d : Loop) (ds : List Loop)
+        (xs : List Taken) (st : Storage)
     → (goes_by s run card next (to_tests c q (d ∷ ds) xs st) 0 ≡ Running st)
-    × ((n : ℕ) → goes_by s run card next (to_tests c q (d ∷ ds) xs st) (suc n) ≡ goes_by s run card next (tested s c d q ds xs st) n)
+    × ((n : ℕ) → goes_by s run card next (to_tests c q (d ∷ ds) xs st) (suc n) ≡ goes_by s run card next
+        (tested s c d q ds xs st) n)

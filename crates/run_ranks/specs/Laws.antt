@@ -25,13 +25,15 @@ pub record IsRoom (code : Code) (ranks : Ranks) (most : ℕ) (m : State) : Type 
 -- there is room for one more item where an instruction stands
 abbrev pub PlainIsReady : Type 0
 PlainIsReady =
-    (code : Code) (ranks : Ranks) (most : ℕ) (m : State) → IsRoom code ranks most m → m.stage ≡ stage.Inside → m.frame.place < m.frame.stop
+    (code : Code) (ranks : Ranks) (most : ℕ) (m : State) → IsRoom code ranks most m → m.stage ≡ stage.Inside
+        → m.frame.place < m.frame.stop
     → length m.values.items < m.values.room
 
 -- an instruction that is no call keeps the room
 abbrev pub PlainKeepsRoom : Type 0
 PlainKeepsRoom =
-    (code : Code) (ranks : Ranks) (most : ℕ) (m new : State) → HasRoom code ranks most m → m.stage ≡ stage.Inside → m.frame.place < m.frame.stop → IsPlain (advanced m) new
+    (code : Code) (ranks : Ranks) (most : ℕ) (m new : State) → HasRoom code ranks most m → m.stage ≡ stage.Inside
+        → m.frame.place < m.frame.stop → IsPlain (advanced m) new
     → HasRoom code ranks most new
 
 -- a test of a DO leads on to tests, to a point, or to an end
@@ -44,7 +46,8 @@ IsTested _ = Unit {0}
 -- it keeps the room
 abbrev pub TestsKeepRoom : Type 0
 TestsKeepRoom =
-    (code : Code) (ranks : Ranks) (most : ℕ) (m new : State) → HasRoom code ranks most m → m.stage ≡ stage.Testing → IsTested new.stage → IsPlain m new → HasRoom code ranks most new
+    (code : Code) (ranks : Ranks) (most : ℕ) (m new : State) → HasRoom code ranks most m → m.stage ≡ stage.Testing
+        → IsTested new.stage → IsPlain m new → HasRoom code ranks most new
 
 -- a statement begins
 abbrev pub line_begun : LineCode → State → State
@@ -61,29 +64,35 @@ LinesKeepRoom =
 -- there is room for each call
 abbrev pub CallsAreReady : Type 0
 CallsAreReady =
-    (code : Code) (ranks : Ranks) (most place : ℕ) (m : State) → IsRoom code ranks most m → m.stage ≡ stage.Inside → m.frame.place < m.frame.stop
+    (code : Code) (ranks : Ranks) (most place : ℕ) (m : State) → IsRoom code ranks most m → m.stage ≡ stage.Inside
+        → m.frame.place < m.frame.stop
     → IfSome (slice_get (unit_code code m.frame.unit).calls place) (IsReadyFor (advanced m))
 
 -- a call keeps the room
 abbrev pub CallsKeepRoom : Type 0
 CallsKeepRoom =
-    (code : Code) (setting : Setting) (ranks : Ranks) (most place : ℕ) (m : State) → IsRoom code ranks most m → m.stage ≡ stage.Inside → m.frame.place < m.frame.stop
-    → HasRoom code ranks most (referred code setting (unit_code code m.frame.unit) (slice_get (unit_code code m.frame.unit).calls place) (advanced m))
+    (code : Code) (setting : Setting) (ranks : Ranks) (most place : ℕ) (m : State) → IsRoom code ranks most m
+        → m.stage ≡ stage.Inside → m.frame.place < m.frame.stop
+    → HasRoom code ranks most (referred code setting (unit_code code m.frame.unit)
+        (slice_get (unit_code code m.frame.unit).calls place) (advanced m))
 
 -- ---- entering
 
 -- there is room for the names of a unit and for their cells
 pub record IsReadyToEnter (code : Code) (ranks : Ranks) (m : State) : Type 0 where
-  pub extents : length m.extents.items + length (rank_at ranks m.frame.unit).own + length (unit_code code m.frame.unit).shared ≤ m.extents.room
+  pub extents : length m.extents.items + length (rank_at ranks m.frame.unit).own + length
+      (unit_code code m.frame.unit).shared ≤ m.extents.room
   pub cells : length m.cells.items + sum (rank_at ranks m.frame.unit).own ≤ m.cells.room
 
 abbrev pub EntriesAreReady : Type 0
-EntriesAreReady = (code : Code) (ranks : Ranks) (most : ℕ) (m : State) → IsRoom code ranks most m → m.stage ≡ stage.Entering → IsReadyToEnter code ranks m
+EntriesAreReady = (code : Code) (ranks : Ranks) (most : ℕ) (m : State) → IsRoom code ranks most m
+    → m.stage ≡ stage.Entering → IsReadyToEnter code ranks m
 
 -- entering keeps the room, where no own name has more cells than a copy may have
 abbrev pub EntriesKeepRoom : Type 0
 EntriesKeepRoom =
-    (code : Code) (ranks : Ranks) (most : ℕ) (m : State) → IsRoom code ranks most m → m.stage ≡ stage.Entering → SizesWithin most (rank_at ranks m.frame.unit).own
+    (code : Code) (ranks : Ranks) (most : ℕ) (m : State) → IsRoom code ranks most m → m.stage ≡ stage.Entering
+        → SizesWithin most (rank_at ranks m.frame.unit).own
     → HasRoom code ranks most (entered (rank_at ranks m.frame.unit).own (unit_code code m.frame.unit).shared m)
 
 -- ---- leaving
@@ -95,7 +104,8 @@ pub record IsReadyToLeave (m : State) : Type 0 where
   pub base : IsNear m.callers.items
 
 abbrev pub LeavesAreReady : Type 0
-LeavesAreReady = (code : Code) (ranks : Ranks) (most : ℕ) (m : State) → IsRoom code ranks most m → m.stage ≡ stage.Between → IsReadyToLeave m
+LeavesAreReady = (code : Code) (ranks : Ranks) (most : ℕ) (m : State) → IsRoom code ranks most m
+    → m.stage ≡ stage.Between → IsReadyToLeave m
 
 -- leaving a unit keeps the room
 abbrev pub LeavesKeepRoom : Type 0

@@ -37,9 +37,11 @@ pub record IsRankedCall (code : Code) (ranks : Ranks) (i : ℕ) (call : CallCode
 -- what the ranks say is enough
 pub record IsRanked (code : Code) (ranks : Ranks) : Type 0 where
   pub calls : (i k : ℕ) (call : CallCode) → slice_get (unit_code code i).calls k ≡ Some call → IsRankedCall code ranks i call
-  pub long : (i pc : ℕ) (l : LineCode) → slice_get (unit_code code i).lines pc ≡ Some l → l.stop - l.start ≤ (rank_at ranks i).long
+  pub long : (i pc : ℕ) (l : LineCode) → slice_get (unit_code code i).lines pc ≡ Some l
+      → l.stop - l.start ≤ (rank_at ranks i).long
   pub own : (i : ℕ) → sum (rank_at ranks i).own ≡ (rank_at ranks i).cells
-  pub slots : (i : ℕ) → (unit_code code i).slots.dummies + length (rank_at ranks i).own + length (unit_code code i).shared ≡ (rank_at ranks i).slots
+  pub slots : (i : ℕ) → (unit_code code i).slots.dummies + length (rank_at ranks i).own + length
+      (unit_code code i).shared ≡ (rank_at ranks i).slots
   pub values : (i : ℕ) → (rank_at ranks i).long ≤ (rank_at ranks i).values
   pub names : (i : ℕ) → (rank_at ranks i).slots ≤ (rank_at ranks i).names
   pub plain : (i : ℕ) → (rank_at ranks i).cells ≤ (rank_at ranks i).plain

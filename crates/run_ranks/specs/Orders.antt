@@ -9,7 +9,8 @@ use Rattle.run_ranks.specs.Fitting.{CallsStandEarlier}
 use Rattle.run_ranks.specs.Sums.{StandsBefore}
 
 abbrev pub CallersStandLater : Type 0
-CallersStandLater = (units : List Routine) (order : List ℕ) (i j : ℕ) → IsCallOrder units order → Calls units i j → StandsBefore j i order
+CallersStandLater = (units : List Routine) (order : List ℕ) (i j : ℕ) → IsCallOrder units order → Calls units i j
+    → StandsBefore j i order
 
 -- a call is of a unit that is there
 pub record IsOfUnit (units : List Routine) (s : CallSite) : Type 0 where
@@ -20,11 +21,13 @@ pub record IsOfUnit (units : List Routine) (s : CallSite) : Type 0 where
 
 -- so are all calls
 abbrev pub CallsAreOfUnits : List Routine → Type 0
-CallsAreOfUnits units = (i : ℕ) (u : Routine) (s : CallSite) → slice_get units i ≡ Some u → IsAmong s (sites_of_unit u) → IsOfUnit units s
+CallsAreOfUnits units = (i : ℕ) (u : Routine) (s : CallSite) → slice_get units i ≡ Some u
+    → IsAmong s (sites_of_unit u) → IsOfUnit units s
 
 -- then each call of code is of a unit that stands earlier
 abbrev pub OrdersHoldCode : Type 0
-OrdersHoldCode = (units : List Routine) (order : List ℕ) → IsCallOrder units order → CallsAreOfUnits units → CallsStandEarlier units order
+OrdersHoldCode = (units : List Routine) (order : List ℕ) → IsCallOrder units order → CallsAreOfUnits units
+    → CallsStandEarlier units order
 
 -- a table of callees says that each call is of a unit
 abbrev pub TablesNameUnits : Type 0

@@ -47,4 +47,5 @@ pub data StandsBefore (j i : ℕ) : List ℕ → Type 0 where
 
 -- the needs of a unit that stands earlier are among those of each later one
 abbrev pub SumsHoldCalls : Type 0
-SumsHoldCalls = (code : Code) (ranks : Ranks) (order : List ℕ) (i j : ℕ) → AreSummed code ranks no_totals order → StandsBefore j i order → HoldsCall code ranks i j
+SumsHoldCalls = (code : Code) (ranks : Ranks) (order : List ℕ) (i j : ℕ) → AreSummed code ranks no_totals order
+    → StandsBefore j i order → HoldsCall code ranks i j

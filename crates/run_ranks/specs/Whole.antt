@@ -13,12 +13,15 @@ use Rattle.run_ranks.specs.declared.ranks.Ranks.{Ranks}
 -- the ranks have each unit's long statement, own cells and names
 pub record HasOwnNeeds (code : Code) (ranks : Ranks) : Type 0 where
   pub counted : length ranks.units ≡ length code.units
-  pub long : (i pc : ℕ) (l : LineCode) → slice_get (unit_code code i).lines pc ≡ Some l → l.stop - l.start ≤ (rank_at ranks i).long
+  pub long : (i pc : ℕ) (l : LineCode) → slice_get (unit_code code i).lines pc ≡ Some l
+      → l.stop - l.start ≤ (rank_at ranks i).long
   pub own : (i : ℕ) → sum (rank_at ranks i).own ≡ (rank_at ranks i).cells
-  pub slots : (i : ℕ) → (unit_code code i).slots.dummies + length (rank_at ranks i).own + length (unit_code code i).shared ≡ (rank_at ranks i).slots
+  pub slots : (i : ℕ) → (unit_code code i).slots.dummies + length (rank_at ranks i).own + length
+      (unit_code code i).shared ≡ (rank_at ranks i).slots
 
 -- such ranks, summed along the order of calls, are enough for the code of a world
 abbrev pub SumsAreEnough : Type 0
 SumsAreEnough =
-    (code : Code) (setting : Setting) (w : World) (ranks : Ranks) (order : List ℕ) → IsWorldOf code setting w → AreSummed code ranks no_totals order
+    (code : Code) (setting : Setting) (w : World) (ranks : Ranks) (order : List ℕ) → IsWorldOf code setting w
+        → AreSummed code ranks no_totals order
     → IsCallOrder w.units order → HasOwnNeeds code ranks → CallsAreOfUnits w.units → IsRanked code ranks

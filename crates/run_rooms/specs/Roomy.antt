@@ -9,7 +9,8 @@ pub record Roomy (X : Type 0) : Type 0 where
 
 -- such items as a pair
 abbrev pub coded_roomy : {X : Type 0} → Coded X → Coded (Roomy X)
-coded_roomy {X} x = code_by (List X × ℕ) (coded× (coded_list x) coded_ℕ) (λ e. (e.items, e.room)) (λ p. record { items = p.0; room = p.1 }) (λ _. refl)
+coded_roomy {X} x = code_by (List X × ℕ) (coded× (coded_list x) coded_ℕ) (λ e. (e.items, e.room))
+    (λ p. record { items = p.0; room = p.1 }) (λ _. refl)
 
 -- the first item, or another one
 abbrev pub first_or : {X : Type 0} → X → List X → X

@@ -57,7 +57,8 @@ impl<X: Copy + Drop> Stack<X> {
 
     /// Takes the newest item.
     pub fn pop(&mut self) -> Option<X>
-        ensures { MatchOption result ((self.old.items ≡ []) × (self.new ≡ self.old)) (λ x. self.old ≡ record self.new { items = x ∷ self.new.items }) }
+        ensures { MatchOption result ((self.old.items ≡ []) × (self.new ≡ self.old))
+            (λ x. self.old ≡ record self.new { items = x ∷ self.new.items }) }
     {
         self.items.pop()
     }

@@ -72,7 +72,8 @@ pub record HasItsSlots (unit : UnitCode) : Type 0 where
 
 abbrev pub calls_coded : List Routine → ℕ → List CallSite → List CallCode
 calls_coded units k [] = []
-calls_coded units k (s ∷ ss) = record { number = k; callee = callee_of units s; actuals = length s.actuals } ∷ calls_coded units (suc k) ss
+calls_coded units k (s ∷ ss) = record { number = k; callee = callee_of units s; actuals = length s.actuals }
+    ∷ calls_coded units (suc k) ss
 
 -- the code of a unit, whose COMMON entities stand among those of the deck
 pub record IsUnitCodeOf (units : List Routine) (shared : List Name) (u : Routine) (unit : UnitCode) : Type 0 where
@@ -84,10 +85,12 @@ pub record IsUnitCodeOf (units : List Routine) (shared : List Name) (u : Routine
   pub fitting : HasItsSlots unit
   pub calls_told : unit.calls ≡ calls_coded units 1 (sites_of_unit u)
   pub long : length unit.lines ≡ length u.lines
-  pub lined : (pc : ℕ) (line : Line) (l : LineCode) → slice_get u.lines pc ≡ Some line → slice_get unit.lines pc ≡ Some l → IsLineOf u units pc line unit l
+  pub lined : (pc : ℕ) (line : Line) (l : LineCode) → slice_get u.lines pc ≡ Some line
+      → slice_get unit.lines pc ≡ Some l → IsLineOf u units pc line unit l
 
 -- the code of the units of a deck
 pub record IsCodeOf (dialect : Dialect) (units : List Routine) (code : Code) : Type 0 where
   pub spoken : code.dialect ≡ dialect
   pub long : length code.units ≡ length units
-  pub each : (i : ℕ) (u : Routine) (unit : UnitCode) → slice_get units i ≡ Some u → slice_get code.units i ≡ Some unit → IsUnitCodeOf units code.commons u unit
+  pub each : (i : ℕ) (u : Routine) (unit : UnitCode) → slice_get units i ≡ Some u → slice_get code.units i
+      ≡ Some unit → IsUnitCodeOf units code.commons u unit

@@ -58,7 +58,8 @@ dims_at slots slot = dims_by slots (shape_at slots slot)
 -- ---- tests of DOs
 
 abbrev pub loop_of : Slots → Round → Loop
-loop_of slots round = record { at = round.at; variable = name_at slots round.variable; last = param_of slots round.last; step = step_of slots round.step }
+loop_of slots round = record { at = round.at; variable = name_at slots round.variable; last = param_of
+    slots round.last; step = step_of slots round.step }
 
 -- the DOs before the point where the flow goes on, and that point
 abbrev pub loops_of : Slots → List Test → List Loop
@@ -108,10 +109,12 @@ seen slots tests calls targets (Refer place) = refer_by (call_at calls place)
 seen slots tests calls targets Forget = code.forget
 seen slots tests calls targets Assigned = code.assigned
 seen slots tests calls targets (Go card point) = code.test_loops card point []
-seen slots tests calls targets (Tests card place) = code.test_loops card (out_of (drop place tests)) (loops_of slots (drop place tests))
+seen slots tests calls targets (Tests card place) = code.test_loops card (out_of (drop place tests))
+    (loops_of slots (drop place tests))
 seen slots tests calls targets (Jump point) = code.jump point
 seen slots tests calls targets Turn = code.turn
-seen slots tests calls targets (Signs place) = code.signs (get_or targets place 0) (get_or targets (place + 1) 0) (get_or targets (place + 2) 0)
+seen slots tests calls targets (Signs place) = code.signs (get_or targets place 0) (get_or targets (place + 1) 0)
+    (get_or targets (place + 2) 0)
 seen slots tests calls targets (Ways q r) = code.ways q r
 seen slots tests calls targets (Choose place count) = code.choose (take count (drop place targets))
 seen slots tests calls targets (BeginDo slot point) = code.begin_do (name_at slots slot) point

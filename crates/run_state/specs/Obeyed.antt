@@ -22,7 +22,8 @@ use Rattle.run_state.specs.declared.machine.State.{State}
 
 -- a state shows where a move leads, within a statement of a unit at a card
 abbrev pub ShowsMove : World → Code → State → frames.Frame → ℕ → List Waiting → Move → Type 0
-ShowsMove w code m f card ws move = Shows w code m (placed w.processor w.units f card ws move).0 (placed w.processor w.units f card ws move).1
+ShowsMove w code m f card ws move = Shows w code m (placed w.processor w.units f card ws move).0
+    (placed w.processor w.units f card ws move).1
 
 -- behind an instruction a state within a statement became one that shows where the instruction leads
 abbrev pub Obeys : Code → Setting → Instr → State → State → Type 0
@@ -30,7 +31,8 @@ Obeys code setting i old new =
     (w : World) → IsWorldOf code setting w
     → (f : frames.Frame) (card : ℕ) (is : List code_of.Instr) (ws : List Waiting) (xs : List Taken) (st : Storage)
     → old.stage ≡ stage.Inside → ShowsStatement w code old f card is ws xs st
-    → ShowsMove w code new f card ws (moved (scene_at w.processor w.units f) card (seen_in (unit_code code old.frame.unit) i) is xs st)
+    → ShowsMove w code new f card ws (moved (scene_at w.processor w.units f) card
+        (seen_in (unit_code code old.frame.unit) i) is xs st)
 
 -- ---- room
 
@@ -69,4 +71,5 @@ pub record IsPlain (old new : State) : Type 0 where
   pub values_room : new.values.room ≡ old.values.room
   pub frame : IsSameFrame old.frame new.frame
   pub values : IsNoHigher new.stage old new
-  pub within : (most : ℕ) → 1 ≤ most → ExtentsWithin most old.extents.items → AreWithin most old.values.items → AreWithin most new.values.items
+  pub within : (most : ℕ) → 1 ≤ most → ExtentsWithin most old.extents.items → AreWithin most old.values.items
+      → AreWithin most new.values.items

@@ -62,18 +62,22 @@ module _ (w : World) (code : Code) (c : Config) (st : Storage) (new : State) whe
 module _ (code : Code) (setting : Setting) where
   -- whatever an old state shows, a new one shows a place from which the run comes to the same
   abbrev pub Same : State → State → Type 0
-  Same old new = (w : World) → IsWorldOf code setting w → (c : Config) (st : Storage) → Shows w code old c st → GoesSame w code c st new
+  Same old new = (w : World) → IsWorldOf code setting w → (c : Config) (st : Storage) → Shows w code old c st
+      → GoesSame w code c st new
 
   -- or a step was taken; or so many
   abbrev pub Stepped : State → State → Type 0
-  Stepped old new = (w : World) → IsWorldOf code setting w → (c : Config) (st : Storage) → Shows w code old c st → GoesOn w code c st new
+  Stepped old new = (w : World) → IsWorldOf code setting w → (c : Config) (st : Storage) → Shows w code old c st
+      → GoesOn w code c st new
 
   abbrev pub Went : ℕ → State → State → Type 0
-  Went k old new = (w : World) → IsWorldOf code setting w → (c : Config) (st : Storage) → Shows w code old c st → HasGone w code c st new k
+  Went k old new = (w : World) → IsWorldOf code setting w → (c : Config) (st : Storage) → Shows w code old c st
+      → HasGone w code c st new k
 
   -- a state tells what the rest of its run comes to without a step
   abbrev pub Tells : State → Type 0
-  Tells m = (w : World) → IsWorldOf code setting w → (c : Config) (st : Storage) → Shows w code m c st → (r : Runs w.processor w.units) → told (rest r c st 0) ≡ told_by m
+  Tells m = (w : World) → IsWorldOf code setting w → (c : Config) (st : Storage) → Shows w code m c st
+      → (r : Runs w.processor w.units) → told (rest r c st 0) ≡ told_by m
 
 -- ---- where a step is wanted
 

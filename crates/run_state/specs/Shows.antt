@@ -120,7 +120,8 @@ module _ (w : World) (code : Code) where
     pub cells_are : m.cells.items ≡ st
 
   -- a unit that is to be entered
-  pub record ShowsEntry (m : State) (g : Routine) (env : Environment) (ws : List Waiting) (xs : List Taken) (st : Storage) : Type 0 where
+  pub record ShowsEntry (m : State) (g : Routine) (env : Environment) (ws : List Waiting) (xs : List Taken)
+      (st : Storage) : Type 0 where
     pub unit_is : slice_get w.units m.frame.unit ≡ Some g
     pub extents_are : m.frame.extents ≡ length (segments ws)
     pub names_are : m.extents.items ≡ segments ws ++ segment env g.dummies
@@ -134,13 +135,15 @@ module _ (w : World) (code : Code) where
     pub rest : ShowsRest m ws xs st
 
   -- within a statement at a card, with the code that is left
-  pub record ShowsStatement (m : State) (f : frames.Frame) (card : ℕ) (is : List Instr) (ws : List Waiting) (xs : List Taken) (st : Storage) : Type 0 where
+  pub record ShowsStatement (m : State) (f : frames.Frame) (card : ℕ) (is : List Instr) (ws : List Waiting)
+      (xs : List Taken) (st : Storage) : Type 0 where
     pub card_is : m.frame.card ≡ card
     pub code_is : left_seen m.frame ≡ is
     pub unit_shown : ShowsUnit m f ws xs st
 
   -- before tests of DOs at a card
-  pub record ShowsTests (m : State) (f : frames.Frame) (card q : ℕ) (ds : List Loop) (ws : List Waiting) (xs : List Taken) (st : Storage) : Type 0 where
+  pub record ShowsTests (m : State) (f : frames.Frame) (card q : ℕ) (ds : List Loop) (ws : List Waiting)
+      (xs : List Taken) (st : Storage) : Type 0 where
     pub card_is : m.frame.card ≡ card
     pub loops_are : loops_of (unit_code code m.frame.unit).slots (drop m.frame.place (unit_code code m.frame.unit).tests) ≡ ds
     pub point_is : out_of (drop m.frame.place (unit_code code m.frame.unit).tests) ≡ q

@@ -10,4 +10,5 @@ FirstsGoBefore = (k : ℕ) (steps : List Step) → stops steps ≡ firsts k step
 
 -- before a statement that two ways share they have the same statements
 abbrev pub FirstsAreShared : Type 0
-FirstsAreShared = (k n : ℕ) (before steps : List Step) → k < n → SharesSteps n before steps → HasAt before k → firsts k before ≡ firsts k steps
+FirstsAreShared = (k n : ℕ) (before steps : List Step) → k < n → SharesSteps n before steps → HasAt before k
+    → firsts k before ≡ firsts k steps

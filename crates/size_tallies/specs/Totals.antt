@@ -13,7 +13,8 @@ use Rattle.weight_tallies.specs.Tallies.{bare, load_of}
 
 -- sizes with those of a path more, of which the load is told
 abbrev pub with_load : Sizes → Load → Sizes
-with_load s l = record { paths = suc s.paths; conditions = capped (s.conditions + l.conditions); weight = capped (s.weight + l.weight) }
+with_load s l = record { paths = suc s.paths; conditions = capped (s.conditions + l.conditions); weight = capped
+    (s.weight + l.weight) }
 
 -- sizes with those of some ways of the unit of the number i
 abbrev pub with_ways : Program → ℕ → Routine → Sizes → List Way → Sizes
@@ -30,4 +31,6 @@ pub record AreCapped (exact told : Sizes) : Type 0 where
 -- fault of size of those that are left is one of the program, and where these are within the limits, the program is.
 pub record AreLeft (p : Program) (i : ℕ) (before : Sizes) (us : List Routine) : Type 0 where
   pub faults : (f : Fault) → PassFrom p i before us f → IsSizeFault p f
-  pub within : ((paths : List (List Path)) → are_all_paths p i us paths → AreWithin (with_units p i before us paths)) → (paths : List (List Path)) → AreAllPaths p paths → IsWithinLimits p paths
+  pub within : ((paths : List (List Path)) → are_all_paths p i us paths
+      → AreWithin (with_units p i before us paths)) → (paths : List (List Path)) → AreAllPaths p paths
+      → IsWithinLimits p paths

@@ -68,7 +68,8 @@ pub(crate) fn dim_smashed(
     unit: &Unit,
     smashed: &NameSet,
 ) -> Result<bool, NoMemory>
-    ensures { IfOk result (λ found. found ≡ list_any (λ d. is_some_dim unit.now d.name && is_among d.name smashed.now) unit.now.names) }
+    ensures { IfOk result (λ found. found ≡ list_any (λ d. is_some_dim unit.now d.name
+        && is_among d.name smashed.now) unit.now.names) }
 {
     let names = unit.names.as_slice();
     let dims = dim_names(alloc, keys, names)?;

@@ -39,7 +39,8 @@ fn some_seen(smashed: &NameSet, names: &[DataName]) -> bool
 
 /// Whether a unit is a FUNCTION and smashes a dummy or a COMMON entity, where it smashes these names.
 pub(crate) fn function_smashes(unit: &Unit, smashed: &NameSet) -> bool
-    ensures { result ≡ (is_function unit.now && list_any (λ d. not (is_own d.role) && is_among d.name smashed.now) unit.now.names) }
+    ensures { result ≡ (is_function unit.now && list_any (λ d. not (is_own d.role)
+        && is_among d.name smashed.now) unit.now.names) }
 {
     unit.sort.is_some() && some_seen(smashed, unit.names.as_slice())
 }

@@ -26,7 +26,8 @@ told_of_call no_name twice common = first_of_three SmashedNotName SmashedTwice S
 
 -- the first of 41 to 43 that some call of a statement breaks
 abbrev pub stmt_rule : Program → Routine → Stmt → Option Rule
-stmt_rule p u s = told_of_call (some_call p u s (passes_no_name p)) (some_call p u s (passes_twice p)) (some_call p u s (passes_common p u))
+stmt_rule p u s = told_of_call (some_call p u s (passes_no_name p)) (some_call p u s (passes_twice p))
+    (some_call p u s (passes_common p u))
 
 -- the first of 45 and 49 that a unit breaks
 abbrev pub head_rule : Program → ℕ → Routine → Option Rule

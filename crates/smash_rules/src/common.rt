@@ -41,7 +41,9 @@ fn mentions_shared(
     smashed: &NameSet,
     actuals: &[Expr],
 ) -> Result<bool, NoMemory>
-    ensures { IfOk result (λ found. found ≡ list_any (λ e. list_any (is_shared caller.now.unit.now callee.now.unit.now smashed.now) (names_in e)) actuals.now) }
+    ensures { IfOk result (λ found. found ≡ list_any
+        (λ e. list_any (is_shared caller.now.unit.now callee.now.unit.now smashed.now) (names_in e))
+        actuals.now) }
 {
     for e in actuals {
         let names = names_in(alloc, e)?;
@@ -63,7 +65,8 @@ fn is_bare_common(caller: &Book, callee: &Book, e: &Expr) -> bool
 
 /// Whether a dummy is smashed and its actual is, bare, a COMMON entity of both units.
 fn gets_common(caller: &Book, callee: &Book, smashed: &NameSet, dummy: &Name, actual: &Expr) -> bool
-    ensures { result ≡ (is_among dummy.now smashed.now && is_bare_common caller.now.unit.now callee.now.unit.now actual.now) }
+    ensures { result ≡ (is_among dummy.now smashed.now && is_bare_common caller.now.unit.now
+        callee.now.unit.now actual.now) }
 {
     smashed.has(dummy) && is_bare_common(caller, callee, actual)
 }
@@ -76,7 +79,8 @@ fn some_gets_common(
     dummies: &[Name],
     actuals: &[Expr],
 ) -> bool
-    ensures { result ≡ some_smashed (λ d. is_among d smashed.now) (λ n e. is_bare_common caller.now.unit.now callee.now.unit.now e) 0 dummies.now actuals.now }
+    ensures { result ≡ some_smashed (λ d. is_among d smashed.now) (λ n e.
+        is_bare_common caller.now.unit.now callee.now.unit.now e) 0 dummies.now actuals.now }
 {
     let mut at = 0;
     while at < dummies.len() && at < actuals.len() {
@@ -97,7 +101,8 @@ pub(crate) fn passes_common(
     smashed: &NameSet,
     actuals: &[Expr],
 ) -> Result<bool, NoMemory>
-    ensures { IfOk result (λ found. found ≡ meets_common caller.now.unit.now callee.now.unit.now smashed.now callee.now.unit.now.dummies actuals.now) }
+    ensures { IfOk result (λ found. found ≡ meets_common caller.now.unit.now callee.now.unit.now
+        smashed.now callee.now.unit.now.dummies actuals.now) }
 {
     let found = mentions_shared(alloc, caller, callee, smashed, actuals)?;
     let dummies = callee.unit.dummies.as_slice();

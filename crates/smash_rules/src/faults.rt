@@ -28,7 +28,8 @@ fn fault_in_unit(
     requires long { length rows.now ≡ length deck.now.units.now }
     requires unit { number < length deck.now.units.now }
     requires well { (d : Dialect) × AreWellFormedUnits d deck.now.units.now }
-    ensures { IfOk result (λ fault. fault ≡ fault_if_any (with_table deck.now.units.now rows.now) number (slice_get deck.now.units.now number)) }
+    ensures { IfOk result (λ fault. fault ≡ fault_if_any (with_table deck.now.units.now rows.now)
+        number (slice_get deck.now.units.now number)) }
 {
     let book = deck.book(number);
     let head = head_rule(alloc, keys, book.unit, &rows[number])?;
@@ -78,7 +79,8 @@ pub fn smash_fault(
     requires long { length rows.now ≡ length deck.now.units.now }
     requires well { (d : Dialect) × AreWellFormedUnits d deck.now.units.now }
     requires ascend { IsTrue (units_ascend_above 0 deck.now.units.now) }
-    ensures { IfOk result (λ fault. (p : Program) → p.units ≡ deck.now.units.now → p.smashes ≡ rows.now → TellsLeast (IsBrokenOf p rules_of_smashing) fault) }
+    ensures { IfOk result (λ fault. (p : Program) → p.units ≡ deck.now.units.now
+        → p.smashes ≡ rows.now → TellsLeast (IsBrokenOf p rules_of_smashing) fault) }
 {
     let fault = first_fault(alloc, keys, deck, rows)?;
     Ok(fault)

@@ -68,7 +68,8 @@ pub(crate) fn some_twice(
     sites: &[Site],
 ) -> Result<bool, NoMemory>
     requires { length rows.now ≡ length deck.now.units.now }
-    ensures { IfOk result (λ found. found ≡ list_any (is_twice (with_table deck.now.units.now rows.now)) sites.now) }
+    ensures { IfOk result (λ found. found ≡ list_any
+        (is_twice (with_table deck.now.units.now rows.now)) sites.now) }
 {
     for site in sites {
         let found = site_twice(alloc, keys, deck, rows, site)?;
@@ -88,7 +89,8 @@ fn site_common(
 ) -> Result<bool, NoMemory>
     requires long { length rows.now ≡ length deck.now.units.now }
     requires well { (d : Dialect) × IsWellFormedUnit d caller.now.unit.now }
-    ensures { IfOk result (λ found. found ≡ is_common (with_table deck.now.units.now rows.now) caller.now.unit.now site.now) }
+    ensures { IfOk result (λ found. found ≡ is_common (with_table deck.now.units.now rows.now)
+        caller.now.unit.now site.now) }
 {
     match deck.callee(site) {
         Some(number) => {
@@ -110,7 +112,8 @@ pub(crate) fn some_common(
 ) -> Result<bool, NoMemory>
     requires long { length rows.now ≡ length deck.now.units.now }
     requires well { (d : Dialect) × IsWellFormedUnit d caller.now.unit.now }
-    ensures { IfOk result (λ found. found ≡ list_any (is_common (with_table deck.now.units.now rows.now) caller.now.unit.now) sites.now) }
+    ensures { IfOk result (λ found. found ≡ list_any
+        (is_common (with_table deck.now.units.now rows.now) caller.now.unit.now) sites.now) }
 {
     for site in sites {
         let found = site_common(alloc, deck, rows, caller, site)?;

@@ -38,7 +38,8 @@ fn stmt_rule(
 ) -> Result<Option<Rule>, NoMemory>
     requires long { length rows.now ≡ length deck.now.units.now }
     requires well { (d : Dialect) × IsWellFormedUnit d caller.now.unit.now }
-    ensures { IfOk result (λ rule. rule ≡ stmt_rule (with_table deck.now.units.now rows.now) caller.now.unit.now stmt.now) }
+    ensures { IfOk result (λ rule. rule ≡ stmt_rule (with_table deck.now.units.now rows.now)
+        caller.now.unit.now stmt.now) }
 {
     let sites = sites_of_stmt(alloc, caller, stmt)?;
     let calls = sites.as_slice();
@@ -58,7 +59,9 @@ pub(crate) fn fault_at_lines(
 ) -> Result<Option<Fault>, NoMemory>
     requires long { length rows.now ≡ length deck.now.units.now }
     requires well { (d : Dialect) × IsWellFormedUnit d caller.now.unit.now }
-    ensures { IfOk result (λ fault. fault ≡ first_at_lines (stmt_rule (with_table deck.now.units.now rows.now) caller.now.unit.now) caller.now.unit.now.lines) }
+    ensures { IfOk result (λ fault. fault ≡ first_at_lines
+        (stmt_rule (with_table deck.now.units.now rows.now) caller.now.unit.now)
+        caller.now.unit.now.lines) }
 {
     let lines = caller.unit.lines.as_slice();
     for line in lines {

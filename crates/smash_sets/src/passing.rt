@@ -30,7 +30,8 @@ pub fn add_actuals(
     dummies: &[Name],
     actuals: &[Expr],
 ) -> Result<(), NoMemory>
-    ensures { OnOk result (set.new ≡ with_names set.old (bare_names (λ d. is_among d smashed.now) dummies.now actuals.now)) }
+    ensures { OnOk result (set.new ≡ with_names set.old (bare_names (λ d. is_among d smashed.now)
+        dummies.now actuals.now)) }
 {
     let mut at = 0;
     while at < dummies.len() && at < actuals.len() {

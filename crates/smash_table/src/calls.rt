@@ -52,7 +52,8 @@ pub(crate) fn add_shared(
     callee: &Book,
     names: &[Name],
 ) -> Result<(), NoMemory>
-    ensures { OnOk result (set.new ≡ with_names set.old (shared_row caller.now.unit.now callee.now.unit.now names.now)) }
+    ensures { OnOk result (set.new ≡ with_names set.old (shared_row caller.now.unit.now
+        callee.now.unit.now names.now)) }
 {
     for name in names {
         add_where(set, is_shared(caller, callee, name), name)?;

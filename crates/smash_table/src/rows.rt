@@ -22,7 +22,8 @@ fn kept(
     names: &[DataName],
     smashed: &NameSet,
 ) -> Result<NameSet, NoMemory>
-    ensures { IfOk result (λ row. row ≡ with_names [] (filter (λ x. is_among x smashed.now) (map (λ d. d.name) names.now))) }
+    ensures { IfOk result (λ row. row ≡ with_names [] (filter (λ x. is_among x smashed.now)
+        (map (λ d. d.name) names.now))) }
 {
     let mut row = NameSet::new(alloc, keys);
     for data in names {
@@ -42,7 +43,8 @@ pub(crate) fn row_of(
     requires long { length rows.now ≡ length deck.now.units.now }
     requires unit { number < length deck.now.units.now }
     requires well { (d : Dialect) × AreWellFormedUnits d deck.now.units.now }
-    ensures { IfOk result (λ row. row ≡ row_if_any (with_table deck.now.units.now rows.now) (slice_get deck.now.units.now number)) }
+    ensures { IfOk result (λ row. row ≡ row_if_any (with_table deck.now.units.now rows.now)
+        (slice_get deck.now.units.now number)) }
 {
     let book = deck.book(number);
     let smashed = smashed_by(alloc, keys, deck, rows, book)?;

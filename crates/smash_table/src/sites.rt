@@ -35,8 +35,10 @@ fn add_commons(found: &mut Found, caller: &Caller, number: usize) -> Result<(), 
     requires long { length caller.now.rows.now ≡ length caller.now.deck.now.units.now }
     requires within { number < length caller.now.deck.now.units.now }
     requires seen { AreSeen (program_of caller.now) (unit_of caller.now) found.old.seen found.old.set }
-    ensures names { OnOk result (found.new.set ≡ with_names found.old.set (shared_by (program_of caller.now) (unit_of caller.now) number)) }
-    ensures seen { OnOk result (AreSeen (program_of caller.now) (unit_of caller.now) found.new.seen found.new.set) }
+    ensures names { OnOk result (found.new.set ≡ with_names found.old.set
+        (shared_by (program_of caller.now) (unit_of caller.now) number)) }
+    ensures seen { OnOk result (AreSeen (program_of caller.now) (unit_of caller.now) found.new.seen
+        found.new.set) }
 {
     if found.seen.has(number) {
         return Ok(());
@@ -67,8 +69,10 @@ fn add_call(
     requires long { length caller.now.rows.now ≡ length caller.now.deck.now.units.now }
     requires within { number < length caller.now.deck.now.units.now }
     requires seen { AreSeen (program_of caller.now) (unit_of caller.now) found.old.seen found.old.set }
-    ensures names { OnOk result (found.new.set ≡ with_names found.old.set (names_of_callee (program_of caller.now) (unit_of caller.now) actuals.now (Some number))) }
-    ensures seen { OnOk result (AreSeen (program_of caller.now) (unit_of caller.now) found.new.seen found.new.set) }
+    ensures names { OnOk result (found.new.set ≡ with_names found.old.set
+        (names_of_callee (program_of caller.now) (unit_of caller.now) actuals.now (Some number))) }
+    ensures seen { OnOk result (AreSeen (program_of caller.now) (unit_of caller.now) found.new.seen
+        found.new.set) }
 {
     let dummies = caller.deck.book(number).unit.dummies.as_slice();
     let Ok(()) = add_actuals(&mut found.set, &caller.rows[number], dummies, actuals) else {
@@ -81,8 +85,10 @@ fn add_call(
 fn add_site(found: &mut Found, caller: &Caller, site: &Site) -> Result<(), NoMemory>
     requires long { length caller.now.rows.now ≡ length caller.now.deck.now.units.now }
     requires seen { AreSeen (program_of caller.now) (unit_of caller.now) found.old.seen found.old.set }
-    ensures names { OnOk result (found.new.set ≡ with_names found.old.set (site_names (program_of caller.now) (unit_of caller.now) site.now)) }
-    ensures seen { OnOk result (AreSeen (program_of caller.now) (unit_of caller.now) found.new.seen found.new.set) }
+    ensures names { OnOk result (found.new.set ≡ with_names found.old.set
+        (site_names (program_of caller.now) (unit_of caller.now) site.now)) }
+    ensures seen { OnOk result (AreSeen (program_of caller.now) (unit_of caller.now) found.new.seen
+        found.new.set) }
 {
     match caller.deck.callee(site) {
         Some(number) => add_call(found, caller, number, site.actuals()),
@@ -94,8 +100,10 @@ fn add_site(found: &mut Found, caller: &Caller, site: &Site) -> Result<(), NoMem
 fn add_sites(found: &mut Found, caller: &Caller, sites: &[Site]) -> Result<(), NoMemory>
     requires long { length caller.now.rows.now ≡ length caller.now.deck.now.units.now }
     requires seen { AreSeen (program_of caller.now) (unit_of caller.now) found.old.seen found.old.set }
-    ensures names { OnOk result (found.new.set ≡ with_names found.old.set (flat_map (site_names (program_of caller.now) (unit_of caller.now)) sites.now)) }
-    ensures seen { OnOk result (AreSeen (program_of caller.now) (unit_of caller.now) found.new.seen found.new.set) }
+    ensures names { OnOk result (found.new.set ≡ with_names found.old.set
+        (flat_map (site_names (program_of caller.now) (unit_of caller.now)) sites.now)) }
+    ensures seen { OnOk result (AreSeen (program_of caller.now) (unit_of caller.now) found.new.seen
+        found.new.set) }
 {
     for site in sites {
         let Ok(()) = add_site(found, caller, site) else {
@@ -109,8 +117,10 @@ fn add_sites(found: &mut Found, caller: &Caller, sites: &[Site]) -> Result<(), N
 fn add_stmt(alloc: Global, found: &mut Found, caller: &Caller, stmt: &Stmt) -> Result<(), NoMemory>
     requires long { length caller.now.rows.now ≡ length caller.now.deck.now.units.now }
     requires seen { AreSeen (program_of caller.now) (unit_of caller.now) found.old.seen found.old.set }
-    ensures names { OnOk result (found.new.set ≡ with_names found.old.set (stmt_names (program_of caller.now) (unit_of caller.now) stmt.now)) }
-    ensures seen { OnOk result (AreSeen (program_of caller.now) (unit_of caller.now) found.new.seen found.new.set) }
+    ensures names { OnOk result (found.new.set ≡ with_names found.old.set
+        (stmt_names (program_of caller.now) (unit_of caller.now) stmt.now)) }
+    ensures seen { OnOk result (AreSeen (program_of caller.now) (unit_of caller.now) found.new.seen
+        found.new.set) }
 {
     let Ok(()) = add_set(&mut found.set, stmt) else {
         return Err(NoMemory);
@@ -130,7 +140,9 @@ fn add_lines(
 ) -> Result<(), NoMemory>
     requires long { length caller.now.rows.now ≡ length caller.now.deck.now.units.now }
     requires seen { AreSeen (program_of caller.now) (unit_of caller.now) found.old.seen found.old.set }
-    ensures { OnOk result (found.new.set ≡ with_names found.old.set (flat_map (λ line. stmt_names (program_of caller.now) (unit_of caller.now) line.stmt) lines.now)) }
+    ensures { OnOk result (found.new.set ≡ with_names found.old.set
+        (flat_map (λ line. stmt_names (program_of caller.now) (unit_of caller.now) line.stmt)
+        lines.now)) }
 {
     for line in lines {
         let Ok(()) = add_stmt(alloc, found, caller, &line.stmt) else {
@@ -150,7 +162,8 @@ pub(crate) fn smashed_by(
     book: &Book,
 ) -> Result<NameSet, NoMemory>
     requires { length rows.now ≡ length deck.now.units.now }
-    ensures { IfOk result (λ set. set ≡ with_names [] (unit_names (with_table deck.now.units.now rows.now) book.now.unit.now)) }
+    ensures { IfOk result (λ set. set ≡ with_names []
+        (unit_names (with_table deck.now.units.now rows.now) book.now.unit.now)) }
 {
     let caller = Caller { deck, rows, book };
     let mut found = Found {

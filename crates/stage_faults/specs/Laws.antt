@@ -17,11 +17,13 @@ use Rattle.stage_faults.specs.Scans.{first_in_units, IsUpTo}
 -- a rule is told at the head of a unit or at one of its statements, at a card, that has at most the number of another one
 abbrev pub IsToldIn : Option Rule → (Stmt → Option Rule) → Routine → Rule → ℕ → Type 0
 IsToldIn head at u rule card =
-    ((u.head ≡ card) × IsUpTo head rule) ⊎ ((line : Line) × IsAmong line u.lines × (line.card ≡ card) × IsUpTo (at line.stmt) rule)
+    ((u.head ≡ card) × IsUpTo head rule) ⊎ ((line : Line) × IsAmong line u.lines × (line.card ≡ card)
+        × IsUpTo (at line.stmt) rule)
 
 -- Of some rules the first broken one is told of each head and each statement: what is told is broken there, and what is broken
 -- is told, or one of a lesser number at its card.
-pub record Tells (p : Program) (rules : List Rule) (head : ℕ → Routine → Option Rule) (at : Routine → Stmt → Option Rule) : Type 0 where
+pub record Tells (p : Program) (rules : List Rule) (head : ℕ → Routine → Option Rule)
+    (at : Routine → Stmt → Option Rule) : Type 0 where
   pub of_heads : (i : ℕ) (u : Routine) (rule : Rule) → slice_get p.units i ≡ Some u → head i u ≡ Some rule
       → IsAmong rule rules × Breaks p rule i u u.head
   pub of_statements : (i : ℕ) (u : Routine) (line : Line) (rule : Rule) → slice_get p.units i ≡ Some u → IsAmong line u.lines
@@ -31,10 +33,12 @@ pub record Tells (p : Program) (rules : List Rule) (head : ℕ → Routine → O
 
 -- a rule is told of the head of a unit before a card
 abbrev pub IsToldEarlier : Program → (ℕ → Routine → Option Rule) → ℕ → Type 0
-IsToldEarlier p head card = (j : ℕ) × (v : Routine) × (q : Rule) × (slice_get p.units j ≡ Some v) × (head j v ≡ Some q) × (v.head < card)
+IsToldEarlier p head card = (j : ℕ) × (v : Routine) × (q : Rule) × (slice_get p.units j ≡ Some v)
+    × (head j v ≡ Some q) × (v.head < card)
 
 -- the same, where of a rule that is broken at heads only the first one may be told
-pub record TellsFirst (p : Program) (rules : List Rule) (head : ℕ → Routine → Option Rule) (at : Routine → Stmt → Option Rule) : Type 0 where
+pub record TellsFirst (p : Program) (rules : List Rule) (head : ℕ → Routine → Option Rule)
+    (at : Routine → Stmt → Option Rule) : Type 0 where
   pub of_heads : (i : ℕ) (u : Routine) (rule : Rule) → slice_get p.units i ≡ Some u → head i u ≡ Some rule
       → IsAmong rule rules × Breaks p rule i u u.head
   pub of_statements : (i : ℕ) (u : Routine) (line : Line) (rule : Rule) → slice_get p.units i ≡ Some u → IsAmong line u.lines
@@ -60,7 +64,8 @@ StageFaultIsFirst =
 abbrev pub HeadsAscend : Type 0
 HeadsAscend =
     (units : List Routine) (dialect : Dialect) (j i : ℕ) (v u : Routine)
-    → AreWellFormedUnits dialect units → IsTrue (units_ascend_above 0 units) → slice_get units j ≡ Some v → slice_get units i ≡ Some u → j < i
+    → AreWellFormedUnits dialect units → IsTrue (units_ascend_above 0 units) → slice_get units j ≡ Some v
+        → slice_get units i ≡ Some u → j < i
     → v.head < u.head
 
 -- the head of a unit stands on a card above its number, counted from 0

@@ -18,4 +18,5 @@ names_of_kind value ds = map (λ d. d.name) (filter (λ d. has_kind value d.role
 
 -- those names of a unit that are among some: dummies, COMMON entities, a FUNCTION's own value, locals
 abbrev pub smashed_names : List Name → Routine → List Name
-smashed_names smashed u = filter (λ x. is_among x smashed) (u.dummies ++ commons u ++ names_of_kind true u.names ++ names_of_kind false u.names)
+smashed_names smashed u = filter (λ x. is_among x smashed) (u.dummies ++ commons u ++ names_of_kind
+    true u.names ++ names_of_kind false u.names)

@@ -27,7 +27,8 @@ fn add_dim(set: &mut NameSet, dim: &Dim) -> Result<(), NoMemory>
 
 /// Adds the names that are dimensions of an array.
 fn add_dims(set: &mut NameSet, dims: &[Dim]) -> Result<(), NoMemory>
-    ensures { OnOk result ((x : Text) → is_among x set.new ≡ (is_among x set.old || list_any (is_dim x) dims.now)) }
+    ensures { OnOk result ((x : Text) → is_among x set.new ≡ (is_among x set.old || list_any
+        (is_dim x) dims.now)) }
 {
     for dim in dims {
         let Ok(()) = add_dim(set, dim) else {

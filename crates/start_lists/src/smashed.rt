@@ -41,7 +41,8 @@ fn add_of_kind(
     names: &[DataName],
     value: bool,
 ) -> Result<(), NoMemory>
-    ensures { OnOk result (all.new.items ≡ all.old.items ++ filter (λ x. is_among x smashed.now) (names_of_kind value names.now)) }
+    ensures { OnOk result (all.new.items ≡ all.old.items ++ filter (λ x. is_among x smashed.now)
+        (names_of_kind value names.now)) }
 {
     for data in names {
         let wanted = has_kind(value, data.role) && smashed.has(&data.name);

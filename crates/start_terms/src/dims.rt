@@ -32,7 +32,8 @@ pub fn dim_terms(
     dims: &[Name],
 ) -> Result<Vec<TermId>, NoMemory>
     requires { IsNames pool.old names.now }
-    ensures { IfOk result (λ terms. Makes pool.old pool.new terms.items (facts_of_dims (named pool.old names.now) dims.now)) }
+    ensures { IfOk result (λ terms. Makes pool.old pool.new terms.items
+        (facts_of_dims (named pool.old names.now) dims.now)) }
 {
     let mut terms = Vec::new(alloc);
     for name in dims {

@@ -67,7 +67,8 @@ pub fn names_of(alloc: Global, items: &[Item]) -> Result<List<Name>, NoMemory>
 
 /// The names of the items that have dimensions.
 pub fn dimensioned(alloc: Global, items: &[Item]) -> Result<List<Name>, NoMemory>
-    ensures { IfOk result (λ names. names ≡ names_of_items (kept (λ item. is_given_dims item.dims) items.now)) }
+    ensures { IfOk result (λ names. names ≡ names_of_items
+        (kept (λ item. is_given_dims item.dims) items.now)) }
 {
     let mut all = Vec::new(alloc);
     for item in items {

@@ -433,7 +433,8 @@ fn write_if(out: &mut Vec<u8>, e: &Expr) -> Result<(), Lack>
 
 #[cycle(forms)]
 fn write_carried(out: &mut Vec<u8>, dialect: Dialect, stmt: &Stmt) -> Result<(), Lack>
-    ensures { Wrote result out.new.items (given (is_carried stmt.now) (write_form dialect stmt.now) out.old.items) }
+    ensures { Wrote result out.new.items (given (is_carried stmt.now) (write_form dialect stmt.now)
+        out.old.items) }
 {
     if !is_carried(stmt) {
         return Err(Lack::Spelling);

@@ -135,7 +135,8 @@ fn write_tight(out: &mut Vec<u8>, k: u8, e: &Expr) -> Result<(), Lack>
 #[cycle(written)]
 // A sign or .NOT. and its part.
 fn write_signed(out: &mut Vec<u8>, sign: &[u8], k: u8, e: &Expr) -> Result<(), Lack>
-    ensures { Wrote result out.new.items ((put sign.now ⊕ tight k e.now (write_expression e.now)) out.old.items) }
+    ensures { Wrote result out.new.items ((put sign.now ⊕ tight k e.now (write_expression e.now))
+        out.old.items) }
 {
     put(out, sign)?;
     write_tight(out, k, e)
@@ -190,7 +191,8 @@ fn write_power(out: &mut Vec<u8>, e: &Expr, n: u8) -> Result<(), Lack>
 
 #[cycle(written)]
 pub(crate) fn write_applied(out: &mut Vec<u8>, name: Name, args: &[Expr]) -> Result<(), Lack>
-    ensures { Wrote result out.new.items ((write_name name ⊕ in_round (write_list write_expression args.now)) out.old.items) }
+    ensures { Wrote result out.new.items
+        ((write_name name ⊕ in_round (write_list write_expression args.now)) out.old.items) }
 {
     write_name(out, name)?;
     write_arguments(out, args)

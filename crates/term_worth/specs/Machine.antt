@@ -51,9 +51,11 @@ all_but n vs = take (length vs - n) vs
 -- what the work still to do comes to, with these values of symbols, these values that wait, and these turns
 abbrev pub finish : Calls → Valuation → List Job → List Value → ℕ → Outcome Value
 finish calls s [] vs n = got (first_of (newest 1 vs)) n
-finish calls s (eval t ∷ rest) vs n = and_then (bounded_by calls s nothing_known t n) (λ v m. finish calls s rest (vs ++ v ∷ []) m)
+finish calls s (eval t ∷ rest) vs n = and_then (bounded_by calls s nothing_known t n) (λ v m.
+    finish calls s rest (vs ++ v ∷ []) m)
 finish calls s (branch a b ∷ rest) vs n =
-    and_then (if holds (first_of (newest 1 vs)) then bounded_by calls s nothing_known a n else bounded_by calls s nothing_known b n)
+    and_then (if holds (first_of (newest 1 vs)) then bounded_by calls s nothing_known a n else bounded_by
+        calls s nothing_known b n)
     (λ v m. finish calls s rest (all_but 1 vs ++ v ∷ []) m)
 finish calls s (combine f c ∷ rest) vs n =
     and_then (function_bounded calls f (newest c vs) n) (λ v m. finish calls s rest (all_but c vs ++ v ∷ []) m)
@@ -268,7 +270,8 @@ pub record IsWhole (pool : List Node) (m : Machine) : Type 0 where
 
 abbrev pub meaning : List Node → List Definition → List (Word × Value) → Machine → Outcome Value
 meaning pool ds sheet m =
-    finish (calls_of (functions_of pool ds)) (symbols_of ds sheet m.made m.scope) (jobs_of pool ds sheet m.made m.tasks) (values_of sheet m.made m.values) m.turns
+    finish (calls_of (functions_of pool ds)) (symbols_of ds sheet m.made m.scope)
+        (jobs_of pool ds sheet m.made m.tasks) (values_of sheet m.made m.values) m.turns
 
 -- what a machine comes to with a task more
 abbrev pub meaning_with : List Node → List Definition → List (Word × Value) → Task → Machine → Outcome Value
@@ -278,7 +281,8 @@ abbrev pub work_of : List Node → List Definition → List (Word × Value) → 
 work_of pool ds sheet m = work (functions_of pool ds) (jobs_of pool ds sheet m.made m.tasks) m.turns
 
 -- a task was done
-pub record Does (pool : List Node) (ds : List Definition) (sheet : List (Word × Value)) (task : Task) (old new : Machine) : Type 0 where
+pub record Does (pool : List Node) (ds : List Definition) (sheet : List (Word × Value)) (task : Task)
+    (old new : Machine) : Type 0 where
   pub same : meaning pool ds sheet new ≡ meaning_with pool ds sheet task old
   pub smaller : work_of pool ds sheet new < work_of pool ds sheet (record old { tasks = task ∷ old.tasks })
   pub whole : IsWhole pool new

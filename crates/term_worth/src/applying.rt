@@ -28,7 +28,8 @@ pub fn applied(
     args: &[Held],
 ) -> Result<Answer, NoMemory>
     requires { AreHeld (length made.now) args.now }
-    ensures { IfOk result (λ a. Answers entries.now made.now (applied f (values_of entries.now made.now args.now)) a) }
+    ensures { IfOk result (λ a. Answers entries.now made.now
+        (applied f (values_of entries.now made.now args.now)) a) }
 {
     match f {
         BuiltIn::And => Ok(truth(all_hold(args))),
@@ -105,7 +106,8 @@ fn of_one(
 ) -> Result<Answer, NoMemory>
     requires not_and { f ≢ And }
     requires not_or { f ≢ Or }
-    ensures { IfOk result (λ r. Answers entries.now made.now (applied f (value_of entries.now made.now a ∷ [])) r) }
+    ensures { IfOk result (λ r. Answers entries.now made.now
+        (applied f (value_of entries.now made.now a ∷ [])) r) }
 {
     match f {
         BuiltIn::Not => Ok(truth(!counts_as_true(a))),
@@ -123,7 +125,9 @@ fn of_one(
 fn of_two(entries: &[(Word, Value)], made: &[List<Cell>], f: BuiltIn, a: Held, b: Held) -> Answer
     requires not_and { f ≢ And }
     requires not_or { f ≢ Or }
-    ensures { Answers entries.now made.now (applied f (value_of entries.now made.now a ∷ value_of entries.now made.now b ∷ [])) result }
+    ensures { Answers entries.now made.now
+        (applied f (value_of entries.now made.now a ∷ value_of entries.now made.now b ∷ []))
+        result }
 {
     match f {
         BuiltIn::Implies => truth(!counts_as_true(a) || counts_as_true(b)),
@@ -170,7 +174,9 @@ fn of_three(
     requires a { IsHeld (length made.now) a }
     requires b { IsHeld (length made.now) b }
     requires c { IsHeld (length made.now) c }
-    ensures { IfOk result (λ r. Answers entries.now made.now (applied f (value_of entries.now made.now a ∷ value_of entries.now made.now b ∷ value_of entries.now made.now c ∷ [])) r) }
+    ensures { IfOk result (λ r. Answers entries.now made.now
+        (applied f (value_of entries.now made.now a ∷ value_of entries.now made.now b ∷
+        value_of entries.now made.now c ∷ [])) r) }
 {
     match f {
         BuiltIn::If => Ok(given(if counts_as_true(a) { b } else { c })),
@@ -192,7 +198,10 @@ fn of_four(
 ) -> Answer
     requires not_and { f ≢ And }
     requires not_or { f ≢ Or }
-    ensures { Answers entries.now made.now (applied f (value_of entries.now made.now args.0 ∷ value_of entries.now made.now args.1 ∷ value_of entries.now made.now args.2 ∷ value_of entries.now made.now args.3 ∷ [])) result }
+    ensures { Answers entries.now made.now
+        (applied f (value_of entries.now made.now args.0 ∷ value_of entries.now made.now
+        args.1 ∷ value_of entries.now made.now args.2 ∷ value_of entries.now made.now args.3
+        ∷ [])) result }
 {
     let (a, b, c, d) = args;
     match f {
@@ -209,7 +218,8 @@ fn integer_cells(
     count: Held,
     bounds: (Held, Held),
 ) -> bool
-    ensures { result ≡ are_cells (is_integer_cell (held_num bounds.0) (held_num bounds.1)) (held_num count) (value_of entries.now made.now list) }
+    ensures { result ≡ are_cells (is_integer_cell (held_num bounds.0) (held_num bounds.1))
+        (held_num count) (value_of entries.now made.now list) }
 {
     let least = number_of(bounds.0);
     let greatest = number_of(bounds.1);
@@ -273,7 +283,8 @@ fn put(
     held: Held,
 ) -> Result<Answer, NoMemory>
     requires { IsHeld (length made.now) list }
-    ensures { IfOk result (λ r. Answers entries.now made.now (put (value_of entries.now made.now list) place (value_of entries.now made.now held)) r) }
+    ensures { IfOk result (λ r. Answers entries.now made.now
+        (put (value_of entries.now made.now list) place (value_of entries.now made.now held)) r) }
 {
     if !is_list(list) || is_list(held) {
         return Ok(given(list));

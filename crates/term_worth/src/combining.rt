@@ -26,8 +26,11 @@ pub fn combine_newest(
     count: usize,
 ) -> Result<(), Worth>
     requires { AreHeld (length machine.old.made) machine.old.values }
-    ensures ok { OnOk result ((pool : List Node) (ds : List Definition) → IsWhole pool machine.old → Does pool ds entries.now (task.Combine (func.BuiltIn f) count) machine.old machine.new) }
-    ensures beyond { result ≡ Err Worth.Beyond → (pool : List Node) (ds : List Definition) → meaning_with pool ds entries.now (task.Combine (func.BuiltIn f) count) machine.old ≡ beyond }
+    ensures ok { OnOk result ((pool : List Node) (ds : List Definition) → IsWhole pool machine.old
+        → Does pool ds entries.now (task.Combine (func.BuiltIn f) count) machine.old machine.new) }
+    ensures beyond { result ≡ Err Worth.Beyond → (pool : List Node) (ds : List Definition)
+        → meaning_with pool ds entries.now (task.Combine (func.BuiltIn f) count) machine.old
+        ≡ beyond }
     ensures not_spent { result ≢ Err Worth.Spent }
 {
     let args = newest(machine.values.as_slice(), count);
@@ -41,7 +44,9 @@ pub fn combine_newest(
 
 /// Puts new cells for the newest so many values.
 fn put_made(machine: &mut Machine, count: usize, cells: edge_io::List<Cell>) -> Result<(), NoMemory>
-    ensures { OnOk result (machine.new ≡ record machine.old { values = all_but count machine.old.values ++ «held».Made (length machine.old.made) ∷ []; made = machine.old.made ++ cells ∷ [] }) }
+    ensures { OnOk result (machine.new ≡ record machine.old { values = all_but count
+        machine.old.values ++ «held».Made (length machine.old.made) ∷ []; made = machine.old.made
+        ++ cells ∷ [] }) }
 {
     let place = machine.made.as_slice().len();
     machine.made.push(cells)?;
@@ -50,7 +55,8 @@ fn put_made(machine: &mut Machine, count: usize, cells: edge_io::List<Cell>) -> 
 
 /// Puts a value at the end, where it is in range.
 pub fn put_ranged(machine: &mut Machine, held: Held) -> Result<(), Worth>
-    ensures ok { OnOk result ((held_small held ≡ true) × (machine.new ≡ record machine.old { values = machine.old.values ++ held ∷ [] })) }
+    ensures ok { OnOk result ((held_small held ≡ true)
+        × (machine.new ≡ record machine.old { values = machine.old.values ++ held ∷ [] })) }
     ensures beyond { result ≡ Err Worth.Beyond → held_small held ≡ false }
     ensures not_spent { result ≢ Err Worth.Spent }
 {

@@ -35,10 +35,15 @@ pub fn worth(
 ) -> Result<Value, Worth>
     requires id { IsIn pool.now id }
     requires bodies { AreBodiesIn pool.now definitions.now }
-    ensures value { IfOk result (λ v. (m : ℕ) × (bounded (functions_of pool.now definitions.now) (assigned sheet.now) nothing_known (tree_of pool.now id) turns ≡ got v m)) }
-    ensures is_worth { IfOk result (λ v. AreAdded pool.now definitions.now → the_worth (functions_of pool.now definitions.now) (assigned sheet.now) nothing_known (tree_of pool.now id) ≡ v) }
-    ensures beyond { result ≡ Err Worth.Beyond → bounded (functions_of pool.now definitions.now) (assigned sheet.now) nothing_known (tree_of pool.now id) turns ≡ beyond }
-    ensures spent { result ≡ Err Worth.Spent → bounded (functions_of pool.now definitions.now) (assigned sheet.now) nothing_known (tree_of pool.now id) turns ≡ spent }
+    ensures value { IfOk result (λ v. (m : ℕ) × (bounded (functions_of pool.now definitions.now)
+        (assigned sheet.now) nothing_known (tree_of pool.now id) turns ≡ got v m)) }
+    ensures is_worth { IfOk result (λ v. AreAdded pool.now definitions.now
+        → the_worth (functions_of pool.now definitions.now) (assigned sheet.now) nothing_known
+        (tree_of pool.now id) ≡ v) }
+    ensures beyond { result ≡ Err Worth.Beyond → bounded (functions_of pool.now definitions.now)
+        (assigned sheet.now) nothing_known (tree_of pool.now id) turns ≡ beyond }
+    ensures spent { result ≡ Err Worth.Spent → bounded (functions_of pool.now definitions.now)
+        (assigned sheet.now) nothing_known (tree_of pool.now id) turns ≡ spent }
 {
     let mut tasks = Stack::new(alloc);
     tasks.push(Task::Eval(id))?;
@@ -70,8 +75,10 @@ fn perform(
     requires task { IsTask pool.now (length machine.old.made) task }
     requires whole { IsWhole pool.now machine.old }
     ensures ok { OnOk result (Does pool.now definitions.now sheet.now task machine.old machine.new) }
-    ensures beyond { result ≡ Err Worth.Beyond → meaning_with pool.now definitions.now sheet.now task machine.old ≡ beyond }
-    ensures spent { result ≡ Err Worth.Spent → meaning_with pool.now definitions.now sheet.now task machine.old ≡ spent }
+    ensures beyond { result ≡ Err Worth.Beyond → meaning_with pool.now definitions.now
+        sheet.now task machine.old ≡ beyond }
+    ensures spent { result ≡ Err Worth.Spent → meaning_with pool.now definitions.now sheet.now
+        task machine.old ≡ spent }
 {
     match task {
         Task::Eval(id) => evaluate(pool, definitions, sheet, machine, id),
@@ -100,8 +107,10 @@ fn evaluate(
 ) -> Result<(), Worth>
     requires id { IsIn pool.now id }
     requires whole { IsWhole pool.now machine.old }
-    ensures ok { OnOk result (Does pool.now definitions.now sheet.now (task.Eval id) machine.old machine.new) }
-    ensures beyond { result ≡ Err Worth.Beyond → meaning_with pool.now definitions.now sheet.now (task.Eval id) machine.old ≡ beyond }
+    ensures ok { OnOk result (Does pool.now definitions.now sheet.now (task.Eval id) machine.old
+        machine.new) }
+    ensures beyond { result ≡ Err Worth.Beyond → meaning_with pool.now definitions.now sheet.now
+        (task.Eval id) machine.old ≡ beyond }
     ensures not_spent { result ≢ Err Worth.Spent }
 {
     match pool.node(id) {
@@ -121,7 +130,9 @@ fn evaluate(
 
 /// Goes on with one of two terms, as the newest value says.
 fn branch(machine: &mut Machine, a: TermId, b: TermId) -> Result<(), NoMemory>
-    ensures { OnOk result (machine.new ≡ record machine.old { tasks = task.Eval (if held_holds (first_held (newest 1 machine.old.values)) then a else b) ∷ machine.old.tasks; values = all_but 1 machine.old.values }) }
+    ensures { OnOk result (machine.new ≡ record machine.old { tasks = task.Eval
+        (if held_holds (first_held (newest 1 machine.old.values)) then a else b) ∷
+        machine.old.tasks; values = all_but 1 machine.old.values }) }
 {
     let condition = first(newest(machine.values.as_slice(), 1));
     let id = if counts_as_true(condition) { a } else { b };

@@ -11,7 +11,8 @@ use formula::{Definitions, Value, Word};
 
 /// The value of a symbol.
 pub fn value_in(definitions: &Definitions, sheet: &Sheet, scope: &Scope, name: Word) -> Held
-    ensures value { (made : List (List Cell)) → value_of sheet.now made result ≡ symbols_of definitions.now sheet.now made scope.now name }
+    ensures value { (made : List (List Cell)) → value_of sheet.now made result
+        ≡ symbols_of definitions.now sheet.now made scope.now name }
     ensures held { (n : ℕ) → IsScope n scope.now → IsHeld n result }
 {
     match scope {

@@ -9,7 +9,8 @@ use formula::{BuiltIn, Func, TermId};
 
 /// Begins the evaluation of a function: of IF the condition and then a branch, else all arguments.
 pub fn take_apart(machine: &mut Machine, f: Func, args: &[TermId]) -> Result<(), NoMemory>
-    ensures { OnOk result (machine.new ≡ record machine.old { tasks = taken_apart f args.now machine.old.tasks }) }
+    ensures { OnOk result (machine.new ≡ record machine.old { tasks = taken_apart f args.now
+        machine.old.tasks }) }
 {
     match f {
         Func::BuiltIn(BuiltIn::If) => match args {
@@ -22,7 +23,8 @@ pub fn take_apart(machine: &mut Machine, f: Func, args: &[TermId]) -> Result<(),
 
 /// A condition, and then one of two terms.
 fn begin_branch(machine: &mut Machine, c: TermId, a: TermId, b: TermId) -> Result<(), NoMemory>
-    ensures { OnOk result (machine.new ≡ record machine.old { tasks = task.Eval c ∷ task.Branch a b ∷ machine.old.tasks }) }
+    ensures { OnOk result (machine.new ≡ record machine.old { tasks = task.Eval c ∷ task.Branch
+        a b ∷ machine.old.tasks }) }
 {
     machine.tasks.push(Task::Branch(a, b))?;
     machine.tasks.push(Task::Eval(c))
@@ -30,7 +32,8 @@ fn begin_branch(machine: &mut Machine, c: TermId, a: TermId, b: TermId) -> Resul
 
 /// Arguments from the left, and then their function.
 fn begin_arguments(machine: &mut Machine, f: Func, args: &[TermId]) -> Result<(), NoMemory>
-    ensures { OnOk result (machine.new ≡ record machine.old { tasks = map task.Eval args.now ++ task.Combine f (length args.now) ∷ machine.old.tasks }) }
+    ensures { OnOk result (machine.new ≡ record machine.old { tasks = map task.Eval args.now
+        ++ task.Combine f (length args.now) ∷ machine.old.tasks }) }
 {
     machine.tasks.push(Task::Combine(f, args.len()))?;
     let mut left = args.len();

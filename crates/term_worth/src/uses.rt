@@ -20,7 +20,8 @@ use std::mem::replace;
 
 /// The definition of that number, where there is one.
 pub fn definition_at(definitions: &Definitions, k: usize) -> Option<&Definition>
-    ensures { MatchOption result (definition_at definitions.now k ≡ None) (λ d. definition_at definitions.now k ≡ Some d.now) }
+    ensures { MatchOption result (definition_at definitions.now k ≡ None)
+        (λ d. definition_at definitions.now k ≡ Some d.now) }
 {
     if k == 0 || k > definitions.count() {
         return None;
@@ -51,7 +52,11 @@ fn enter(
     count: usize,
 ) -> Result<(), NoMemory>
     requires { 0 < machine.old.turns }
-    ensures { OnOk result (machine.new ≡ record { scope = scope.Arguments k (newest count machine.old.values); turns = machine.old.turns - 1; tasks = task.Eval (chosen_id body (held_num (first_held (newest count machine.old.values)))) ∷ task.Leave machine.old.scope ∷ machine.old.tasks; values = all_but count machine.old.values; made = machine.old.made }) }
+    ensures { OnOk result (machine.new ≡ record { scope = scope.Arguments k
+        (newest count machine.old.values); turns = machine.old.turns - 1; tasks = task.Eval
+        (chosen_id body (held_num (first_held (newest count machine.old.values)))) ∷ task.Leave
+        machine.old.scope ∷ machine.old.tasks; values = all_but count machine.old.values;
+        made = machine.old.made }) }
 {
     let args = newest(machine.values.as_slice(), count);
     let id = chosen(body, first(args));
@@ -76,8 +81,13 @@ pub fn use_definition(
     k: usize,
     count: usize,
 ) -> Result<(), Worth>
-    ensures ok { OnOk result ((pool : List Node) (sheet : List (Word × Value)) → AreBodiesIn pool definitions.now → IsWhole pool machine.old → Does pool definitions.now sheet (task.Combine (Defined k) count) machine.old machine.new) }
-    ensures spent { result ≡ Err Worth.Spent → (pool : List Node) (sheet : List (Word × Value)) → meaning_with pool definitions.now sheet (task.Combine (Defined k) count) machine.old ≡ spent }
+    ensures ok { OnOk result ((pool : List Node) (sheet : List (Word × Value))
+        → AreBodiesIn pool definitions.now → IsWhole pool machine.old
+        → Does pool definitions.now sheet (task.Combine (Defined k) count) machine.old
+        machine.new) }
+    ensures spent { result ≡ Err Worth.Spent → (pool : List Node) (sheet : List (Word × Value))
+        → meaning_with pool definitions.now sheet (task.Combine (Defined k) count) machine.old
+        ≡ spent }
     ensures not_beyond { result ≢ Err Worth.Beyond }
 {
     if machine.turns == 0 {

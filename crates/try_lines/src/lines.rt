@@ -50,7 +50,8 @@ fn verdict_of(
 ) -> Result<Verdict, NoMemory>
     requires term { IsIn pool.now term }
     requires added { AreAdded pool.now definitions.now }
-    ensures { IfOk result (λ v. v ≡ verdict_of (bounded (functions_of pool.now definitions.now) (assigned sheet.now) nothing_known (tree_of pool.now term) 10000)) }
+    ensures { IfOk result (λ v. v ≡ verdict_of (bounded (functions_of pool.now definitions.now)
+        (assigned sheet.now) nothing_known (tree_of pool.now term) 10000)) }
 {
     match worth(alloc, pool, definitions, term, sheet, TURNS) {
         Ok(value) => {
@@ -76,7 +77,9 @@ fn tried_condition(
     requires condition { IsConditionIn pool.old condition.now }
     requires added { AreAdded pool.old desk.now.definitions.now }
     ensures grows { Grows pool.old pool.new }
-    ensures tried { IfOk result (λ v. v ≡ verdict_of (bounded (functions_of pool.old desk.now.definitions.now) (assigned card.now.sheet) nothing_known (condition_term (condition_tree pool.old condition.now)) 10000)) }
+    ensures tried { IfOk result (λ v. v ≡ verdict_of
+        (bounded (functions_of pool.old desk.now.definitions.now) (assigned card.now.sheet)
+        nothing_known (condition_term (condition_tree pool.old condition.now)) 10000)) }
 {
     let Ok(term) = term_of(desk.alloc, pool, condition) else {
         return Err(NoMemory);
@@ -93,7 +96,9 @@ fn tried(desk: &Desk, pool: &mut TermPool, card: &TryCard) -> Result<Verdict, No
     requires places { ArePlacesOf desk.now.conditions.now desk.now.places.now }
     requires added { AreAdded pool.old desk.now.definitions.now }
     ensures grows { Grows pool.old pool.new }
-    ensures tried { IfOk result (λ v. v ≡ tried (functions_of pool.old desk.now.definitions.now) (named card.now.lemma (map (condition_tree pool.old) desk.now.conditions.now)) card.now.sheet) }
+    ensures tried { IfOk result (λ v. v ≡ tried (functions_of pool.old desk.now.definitions.now)
+        (named card.now.lemma (map (condition_tree pool.old) desk.now.conditions.now))
+        card.now.sheet) }
 {
     let Ok(name) = lemma_of(desk.alloc, card) else {
         return Err(NoMemory);
@@ -125,7 +130,9 @@ fn put_lines(
     requires conditions { All (IsConditionIn pool.old) desk.now.conditions.now }
     requires places { ArePlacesOf desk.now.conditions.now desk.now.places.now }
     requires added { AreAdded pool.old desk.now.definitions.now }
-    ensures { OnOk result (text.new.items ≡ text.old.items ++ try_text (functions_of pool.old desk.now.definitions.now) (map (condition_tree pool.old) desk.now.conditions.now) 1 tries.now) }
+    ensures { OnOk result (text.new.items ≡ text.old.items ++ try_text
+        (functions_of pool.old desk.now.definitions.now) (map (condition_tree pool.old)
+        desk.now.conditions.now) 1 tries.now) }
 {
     for done in 0..tries.len() {
         let Ok(verdict) = tried(desk, pool, &tries[done]) else {
@@ -149,7 +156,8 @@ pub fn try_text(
 ) -> Result<List<u8>, NoMemory>
     requires conditions { All (IsConditionIn pool) conditions.now }
     requires added { AreAdded pool definitions.now }
-    ensures { IfOk result (λ text. text ≡ try_text (functions_of pool definitions.now) (map (condition_tree pool) conditions.now) 1 tries.now) }
+    ensures { IfOk result (λ text. text ≡ try_text (functions_of pool definitions.now)
+        (map (condition_tree pool) conditions.now) 1 tries.now) }
 {
     let mut pool = pool;
     let Ok(places) = Places::new(alloc, pool.keys(), conditions) else {

@@ -27,7 +27,8 @@ fn copied(alloc: Global, value: &Value) -> Result<Value, NoMemory>
 
 /// Gives a symbol a value where it has none.
 fn set(sheet: &mut Sheet, symbol: Word, value: Value) -> Result<(), NoMemory>
-    ensures { OnOk result ((s : List ℕ) (rest : List (List ℕ × Value)) → assigned (sheet.new ++ rest) s ≡ assigned (sheet.old ++ (symbol, value) ∷ rest) s) }
+    ensures { OnOk result ((s : List ℕ) (rest : List (List ℕ × Value))
+        → assigned (sheet.new ++ rest) s ≡ assigned (sheet.old ++ (symbol, value) ∷ rest) s) }
 {
     match sheet.set(symbol, value) {
         Ok(()) => Ok(()),

@@ -34,7 +34,8 @@ pub(crate) fn term_of(
     requires { IsConditionIn pool.old condition.now }
     ensures grows { Grows pool.old pool.new }
     ensures is_in { IfOk result (λ id. IsIn pool.new id) }
-    ensures tree { IfOk result (λ id. tree_of pool.new id ≡ condition_term (condition_tree pool.old condition.now)) }
+    ensures tree { IfOk result (λ id. tree_of pool.new id ≡ condition_term
+        (condition_tree pool.old condition.now)) }
 {
     let Ok(hyps) = hyps_term(alloc, pool, condition.hyps.as_slice()) else {
         return Err(NoMemory);

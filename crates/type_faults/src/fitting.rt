@@ -95,7 +95,8 @@ fn args_fit(check: Check, scope: &Scoped, args: &[Expr], ok: bool) -> bool
 }
 
 fn both_fit(check: Check, scope: &Scoped, a: &Expr, b: &Expr) -> bool
-    ensures { result ≡ (holds (test_by check (scope_by scope.now)) a.now && holds (test_by check (scope_by scope.now)) b.now) }
+    ensures { result ≡ (holds (test_by check (scope_by scope.now)) a.now && holds
+        (test_by check (scope_by scope.now)) b.now) }
 {
     parts_fit(check, scope, a, true) && parts_fit(check, scope, b, true)
 }

@@ -75,13 +75,15 @@ fn are_fit_arguments(scope: &Scoped, f: &Name, args: &[Expr]) -> bool
 }
 
 fn both_integers(scope: &Scoped, a: &Expr, b: &Expr) -> bool
-    ensures { result ≡ (gives_integer (scope_by scope.now) a.now && gives_integer (scope_by scope.now) b.now) }
+    ensures { result ≡ (gives_integer (scope_by scope.now) a.now && gives_integer
+        (scope_by scope.now) b.now) }
 {
     gives_integer(scope, a) && gives_integer(scope, b)
 }
 
 fn both_logical(scope: &Scoped, a: &Expr, b: &Expr) -> bool
-    ensures { result ≡ (gives_logical (scope_by scope.now) a.now && gives_logical (scope_by scope.now) b.now) }
+    ensures { result ≡ (gives_logical (scope_by scope.now) a.now && gives_logical
+        (scope_by scope.now) b.now) }
 {
     gives_logical(scope, a) && gives_logical(scope, b)
 }

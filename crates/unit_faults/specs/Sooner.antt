@@ -21,4 +21,5 @@ fault_at rule card = record { rule = rule; card = card }
 -- the first statement that passes a test of its point breaks a rule; the first of these statements stands at the point pc
 abbrev pub first_at : Rule → (ℕ → Stmt → Bool) → ℕ → List Line → Option Fault
 first_at rule test pc [] = None
-first_at rule test pc (line ∷ lines) = cond (test pc line.stmt) (Some (fault_at rule line.card)) (first_at rule test (suc pc) lines)
+first_at rule test pc (line ∷ lines) = cond (test pc line.stmt) (Some (fault_at rule line.card))
+    (first_at rule test (suc pc) lines)

@@ -16,7 +16,8 @@ use Rattle.walk_places.specs.Shapes.{IsGoodShape}
 
 -- the notes of each unit fit it
 abbrev pub ReadyNotesFit : Type 0
-ReadyNotesFit = (pool : List Node) (scene : Scene) (p : Program) (i : ℕ) (u : Routine) → IsReady pool scene p → slice_get p.units i ≡ Some u → FitsUnit u (notes_of p i)
+ReadyNotesFit = (pool : List Node) (scene : Scene) (p : Program) (i : ℕ) (u : Routine) → IsReady pool scene p
+    → slice_get p.units i ≡ Some u → FitsUnit u (notes_of p i)
 
 -- each data name of a unit has a good shape
 abbrev pub ReadyShapesAreGood : Type 0
@@ -27,5 +28,6 @@ ReadyShapesAreGood =
 -- a call of a FUNCTION smashes no name of its caller, whatever the actuals
 abbrev pub ReadyFunctionsKeep : Type 0
 ReadyFunctionsKeep =
-    (pool : List Node) (scene : Scene) (p : Program) (i j : ℕ) (u g : Routine) → IsReady pool scene p → slice_get p.units j ≡ Some g → is_function g ≡ true
+    (pool : List Node) (scene : Scene) (p : Program) (i j : ℕ) (u g : Routine) → IsReady pool scene p
+        → slice_get p.units j ≡ Some g → is_function g ≡ true
     → (xs : List (Operand Tree)) → hits (sight of_terms p i u) j g xs ≡ []

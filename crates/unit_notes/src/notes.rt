@@ -10,7 +10,8 @@ use path_scene::Scene;
 
 /// The terms of the INPUT of the unit of a number, from 0; none where there is no such unit.
 pub fn input_of<'a>(scene: &Scene<'a>, number: usize) -> &'a [TermId]
-    ensures { (pool : List Node) (p : Program) → IsScene pool scene.now p → AreTermsOf pool result.now (notes_of p number).input }
+    ensures { (pool : List Node) (p : Program) → IsScene pool scene.now p
+        → AreTermsOf pool result.now (notes_of p number).input }
 {
     match scene.notes.get(number) {
         Some(notes) => notes.input.as_slice(),
@@ -20,7 +21,8 @@ pub fn input_of<'a>(scene: &Scene<'a>, number: usize) -> &'a [TermId]
 
 /// The terms of its OUTPUT.
 pub fn output_of<'a>(scene: &Scene<'a>, number: usize) -> &'a [TermId]
-    ensures { (pool : List Node) (p : Program) → IsScene pool scene.now p → AreTermsOf pool result.now (notes_of p number).output }
+    ensures { (pool : List Node) (p : Program) → IsScene pool scene.now p
+        → AreTermsOf pool result.now (notes_of p number).output }
 {
     match scene.notes.get(number) {
         Some(notes) => notes.output.as_slice(),

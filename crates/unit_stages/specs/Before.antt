@@ -35,7 +35,8 @@ OneMore =
 -- behind the last unit it is the first fault of all of them
 abbrev pub AllBefore : Type 0
 AllBefore =
-    (p : Program) (rules : List Rule) (told : Option Fault) → TellsBefore p rules (length p.units) told → TellsLeast (IsBrokenOf p rules) told
+    (p : Program) (rules : List Rule) (told : Option Fault) → TellsBefore p rules (length p.units) told
+        → TellsLeast (IsBrokenOf p rules) told
 
 -- where nothing is told, the program keeps the rules
 abbrev pub KeptByAll : Type 0

@@ -41,7 +41,8 @@ is_of_kind false u = not (is_function u)
 
 -- a table tells of each name the number of the first unit of a kind with this name
 abbrev pub AreNumbersOf : Bool → List Routine → List (Name × ℕ) → Type 0
-AreNumbersOf of_functions units table = (x : Name) → told table x ≡ first_unit (λ u. is_of_kind of_functions u && same_bytes u.name x) units 0
+AreNumbersOf of_functions units table = (x : Name) → told table x ≡ first_unit (λ u. is_of_kind of_functions u
+    && same_bytes u.name x) units 0
 
 -- the point that a table of labels with points tells of a label
 abbrev pub told_point : List (ℕ × ℕ) → ℕ → Option ℕ

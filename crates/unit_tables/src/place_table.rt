@@ -50,7 +50,8 @@ impl PlaceTable {
         of_functions: bool,
         place: usize,
     ) -> Result<(), NoMemory>
-        ensures { OnOk result (Tells self.old self.new (λ x. is_of_kind of_functions unit.now && same_bytes unit.now.name x) place) }
+        ensures { OnOk result (Tells self.old self.new (λ x. is_of_kind of_functions unit.now
+            && same_bytes unit.now.name x) place) }
     {
         if unit.sort.is_some() != of_functions {
             return Ok(());

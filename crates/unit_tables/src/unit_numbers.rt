@@ -78,7 +78,8 @@ impl UnitNumbers {
     /// a SUBROUTINE.
     pub fn callee(&self, units: &[Unit], reference: bool, name: &Name) -> Option<usize>
         requires { AreUnitNumbers units.now self.now }
-        ensures number { result ≡ cond reference (function units.now name.now) (subroutine units.now name.now) }
+        ensures number { result ≡ cond reference (function units.now name.now)
+            (subroutine units.now name.now) }
         ensures within { IfSome result (λ i. i < length units.now) }
     {
         if reference {

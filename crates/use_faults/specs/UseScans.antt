@@ -47,7 +47,8 @@ use_facts_of unit = record {
 -- a set of labels with those of the executable ones of some statements
 abbrev pub lines_from : List ℕ → List Line → List ℕ
 lines_from labels [] = labels
-lines_from labels (line ∷ lines) = lines_from (cond (is_performing (class_of line.stmt)) (with_label labels line.label) labels) lines
+lines_from labels (line ∷ lines) = lines_from (cond (is_performing (class_of line.stmt))
+    (with_label labels line.label) labels) lines
 
 abbrev pub assigned_from : Name → List Line → Bool
 assigned_from own [] = false

@@ -19,7 +19,8 @@ fn judged(
     dialect: Dialect,
     unit: &[Line],
 ) -> Result<Option<Fault>, NoMemory>
-    ensures { IfOk result (λ fault. fault ≡ use_scan dialect (use_facts_of unit.now) true nothing_used unit.now) }
+    ensures { IfOk result (λ fault. fault ≡ use_scan dialect (use_facts_of unit.now) true
+        nothing_used unit.now) }
 {
     let Ok(roles) = roles_of(alloc, keys, unit) else {
         return Err(NoMemory);

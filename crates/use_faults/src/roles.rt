@@ -78,8 +78,10 @@ fn gather_uses(
     uses: &[Seen],
 ) -> Result<(), NoMemory>
     ensures names { OnOk result (gathered.new.names ≡ with_names gathered.old.names (names_used uses.now)) }
-    ensures references { OnOk result (gathered.new.references ≡ with_names gathered.old.references (references_in (scope_by scope.now) uses.now)) }
-    ensures assigned { OnOk result (gathered.new.assigned ≡ (gathered.old.assigned || assigns own.now uses.now)) }
+    ensures references { OnOk result (gathered.new.references ≡ with_names gathered.old.references
+        (references_in (scope_by scope.now) uses.now)) }
+    ensures assigned { OnOk result (gathered.new.assigned ≡ (gathered.old.assigned
+        || assigns own.now uses.now)) }
 {
     let Ok(()) = add_used(&mut gathered.names, uses) else {
         return Err(NoMemory);
@@ -117,9 +119,12 @@ fn gather_performed(
     own: &[u8],
     stmt: &Stmt,
 ) -> Result<(), NoMemory>
-    ensures names { OnOk result (gathered.new.names ≡ with_names gathered.old.names (names_used (uses_of stmt.now))) }
-    ensures references { OnOk result (gathered.new.references ≡ with_names gathered.old.references (references_in (scope_by scope.now) (uses_of stmt.now))) }
-    ensures assigned { OnOk result (gathered.new.assigned ≡ (gathered.old.assigned || assigns own.now (uses_of stmt.now))) }
+    ensures names { OnOk result (gathered.new.names ≡ with_names gathered.old.names
+        (names_used (uses_of stmt.now))) }
+    ensures references { OnOk result (gathered.new.references ≡ with_names gathered.old.references
+        (references_in (scope_by scope.now) (uses_of stmt.now))) }
+    ensures assigned { OnOk result (gathered.new.assigned ≡ (gathered.old.assigned
+        || assigns own.now (uses_of stmt.now))) }
 {
     let Ok(uses) = uses_of(alloc, stmt) else {
         return Err(NoMemory);
@@ -139,8 +144,10 @@ fn gather_stmt(
     stmt: &Stmt,
 ) -> Result<(), NoMemory>
     ensures names { OnOk result (gathered.new.names ≡ with_names gathered.old.names (names_in stmt.now)) }
-    ensures references { OnOk result (gathered.new.references ≡ with_names gathered.old.references (references_in (scope_by scope.now) (uses_of stmt.now))) }
-    ensures assigned { OnOk result (gathered.new.assigned ≡ (gathered.old.assigned || assigns own.now (uses_of stmt.now))) }
+    ensures references { OnOk result (gathered.new.references ≡ with_names gathered.old.references
+        (references_in (scope_by scope.now) (uses_of stmt.now))) }
+    ensures assigned { OnOk result (gathered.new.assigned ≡ (gathered.old.assigned
+        || assigns own.now (uses_of stmt.now))) }
 {
     match stmt {
         Stmt::Subroutine(_, _) => gather_declared(alloc, gathered, stmt),
@@ -161,8 +168,10 @@ fn gather(
     unit: &[Line],
 ) -> Result<(), NoMemory>
     ensures names { OnOk result (gathered.new.names ≡ given_from names_in gathered.old.names unit.now) }
-    ensures references { OnOk result (gathered.new.references ≡ given_from (λ s. references_in (scope_by scope.now) (uses_of s)) gathered.old.references unit.now) }
-    ensures assigned { OnOk result (gathered.new.assigned ≡ (gathered.old.assigned || assigned_from own.now unit.now)) }
+    ensures references { OnOk result (gathered.new.references ≡ given_from
+        (λ s. references_in (scope_by scope.now) (uses_of s)) gathered.old.references unit.now) }
+    ensures assigned { OnOk result (gathered.new.assigned ≡ (gathered.old.assigned
+        || assigned_from own.now unit.now)) }
 {
     for line in unit {
         let Ok(()) = gather_stmt(alloc, gathered, scope, own, &line.stmt) else {

@@ -60,7 +60,8 @@ fn is_data(roles: &Roles, own: &[u8], name: &Name) -> bool
 }
 
 fn is_held_reference(roles: &Roles, seen: &Seen) -> bool
-    ensures { result ≡ (is_reference (scope_by roles.now.scope) seen.now && (is_among seen.now.name roles.now.dummies || is_among seen.now.name roles.now.commons)) }
+    ensures { result ≡ (is_reference (scope_by roles.now.scope) seen.now
+        && (is_among seen.now.name roles.now.dummies || is_among seen.now.name roles.now.commons)) }
 {
     is_reference(&roles.scope, seen)
         && (roles.dummies.has(&seen.name()) || roles.commons.has(&seen.name()))
@@ -73,7 +74,8 @@ fn is_called_data(roles: &Roles, own: &[u8], seen: &Seen) -> bool
 }
 
 fn is_own_name_used(roles: &Roles, own: &[u8], seen: &Seen) -> bool
-    ensures { result ≡ (not (is_called seen.now.«use») && not roles.now.function && same_bytes seen.now.name own.now) }
+    ensures { result ≡ (not (is_called seen.now.«use») && not roles.now.function
+        && same_bytes seen.now.name own.now) }
 {
     !seen.is_called() && !roles.function && is_own(own, &seen.name())
 }
@@ -112,8 +114,11 @@ fn stmt_has_bad_use(
     used: &mut Used,
     line: &Line,
 ) -> Result<bool, NoMemory>
-    ensures bad { IfOk result (λ bad. bad ≡ has_bad_use (use_facts_by roles.now own.now) (used_with (scope_by roles.now.scope) used.old (uses_of line.now.stmt) line.now.label) (uses_of line.now.stmt)) }
-    ensures used { OnOk result (used.new ≡ used_with (scope_by roles.now.scope) used.old (uses_of line.now.stmt) line.now.label) }
+    ensures bad { IfOk result (λ bad. bad ≡ has_bad_use (use_facts_by roles.now own.now)
+        (used_with (scope_by roles.now.scope) used.old (uses_of line.now.stmt) line.now.label)
+        (uses_of line.now.stmt)) }
+    ensures used { OnOk result (used.new ≡ used_with (scope_by roles.now.scope) used.old
+        (uses_of line.now.stmt) line.now.label) }
 {
     let Ok(uses) = uses_of(alloc, &line.stmt) else {
         return Err(NoMemory);
@@ -131,7 +136,8 @@ fn wants_plain_subscripts(dialect: Dialect) -> bool
 }
 
 fn has_bad_subscript(dialect: Dialect, scope: &Scoped, line: &Line) -> bool
-    ensures { result ≡ (wants_plain_subscripts dialect && not (all_plain_subscripts (scope_by scope.now) line.now.stmt)) }
+    ensures { result ≡ (wants_plain_subscripts dialect && not (all_plain_subscripts
+        (scope_by scope.now) line.now.stmt)) }
 {
     wants_plain_subscripts(dialect) && !all_plain_subscripts(scope, &line.stmt)
 }
@@ -176,8 +182,10 @@ fn use_rule(
     used: &mut Used,
     line: &Line,
 ) -> Result<Option<Rule>, NoMemory>
-    ensures rule { IfOk result (λ rule. rule ≡ use_rule dialect (use_facts_by roles.now own.now) first used.old line.now) }
-    ensures used { OnOk result (used.new ≡ used_with (use_facts_by roles.now own.now).scope used.old (uses_of line.now.stmt) line.now.label) }
+    ensures rule { IfOk result (λ rule. rule ≡ use_rule dialect (use_facts_by roles.now own.now)
+        first used.old line.now) }
+    ensures used { OnOk result (used.new ≡ used_with (use_facts_by roles.now own.now).scope used.old
+        (uses_of line.now.stmt) line.now.label) }
 {
     let twice = has_label_in(&used.labels, line.label);
     let Ok(bad) = stmt_has_bad_use(alloc, roles, own, used, line) else {
@@ -198,7 +206,8 @@ pub fn scan_uses(
     own: &[u8],
     unit: &[Line],
 ) -> Result<Option<Fault>, NoMemory>
-    ensures { IfOk result (λ fault. fault ≡ use_scan dialect (use_facts_by roles.now own.now) true nothing_used unit.now) }
+    ensures { IfOk result (λ fault. fault ≡ use_scan dialect (use_facts_by roles.now own.now)
+        true nothing_used unit.now) }
 {
     let mut used = Used::new(alloc, keys);
     let mut first = true;

@@ -65,7 +65,8 @@ pub record IsTryText (d : Dialect) (bytes text : List ℕ) : Type 0 where
 abbrev pub count_of_marked : List ℕ → ℕ
 count_of_marked marks = length (filter (λ mark. not (mark == unclosed)) marks)
 
--- the line of `made` for the bytes of a made deck: the sizes of their program, and how many of its conditions the provers lent marked with a letter
+-- the line of `made` for the bytes of a made deck: the sizes of their program, and how many of its conditions
+-- the provers lent marked with a letter
 pub record IsMadeText (n : ℕ) (bytes : List ℕ) (before now : List Seen) (text : List ℕ) : Type 0 where
   pub deck : Deck
   pub r : Remarks

@@ -41,5 +41,6 @@ pub record IsMadeOf (n : ℕ) (j : Judged) (before now : List Seen) (text : List
 abbrev pub IsReplyOf : Command → Judged → List Seen → List Seen → List ℕ → Type 0
 IsReplyOf (Deck Vc d) j before now text = IsTextOf j before now text
 IsReplyOf (Deck Check d) j before now text = text ≡ accepted_line (sizes_found j)
-IsReplyOf (Deck Try d) j before now text = text ≡ try_text (functions_of j.pool j.definitions) (map (condition_tree j.pool) j.conditions) 1 j.tries
+IsReplyOf (Deck Try d) j before now text = text ≡ try_text (functions_of j.pool j.definitions)
+    (map (condition_tree j.pool) j.conditions) 1 j.tries
 IsReplyOf (Made n) j before now text = IsMadeOf n j before now text

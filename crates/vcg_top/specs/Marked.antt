@@ -29,7 +29,8 @@ PassesToldBy fs (Some n) c = passes_test fs n c.hyps c.goal
 -- the letter of the first prover whose test a condition passes; `-` where it passes none
 abbrev pub IsMarkBy : List Function → List Seen → ℕ → ConditionTree → Type 0
 IsMarkBy fs [] mark c = mark ≡ unclosed
-IsMarkBy fs (s ∷ ss) mark c = (PassesToldBy fs s.test c × (mark ≡ shown s.letter)) ⊎ ((PassesToldBy fs s.test c → ⊥) × IsMarkBy fs ss mark c)
+IsMarkBy fs (s ∷ ss) mark c = (PassesToldBy fs s.test c × (mark ≡ shown s.letter))
+    ⊎ ((PassesToldBy fs s.test c → ⊥) × IsMarkBy fs ss mark c)
 
 -- each condition has the mark that tests give it
 abbrev pub AreMarksBy : List Function → List Seen → List ℕ → List ConditionTree → Type 0
@@ -44,7 +45,8 @@ AreMarksBy fs ss (mark ∷ marks) (c ∷ cs) = IsMarkBy fs ss mark c × AreMarks
 abbrev pub IsRest : List Function → Option ℕ → List ConditionTree → List ConditionTree → Type 0
 IsRest fs test [] rest = rest ≡ []
 IsRest fs test (c ∷ cs) rest =
-    (PassesToldBy fs test c × IsRest fs test cs rest) ⊎ ((PassesToldBy fs test c → ⊥) × ((later : List ConditionTree) × (rest ≡ c ∷ later) × IsRest fs test cs later))
+    (PassesToldBy fs test c × IsRest fs test cs rest) ⊎ ((PassesToldBy fs test c → ⊥)
+        × ((later : List ConditionTree) × (rest ≡ c ∷ later) × IsRest fs test cs later))
 
 -- the first prover was asked for each of some conditions, and the next ones likewise for those that don't pass its test
 abbrev pub AreAskedForRest : List Function → List Seen → List Seen → List ConditionTree → Type 0
@@ -52,7 +54,8 @@ AreAskedForRest fs [] [] cs = ⊤
 AreAskedForRest fs [] (n ∷ ns) cs = ⊥
 AreAskedForRest fs (b ∷ bs) [] cs = ⊥
 AreAskedForRest fs (b ∷ bs) (n ∷ ns) cs =
-    (n.asked ≡ raised (length cs) b.asked) × ((rest : List ConditionTree) × IsRest fs b.test cs rest × AreAskedForRest fs bs ns rest)
+    (n.asked ≡ raised (length cs) b.asked) × ((rest : List ConditionTree) × IsRest fs b.test cs rest
+        × AreAskedForRest fs bs ns rest)
 
 -- ---- what the provers of a call give
 
@@ -65,11 +68,12 @@ pub record WereAsked (fs : List Function) (cs : List ConditionTree) (before now 
   pub trees : map (condition_tree pool) conditions ≡ cs
   pub asked : AreAsked pool definitions before conditions now letters
 
--- Marks of conditions are what provers gave. So each condition has a mark, and where it is a letter, the condition is valid; the
--- letters and the counts that are told are those that the provers have now; they kept their letters and tests; the first was asked
--- for each condition, and each at least for those with the mark `-`. Where all tell their tests, each mark is that of the tests, and
--- each prover was asked for the conditions that none before it closed. Where there is no prover, each mark is `-` and nothing is told.
--- The marks may stand behind the conditions: their text can be read back.
+-- Marks of conditions are what provers gave. So each condition has a mark, and where it is a letter, the
+-- condition is valid; the letters and the counts that are told are those that the provers have now; they kept
+-- their letters and tests; the first was asked for each condition, and each at least for those with the mark
+-- `-`. Where all tell their tests, each mark is that of the tests, and each prover was asked for the conditions
+-- that none before it closed. Where there is no prover, each mark is `-` and nothing is told. The marks may
+-- stand behind the conditions: their text can be read back.
 pub record AreMarksFor (fs : List Function) (cs : List ConditionTree) (before now : List Seen) (marks : Marks) : Type 0 where
   pub asked : WereAsked fs cs before now marks.letters
   pub valid : AreMarked fs marks.letters cs

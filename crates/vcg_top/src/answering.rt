@@ -31,9 +31,13 @@ fn answer<K: Sink>(
     bytes: &[u8],
 ) -> Status
     ensures only { (result ≡ Done) ⊎ ((result ≡ Refused) ⊎ ((result ≡ WriteFault) ⊎ (result ≡ Starved))) }
-    ensures done { result ≡ Done → AppendsOf (IsReply command bytes.now (map seen provers.old.items) (map seen provers.new.items)) (K.written sink.old) (K.written sink.new) }
-    ensures refused { result ≡ Refused → AppendsOf (IsRefusedText (dialect_of command) bytes.now) (K.written sink.old) (K.written sink.new) }
-    ensures part { result ≡ WriteFault → AppendsPartOf (IsEither command bytes.now (map seen provers.old.items) (map seen provers.new.items)) (K.written sink.old) (K.written sink.new) }
+    ensures done { result ≡ Done → AppendsOf (IsReply command bytes.now (map seen provers.old.items)
+        (map seen provers.new.items)) (K.written sink.old) (K.written sink.new) }
+    ensures refused { result ≡ Refused → AppendsOf (IsRefusedText (dialect_of command) bytes.now)
+        (K.written sink.old) (K.written sink.new) }
+    ensures part { result ≡ WriteFault → AppendsPartOf (IsEither command bytes.now
+        (map seen provers.old.items) (map seen provers.new.items)) (K.written sink.old)
+        (K.written sink.new) }
     ensures cause { result ≡ WriteFault → Rose (K.faults sink.old) (K.faults sink.new) }
     ensures nothing { result ≡ Starved → sink.new ≡ sink.old }
     ensures later { K.faults sink.old ≤ K.faults sink.new }
@@ -55,14 +59,23 @@ pub(crate) fn answer_read<S: Source, K: Sink>(
     provers: &mut Vec<Box<dyn Prover>>,
     sink: &mut K,
 ) -> Status
-    ensures only { (result ≡ ReadFault) ⊎ ((result ≡ Done) ⊎ ((result ≡ Refused) ⊎ ((result ≡ WriteFault) ⊎ (result ≡ Starved)))) }
+    ensures only { (result ≡ ReadFault) ⊎ ((result ≡ Done) ⊎ ((result ≡ Refused)
+        ⊎ ((result ≡ WriteFault) ⊎ (result ≡ Starved)))) }
     ensures later_read { S.faults source.old ≤ S.faults source.new }
     ensures read_fault { result ≡ ReadFault → Rose (S.faults source.old) (S.faults source.new) }
     ensures never_faults { S.never source.old ≡ true → result ≢ ReadFault }
-    ensures taken { (bytes : List ℕ) → S.left source.old ≡ Some bytes → (result ≡ Done) ⊎ ((result ≡ Refused) ⊎ (result ≡ WriteFault)) → S.left source.new ≡ Some (drop most_read bytes) }
-    ensures done { (bytes : List ℕ) → S.left source.old ≡ Some bytes → result ≡ Done → AppendsOf (IsReply command bytes (map seen provers.old.items) (map seen provers.new.items)) (K.written sink.old) (K.written sink.new) }
-    ensures refused { (bytes : List ℕ) → S.left source.old ≡ Some bytes → result ≡ Refused → AppendsOf (IsRefusedText (dialect_of command) bytes) (K.written sink.old) (K.written sink.new) }
-    ensures part { (bytes : List ℕ) → S.left source.old ≡ Some bytes → result ≡ WriteFault → AppendsPartOf (IsEither command bytes (map seen provers.old.items) (map seen provers.new.items)) (K.written sink.old) (K.written sink.new) }
+    ensures taken { (bytes : List ℕ) → S.left source.old ≡ Some bytes → (result ≡ Done)
+        ⊎ ((result ≡ Refused) ⊎ (result ≡ WriteFault)) → S.left source.new ≡ Some
+        (drop most_read bytes) }
+    ensures done { (bytes : List ℕ) → S.left source.old ≡ Some bytes → result ≡ Done
+        → AppendsOf (IsReply command bytes (map seen provers.old.items)
+        (map seen provers.new.items)) (K.written sink.old) (K.written sink.new) }
+    ensures refused { (bytes : List ℕ) → S.left source.old ≡ Some bytes → result ≡ Refused
+        → AppendsOf (IsRefusedText (dialect_of command) bytes) (K.written sink.old)
+        (K.written sink.new) }
+    ensures part { (bytes : List ℕ) → S.left source.old ≡ Some bytes → result ≡ WriteFault
+        → AppendsPartOf (IsEither command bytes (map seen provers.old.items)
+        (map seen provers.new.items)) (K.written sink.old) (K.written sink.new) }
     ensures cause { result ≡ WriteFault → Rose (K.faults sink.old) (K.faults sink.new) }
     ensures nothing { (result ≡ ReadFault) ⊎ (result ≡ Starved) → sink.new ≡ sink.old }
     ensures later { K.faults sink.old ≤ K.faults sink.new }
@@ -86,10 +99,18 @@ pub(crate) fn answer_made<K: Sink>(
     sink: &mut K,
 ) -> Status
     ensures only { (result ≡ Done) ⊎ ((result ≡ Refused) ⊎ ((result ≡ WriteFault) ⊎ (result ≡ Starved))) }
-    ensures done { IsMadeNumber number → result ≡ Done → AppendsOf (IsReply (Made number) (made_deck number) (map seen provers.old.items) (map seen provers.new.items)) (K.written sink.old) (K.written sink.new) }
-    ensures refused { IsMadeNumber number → result ≡ Refused → AppendsOf (IsRefusedText (dialect_of (Made number)) (made_deck number)) (K.written sink.old) (K.written sink.new) }
-    ensures part { IsMadeNumber number → result ≡ WriteFault → AppendsPartOf (IsEither (Made number) (made_deck number) (map seen provers.old.items) (map seen provers.new.items)) (K.written sink.old) (K.written sink.new) }
-    ensures bad_number { ¬ IsMadeNumber number → ((result ≡ Refused) × Appends (K.written sink.old) (K.written sink.new) bad_number_line) ⊎ ((result ≡ WriteFault) × AppendsPart (K.written sink.old) (K.written sink.new) bad_number_line) }
+    ensures done { IsMadeNumber number → result ≡ Done
+        → AppendsOf (IsReply (Made number) (made_deck number) (map seen provers.old.items)
+        (map seen provers.new.items)) (K.written sink.old) (K.written sink.new) }
+    ensures refused { IsMadeNumber number → result ≡ Refused
+        → AppendsOf (IsRefusedText (dialect_of (Made number)) (made_deck number))
+        (K.written sink.old) (K.written sink.new) }
+    ensures part { IsMadeNumber number → result ≡ WriteFault
+        → AppendsPartOf (IsEither (Made number) (made_deck number) (map seen provers.old.items)
+        (map seen provers.new.items)) (K.written sink.old) (K.written sink.new) }
+    ensures bad_number { ¬ IsMadeNumber number → ((result ≡ Refused) × Appends (K.written sink.old)
+        (K.written sink.new) bad_number_line) ⊎ ((result ≡ WriteFault) × AppendsPart
+        (K.written sink.old) (K.written sink.new) bad_number_line) }
     ensures cause { result ≡ WriteFault → Rose (K.faults sink.old) (K.faults sink.new) }
     ensures nothing { result ≡ Starved → sink.new ≡ sink.old }
     ensures later { K.faults sink.old ≤ K.faults sink.new }

@@ -59,11 +59,15 @@ pub fn vcg<S: Source, K: Sink>(
     provers: &mut Vec<Box<dyn Prover>>,
 ) -> Status
     ensures usage { (result ≡ Usage) ↔ (asked words.now ≡ None) }
-    ensures untouched { result ≡ Usage → (source.new ≡ source.old) × (sink.new ≡ sink.old) × (provers.new ≡ provers.old) }
+    ensures untouched { result ≡ Usage → (source.new ≡ source.old) × (sink.new ≡ sink.old)
+        × (provers.new ≡ provers.old) }
     ensures later_read { S.faults source.old ≤ S.faults source.new }
     ensures later_write { K.faults sink.old ≤ K.faults sink.new }
-    ensures read_fault { result ≡ ReadFault → ((t : Task) × (d : Dialect) × (asked words.now ≡ Some (OfDeck t d))) × Rose (S.faults source.old) (S.faults source.new) }
-    ensures write_fault { result ≡ WriteFault → IsSome (asked words.now) × Rose (K.faults sink.old) (K.faults sink.new) }
+    ensures read_fault { result ≡ ReadFault → ((t : Task) × (d : Dialect)
+        × (asked words.now ≡ Some (OfDeck t d))) × Rose (S.faults source.old)
+        (S.faults source.new) }
+    ensures write_fault { result ≡ WriteFault → IsSome (asked words.now) × Rose (K.faults sink.old)
+        (K.faults sink.new) }
     ensures never_faults { S.never source.old ≡ true → result ≢ ReadFault }
     ensures unwritten { (result ≡ ReadFault) ⊎ (result ≡ Starved) → sink.new ≡ sink.old }
     ensures unread { (n : ℕ) → asked words.now ≡ Some (Made n) → source.new ≡ source.old }
@@ -74,18 +78,41 @@ pub fn vcg<S: Source, K: Sink>(
     ensures kept { AreKept (map seen provers.old.items) (map seen provers.new.items) }
 
     // Of the deck of a command, made or from a source that tells its bytes: what was read, and what was written for it.
-    ensures done { (c : Command) (bytes : List ℕ) → asked words.now ≡ Some c → IsDeckOf c (S.left source.old) bytes → result ≡ Done → IsTakenOf c bytes (S.left source.new) × AppendsOf (IsReply c bytes (map seen provers.old.items) (map seen provers.new.items)) (K.written sink.old) (K.written sink.new) }
-    ensures refused { (c : Command) (bytes : List ℕ) → asked words.now ≡ Some c → IsDeckOf c (S.left source.old) bytes → result ≡ Refused → IsTakenOf c bytes (S.left source.new) × AppendsOf (IsRefusedText (dialect_of c) bytes) (K.written sink.old) (K.written sink.new) }
-    ensures part { (c : Command) (bytes : List ℕ) → asked words.now ≡ Some c → IsDeckOf c (S.left source.old) bytes → result ≡ WriteFault → IsTakenOf c bytes (S.left source.new) × AppendsPartOf (IsEither c bytes (map seen provers.old.items) (map seen provers.new.items)) (K.written sink.old) (K.written sink.new) }
-    ensures bad_number { (n : ℕ) → asked words.now ≡ Some (Made n) → ¬ IsMadeNumber n → ((result ≡ Refused) × Appends (K.written sink.old) (K.written sink.new) bad_number_line) ⊎ ((result ≡ WriteFault) × AppendsPart (K.written sink.old) (K.written sink.new) bad_number_line) }
+    ensures done { (c : Command) (bytes : List ℕ) → asked words.now ≡ Some c
+        → IsDeckOf c (S.left source.old) bytes → result ≡ Done → IsTakenOf c bytes
+        (S.left source.new) × AppendsOf (IsReply c bytes (map seen provers.old.items)
+        (map seen provers.new.items)) (K.written sink.old) (K.written sink.new) }
+    ensures refused { (c : Command) (bytes : List ℕ) → asked words.now ≡ Some c
+        → IsDeckOf c (S.left source.old) bytes → result ≡ Refused → IsTakenOf c bytes
+        (S.left source.new) × AppendsOf (IsRefusedText (dialect_of c) bytes) (K.written sink.old)
+        (K.written sink.new) }
+    ensures part { (c : Command) (bytes : List ℕ) → asked words.now ≡ Some c
+        → IsDeckOf c (S.left source.old) bytes → result ≡ WriteFault
+        → IsTakenOf c bytes (S.left source.new) × AppendsPartOf (IsEither c bytes
+        (map seen provers.old.items) (map seen provers.new.items)) (K.written sink.old)
+        (K.written sink.new) }
+    ensures bad_number { (n : ℕ) → asked words.now ≡ Some (Made n) → ¬ IsMadeNumber n
+        → ((result ≡ Refused) × Appends (K.written sink.old) (K.written sink.new) bad_number_line)
+        ⊎ ((result ≡ WriteFault) × AppendsPart (K.written sink.old) (K.written sink.new)
+        bad_number_line) }
 
     // The conditions that `vc` writes are exact, and where all are valid, the program of the deck is totally correct; those
     // marked with a letter are valid, so it is enough that those marked `-` are.
-    ensures sound { (d : Dialect) (bytes : List ℕ) → asked words.now ≡ Some (OfDeck Vc d) → S.left source.old ≡ Some bytes → result ≡ Done → AppendsOf (IsSoundText d bytes (map seen provers.old.items) (map seen provers.new.items)) (K.written sink.old) (K.written sink.new) }
+    ensures sound { (d : Dialect) (bytes : List ℕ) → asked words.now ≡ Some (OfDeck Vc d)
+        → S.left source.old ≡ Some bytes → result ≡ Done
+        → AppendsOf (IsSoundText d bytes (map seen provers.old.items) (map seen provers.new.items))
+        (K.written sink.old) (K.written sink.new) }
 
     // A deck is done where it is accepted, neither end fails and there is memory; and refused where it has a fault.
-    ensures complete { (c : Command) (bytes : List ℕ) (deck : Deck) (r : Remarks) (p : Program) (paths : List (List Path)) → asked words.now ≡ Some c → IsDeckOf c (S.left source.old) bytes → IsAcceptedIn (dialect_of c) bytes deck r p paths → IsReadWell c (S.faults source.old) (S.faults source.new) → ¬ Rose (K.faults sink.old) (K.faults sink.new) → (result ≡ Done) ⊎ (result ≡ Starved) }
-    ensures strict { (c : Command) (bytes : List ℕ) (f : Fault) → asked words.now ≡ Some c → IsDeckOf c (S.left source.old) bytes → IsFirstFaultIn (dialect_of c) bytes f → IsReadWell c (S.faults source.old) (S.faults source.new) → ¬ Rose (K.faults sink.old) (K.faults sink.new) → (result ≡ Refused) ⊎ (result ≡ Starved) }
+    ensures complete { (c : Command) (bytes : List ℕ) (deck : Deck) (r : Remarks) (p : Program)
+        (paths : List (List Path)) → asked words.now ≡ Some c → IsDeckOf c (S.left source.old) bytes
+        → IsAcceptedIn (dialect_of c) bytes deck r p paths → IsReadWell c (S.faults source.old)
+        (S.faults source.new) → ¬ Rose (K.faults sink.old) (K.faults sink.new) → (result ≡ Done)
+        ⊎ (result ≡ Starved) }
+    ensures strict { (c : Command) (bytes : List ℕ) (f : Fault) → asked words.now ≡ Some c
+        → IsDeckOf c (S.left source.old) bytes → IsFirstFaultIn (dialect_of c) bytes f
+        → IsReadWell c (S.faults source.old) (S.faults source.new) → ¬ Rose (K.faults sink.old)
+        (K.faults sink.new) → (result ≡ Refused) ⊎ (result ≡ Starved) }
 {
     let Some(command) = command_of(words) else {
         return Status::Usage;

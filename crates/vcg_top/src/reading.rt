@@ -26,7 +26,9 @@ pub(crate) enum ReadError {
 /// input.
 pub(crate) fn read_all<S: Source>(alloc: Global, source: &mut S) -> Result<Vec<u8>, ReadError>
     // Of a source that tells its bytes, the front is answered, and what is behind it is left.
-    ensures told { (bytes : List ℕ) → S.left source.old ≡ Some bytes → IfOk result (λ v. (v.items ≡ take most_read bytes) × (S.left source.new ≡ Some (drop most_read bytes))) }
+    ensures told { (bytes : List ℕ) → S.left source.old ≡ Some bytes
+        → IfOk result (λ v. (v.items ≡ take most_read bytes) × (S.left source.new ≡ Some
+        (drop most_read bytes))) }
     ensures later { S.faults source.old ≤ S.faults source.new }
     ensures fault { IfErr result (λ e. e ≡ Fault → Rose (S.faults source.old) (S.faults source.new)) }
     ensures kept { S.never source.new ≡ S.never source.old }

@@ -49,7 +49,8 @@ fn marks_of(
 ) -> Result<Marks, NoMemory>
     requires conditions { All (IsConditionIn found.now.pool) found.now.conditions }
     requires added { AreAdded found.now.pool found.now.definitions }
-    ensures marks { IfOk result (AreMarksOf found.now (map seen provers.old.items) (map seen provers.new.items)) }
+    ensures marks { IfOk result (AreMarksOf found.now (map seen provers.old.items)
+        (map seen provers.new.items)) }
     ensures kept { AreKept (map seen provers.old.items) (map seen provers.new.items) }
 {
     let Ok(marks) = close_all(
@@ -76,8 +77,11 @@ fn tell<K: Sink>(
     requires conditions { All (IsConditionIn found.now.pool) found.now.conditions }
     requires added { AreAdded found.now.pool found.now.definitions }
     ensures only { (result ≡ Done) ⊎ ((result ≡ WriteFault) ⊎ (result ≡ Starved)) }
-    ensures done { result ≡ Done → AppendsOf (IsTextOf found.now (map seen provers.old.items) (map seen provers.new.items)) (K.written sink.old) (K.written sink.new) }
-    ensures part { result ≡ WriteFault → AppendsPartOf (IsTextOf found.now (map seen provers.old.items) (map seen provers.new.items)) (K.written sink.old) (K.written sink.new) }
+    ensures done { result ≡ Done → AppendsOf (IsTextOf found.now (map seen provers.old.items)
+        (map seen provers.new.items)) (K.written sink.old) (K.written sink.new) }
+    ensures part { result ≡ WriteFault → AppendsPartOf (IsTextOf found.now
+        (map seen provers.old.items) (map seen provers.new.items)) (K.written sink.old)
+        (K.written sink.new) }
     ensures cause { result ≡ WriteFault → Rose (K.faults sink.old) (K.faults sink.new) }
     ensures nothing { result ≡ Starved → sink.new ≡ sink.old }
     ensures later { K.faults sink.old ≤ K.faults sink.new }
@@ -116,8 +120,10 @@ fn sizes(found: &Judged) -> Sizes
 /// Writes how many units, paths and conditions a deck has.
 fn tell_sizes<K: Sink>(alloc: Global, sink: &mut K, found: &Judged) -> Status
     ensures only { (result ≡ Done) ⊎ ((result ≡ WriteFault) ⊎ (result ≡ Starved)) }
-    ensures done { result ≡ Done → AppendsOf (λ text. text ≡ accepted_line (sizes_found found.now)) (K.written sink.old) (K.written sink.new) }
-    ensures part { result ≡ WriteFault → AppendsPartOf (λ text. text ≡ accepted_line (sizes_found found.now)) (K.written sink.old) (K.written sink.new) }
+    ensures done { result ≡ Done → AppendsOf (λ text. text ≡ accepted_line (sizes_found found.now))
+        (K.written sink.old) (K.written sink.new) }
+    ensures part { result ≡ WriteFault → AppendsPartOf (λ text. text ≡ accepted_line
+        (sizes_found found.now)) (K.written sink.old) (K.written sink.new) }
     ensures cause { result ≡ WriteFault → Rose (K.faults sink.old) (K.faults sink.new) }
     ensures nothing { result ≡ Starved → sink.new ≡ sink.old }
     ensures later { K.faults sink.old ≤ K.faults sink.new }
@@ -146,8 +152,11 @@ fn tell_made<K: Sink>(
     requires conditions { All (IsConditionIn found.now.pool) found.now.conditions }
     requires added { AreAdded found.now.pool found.now.definitions }
     ensures only { (result ≡ Done) ⊎ ((result ≡ WriteFault) ⊎ (result ≡ Starved)) }
-    ensures done { result ≡ Done → AppendsOf (IsMadeOf number found.now (map seen provers.old.items) (map seen provers.new.items)) (K.written sink.old) (K.written sink.new) }
-    ensures part { result ≡ WriteFault → AppendsPartOf (IsMadeOf number found.now (map seen provers.old.items) (map seen provers.new.items)) (K.written sink.old) (K.written sink.new) }
+    ensures done { result ≡ Done → AppendsOf (IsMadeOf number found.now (map seen provers.old.items)
+        (map seen provers.new.items)) (K.written sink.old) (K.written sink.new) }
+    ensures part { result ≡ WriteFault → AppendsPartOf (IsMadeOf number found.now
+        (map seen provers.old.items) (map seen provers.new.items)) (K.written sink.old)
+        (K.written sink.new) }
     ensures cause { result ≡ WriteFault → Rose (K.faults sink.old) (K.faults sink.new) }
     ensures nothing { result ≡ Starved → sink.new ≡ sink.old }
     ensures later { K.faults sink.old ≤ K.faults sink.new }
@@ -169,8 +178,12 @@ fn tell_tries<K: Sink>(alloc: Global, sink: &mut K, found: Judged) -> Status
     requires conditions { All (IsConditionIn found.pool) found.conditions }
     requires added { AreAdded found.pool found.definitions }
     ensures only { (result ≡ Done) ⊎ ((result ≡ WriteFault) ⊎ (result ≡ Starved)) }
-    ensures done { result ≡ Done → AppendsOf (λ text. text ≡ try_text (functions_of found.pool found.definitions) (map (condition_tree found.pool) found.conditions) 1 found.tries) (K.written sink.old) (K.written sink.new) }
-    ensures part { result ≡ WriteFault → AppendsPartOf (λ text. text ≡ try_text (functions_of found.pool found.definitions) (map (condition_tree found.pool) found.conditions) 1 found.tries) (K.written sink.old) (K.written sink.new) }
+    ensures done { result ≡ Done → AppendsOf (λ text. text ≡ try_text
+        (functions_of found.pool found.definitions) (map (condition_tree found.pool)
+        found.conditions) 1 found.tries) (K.written sink.old) (K.written sink.new) }
+    ensures part { result ≡ WriteFault → AppendsPartOf (λ text. text ≡ try_text
+        (functions_of found.pool found.definitions) (map (condition_tree found.pool)
+        found.conditions) 1 found.tries) (K.written sink.old) (K.written sink.new) }
     ensures cause { result ≡ WriteFault → Rose (K.faults sink.old) (K.faults sink.new) }
     ensures nothing { result ≡ Starved → sink.new ≡ sink.old }
     ensures later { K.faults sink.old ≤ K.faults sink.new }
@@ -207,8 +220,11 @@ pub(crate) fn reply<K: Sink>(
     requires conditions { All (IsConditionIn found.pool) found.conditions }
     requires added { AreAdded found.pool found.definitions }
     ensures only { (result ≡ Done) ⊎ ((result ≡ WriteFault) ⊎ (result ≡ Starved)) }
-    ensures done { result ≡ Done → AppendsOf (IsReplyOf command found (map seen provers.old.items) (map seen provers.new.items)) (K.written sink.old) (K.written sink.new) }
-    ensures part { result ≡ WriteFault → AppendsPartOf (IsReplyOf command found (map seen provers.old.items) (map seen provers.new.items)) (K.written sink.old) (K.written sink.new) }
+    ensures done { result ≡ Done → AppendsOf (IsReplyOf command found (map seen provers.old.items)
+        (map seen provers.new.items)) (K.written sink.old) (K.written sink.new) }
+    ensures part { result ≡ WriteFault → AppendsPartOf (IsReplyOf command found
+        (map seen provers.old.items) (map seen provers.new.items)) (K.written sink.old)
+        (K.written sink.new) }
     ensures cause { result ≡ WriteFault → Rose (K.faults sink.old) (K.faults sink.new) }
     ensures nothing { result ≡ Starved → sink.new ≡ sink.old }
     ensures later { K.faults sink.old ≤ K.faults sink.new }

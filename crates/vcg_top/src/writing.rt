@@ -31,8 +31,10 @@ pub(crate) fn write_text<K: Sink>(sink: &mut K, text: &[u8]) -> Status
 /// Writes the line of a fault. It takes no memory.
 fn refuse<K: Sink>(sink: &mut K, fault: Fault) -> Status
     ensures only { (result ≡ Refused) ⊎ (result ≡ WriteFault) }
-    ensures refused { result ≡ Refused → Appends (K.written sink.old) (K.written sink.new) (fault_line fault) }
-    ensures part { result ≡ WriteFault → AppendsPart (K.written sink.old) (K.written sink.new) (fault_line fault) }
+    ensures refused { result ≡ Refused → Appends (K.written sink.old) (K.written sink.new)
+        (fault_line fault) }
+    ensures part { result ≡ WriteFault → AppendsPart (K.written sink.old) (K.written sink.new)
+        (fault_line fault) }
     ensures cause { result ≡ WriteFault → Rose (K.faults sink.old) (K.faults sink.new) }
     ensures later { K.faults sink.old ≤ K.faults sink.new }
 {
@@ -46,7 +48,8 @@ fn refuse<K: Sink>(sink: &mut K, fault: Fault) -> Status
 pub(crate) fn refuse_number<K: Sink>(sink: &mut K) -> Status
     ensures only { (result ≡ Refused) ⊎ (result ≡ WriteFault) }
     ensures refused { result ≡ Refused → Appends (K.written sink.old) (K.written sink.new) bad_number_line }
-    ensures part { result ≡ WriteFault → AppendsPart (K.written sink.old) (K.written sink.new) bad_number_line }
+    ensures part { result ≡ WriteFault → AppendsPart (K.written sink.old)
+        (K.written sink.new) bad_number_line }
     ensures cause { result ≡ WriteFault → Rose (K.faults sink.old) (K.faults sink.new) }
     ensures later { K.faults sink.old ≤ K.faults sink.new }
 {
@@ -59,8 +62,10 @@ pub(crate) fn refuse_number<K: Sink>(sink: &mut K) -> Status
 /// Writes the line of the fault for which a deck is refused, if that is why.
 pub(crate) fn deny<K: Sink>(sink: &mut K, refusal: Refusal) -> Status
     ensures only { (result ≡ Refused) ⊎ ((result ≡ WriteFault) ⊎ (result ≡ Starved)) }
-    ensures refused { result ≡ Refused → (f : Fault) × (refusal ≡ Broken f) × Appends (K.written sink.old) (K.written sink.new) (fault_line f) }
-    ensures part { result ≡ WriteFault → (f : Fault) × (refusal ≡ Broken f) × AppendsPart (K.written sink.old) (K.written sink.new) (fault_line f) }
+    ensures refused { result ≡ Refused → (f : Fault) × (refusal ≡ Broken f)
+        × Appends (K.written sink.old) (K.written sink.new) (fault_line f) }
+    ensures part { result ≡ WriteFault → (f : Fault) × (refusal ≡ Broken f)
+        × AppendsPart (K.written sink.old) (K.written sink.new) (fault_line f) }
     ensures cause { result ≡ WriteFault → Rose (K.faults sink.old) (K.faults sink.new) }
     ensures nothing { result ≡ Starved → sink.new ≡ sink.old }
     ensures later { K.faults sink.old ≤ K.faults sink.new }

@@ -29,7 +29,10 @@ fn store(
     requires subscripts { AllBelow (length walk.old.pool) subscripts.now }
     requires value { IsIn walk.old.pool value }
     ensures on { Follows walk.old walk.new }
-    ensures did { OnOk result (PerformsIn walk.old.pool card.now.setting.now (moment walk.old) (λ w. stored w card.now.number (moment walk.old).now array.now (map (tree_of walk.old.pool) subscripts.now) (tree_of walk.old.pool value)) (moment walk.new)) }
+    ensures did { OnOk result (PerformsIn walk.old.pool card.now.setting.now (moment walk.old)
+        (λ w. stored w card.now.number (moment walk.old).now array.now
+        (map (tree_of walk.old.pool) subscripts.now) (tree_of walk.old.pool value))
+        (moment walk.new)) }
 {
     let dims = card.setting.book.dims(array);
     let place = place_checked(walk, card.number, dims, subscripts)?;
@@ -52,7 +55,9 @@ fn assign_element(
     requires ready { (p : Program) × IsReady walk.old.pool card.now.setting.now.scene.now p }
     requires value { IsIn walk.old.pool value }
     ensures on { Follows walk.old walk.new }
-    ensures did { OnOk result (PerformsIn walk.old.pool card.now.setting.now (moment walk.old) (λ w. element_assigned w card.now.number (moment walk.old).now array.now args.now (tree_of walk.old.pool value)) (moment walk.new)) }
+    ensures did { OnOk result (PerformsIn walk.old.pool card.now.setting.now (moment walk.old)
+        (λ w. element_assigned w card.now.number (moment walk.old).now array.now args.now
+        (tree_of walk.old.pool value)) (moment walk.new)) }
 {
     let subscripts = values(walk, card, args)?;
     store(walk, card, array, subscripts.as_slice(), value)
@@ -65,7 +70,9 @@ pub fn assign(walk: &mut Walk, card: &Card, left: &Expr, value: TermId) -> Resul
     requires ready { (p : Program) × IsReady walk.old.pool card.now.setting.now.scene.now p }
     requires value { IsIn walk.old.pool value }
     ensures on { Follows walk.old walk.new }
-    ensures did { OnOk result (PerformsIn walk.old.pool card.now.setting.now (moment walk.old) (λ w. forms.assign w card.now.number (moment walk.old).now left.now (tree_of walk.old.pool value)) (moment walk.new)) }
+    ensures did { OnOk result (PerformsIn walk.old.pool card.now.setting.now (moment walk.old)
+        (λ w. forms.assign w card.now.number (moment walk.old).now left.now
+        (tree_of walk.old.pool value)) (moment walk.new)) }
 {
     match left {
         Expr::Var(x) => walk.set(x, value),

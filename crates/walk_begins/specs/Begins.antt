@@ -28,7 +28,8 @@ trips_checked w card m1 m2 m3 =
 
 -- a DO begins with its first value, its last value and its step
 abbrev pub begun : Sight Tree → Dialect → ℕ → ℕ → Named Tree → DoHead → Tree × Tree × Tree → List ℕ → See Tree (Named Tree)
-begun w dialect card pc now head m cs = begin w dialect card (target w.unit.lines head.label) pc now head.variable (m.0) (m.1) (m.2) cs
+begun w dialect card pc now head m cs = begin w dialect card (target w.unit.lines head.label) pc now head.variable
+    (m.0) (m.1) (m.2) cs
 
 -- the same in the dialect of the program
 abbrev pub begins_with : Sight Tree → ℕ → ℕ → Named Tree → DoHead → Tree × Tree × Tree → List ℕ → See Tree (Named Tree)
@@ -37,4 +38,5 @@ begins_with w card pc now head m cs = begun w w.program.dialect card pc now head
 -- a DO begins: its first value, its last value and its step are read
 abbrev pub begins : Sight Tree → ℕ → ℕ → Named Tree → DoHead → List ℕ → See Tree (Named Tree)
 begins w card pc now head cs =
-    parameter w card now head.first >>= λ m1. parameter w card now head.last >>= λ m2. step_value w card now head.step >>= λ m3. begins_with w card pc now head (m1, m2, m3) cs
+    parameter w card now head.first >>= λ m1. parameter w card now head.last >>= λ m2.
+        step_value w card now head.step >>= λ m3. begins_with w card pc now head (m1, m2, m3) cs

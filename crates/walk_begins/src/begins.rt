@@ -39,7 +39,10 @@ fn begin_common(
     requires last { IsIn walk.old.pool limits.last }
     requires step { IsIn walk.old.pool limits.step }
     ensures on { Follows walk.old walk.new }
-    ensures did { OnOk result (PerformsIn walk.old.pool at.now.flow.now.setting.now (moment walk.old) (λ w. begun w Common at.now.card at.now.point (moment walk.old).now head.now (tree_of walk.old.pool limits.first, tree_of walk.old.pool limits.last, tree_of walk.old.pool limits.step) choices.now) (moment walk.new)) }
+    ensures did { OnOk result (PerformsIn walk.old.pool at.now.flow.now.setting.now
+        (moment walk.old) (λ w. begun w Common at.now.card at.now.point (moment walk.old).now
+        head.now (tree_of walk.old.pool limits.first, tree_of walk.old.pool limits.last,
+        tree_of walk.old.pool limits.step) choices.now) (moment walk.new)) }
 {
     check_loop(walk, at.card, limits.first, limits.last, limits.step)?;
     walk.set(&head.variable, limits.first)
@@ -57,9 +60,15 @@ fn begin_seventy_seven(
     requires first { IsIn walk.old.pool limits.first }
     requires last { IsIn walk.old.pool limits.last }
     requires step { IsIn walk.old.pool limits.step }
-    requires target { IsDoTarget SeventySeven at.now.flow.now.setting.now.book.now.unit.now at.now.flow.now.graph.now.forks (flow.target at.now.flow.now.setting.now.book.now.unit.now.lines head.now.label) at.now.point at.now.target }
+    requires target { IsDoTarget SeventySeven at.now.flow.now.setting.now.book.now.unit.now
+        at.now.flow.now.graph.now.forks
+        (flow.target at.now.flow.now.setting.now.book.now.unit.now.lines head.now.label)
+        at.now.point at.now.target }
     ensures on { Follows walk.old walk.new }
-    ensures did { OnOk result (PerformsIn walk.old.pool at.now.flow.now.setting.now (moment walk.old) (λ w. begun w SeventySeven at.now.card at.now.point (moment walk.old).now head.now (tree_of walk.old.pool limits.first, tree_of walk.old.pool limits.last, tree_of walk.old.pool limits.step) choices.now) (moment walk.new)) }
+    ensures did { OnOk result (PerformsIn walk.old.pool at.now.flow.now.setting.now
+        (moment walk.old) (λ w. begun w SeventySeven at.now.card at.now.point
+        (moment walk.old).now head.now (tree_of walk.old.pool limits.first, tree_of walk.old.pool
+        limits.last, tree_of walk.old.pool limits.step) choices.now) (moment walk.new)) }
 {
     check_trips(walk, at.card, limits)?;
     walk.set(&head.variable, limits.first)?;
@@ -78,9 +87,15 @@ fn begin_with(
     requires first { IsIn walk.old.pool limits.first }
     requires last { IsIn walk.old.pool limits.last }
     requires step { IsIn walk.old.pool limits.step }
-    requires target { IsDoTarget at.now.flow.now.setting.now.scene.now.dialect at.now.flow.now.setting.now.book.now.unit.now at.now.flow.now.graph.now.forks (flow.target at.now.flow.now.setting.now.book.now.unit.now.lines head.now.label) at.now.point at.now.target }
+    requires target { IsDoTarget at.now.flow.now.setting.now.scene.now.dialect
+        at.now.flow.now.setting.now.book.now.unit.now at.now.flow.now.graph.now.forks
+        (flow.target at.now.flow.now.setting.now.book.now.unit.now.lines head.now.label)
+        at.now.point at.now.target }
     ensures on { Follows walk.old walk.new }
-    ensures did { OnOk result (PerformsIn walk.old.pool at.now.flow.now.setting.now (moment walk.old) (λ w. begins_with w at.now.card at.now.point (moment walk.old).now head.now (tree_of walk.old.pool limits.first, tree_of walk.old.pool limits.last, tree_of walk.old.pool limits.step) choices.now) (moment walk.new)) }
+    ensures did { OnOk result (PerformsIn walk.old.pool at.now.flow.now.setting.now
+        (moment walk.old) (λ w. begins_with w at.now.card at.now.point (moment walk.old).now
+        head.now (tree_of walk.old.pool limits.first, tree_of walk.old.pool limits.last,
+        tree_of walk.old.pool limits.step) choices.now) (moment walk.new)) }
 {
     match at.flow.setting.scene.dialect {
         Dialect::Common => begin_common(walk, at, head, limits, choices),
@@ -97,9 +112,14 @@ pub fn begin_do(
     choices: &[usize],
 ) -> Result<(), NoMemory>
     requires well { IsWalk walk.old }
-    requires target { IsDoTarget at.now.flow.now.setting.now.scene.now.dialect at.now.flow.now.setting.now.book.now.unit.now at.now.flow.now.graph.now.forks (flow.target at.now.flow.now.setting.now.book.now.unit.now.lines head.now.label) at.now.point at.now.target }
+    requires target { IsDoTarget at.now.flow.now.setting.now.scene.now.dialect
+        at.now.flow.now.setting.now.book.now.unit.now at.now.flow.now.graph.now.forks
+        (flow.target at.now.flow.now.setting.now.book.now.unit.now.lines head.now.label)
+        at.now.point at.now.target }
     ensures on { Follows walk.old walk.new }
-    ensures did { OnOk result (PerformsIn walk.old.pool at.now.flow.now.setting.now (moment walk.old) (λ w. begins w at.now.card at.now.point (moment walk.old).now head.now choices.now) (moment walk.new)) }
+    ensures did { OnOk result (PerformsIn walk.old.pool at.now.flow.now.setting.now
+        (moment walk.old) (λ w. begins w at.now.card at.now.point (moment walk.old).now
+        head.now choices.now) (moment walk.new)) }
 {
     let limits = limits_of(walk, &at.at_card(), head.first, head.last, head.step)?;
     begin_with(walk, at, head, limits, choices)

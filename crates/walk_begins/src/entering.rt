@@ -18,9 +18,14 @@ use walk_tests::tests_from;
 // Behind a DO that is not entered the DOs around it are tested that have the same last statement.
 fn pass_over(walk: &mut Walk, at: &Standing, label: u32, choices: &[usize]) -> Result<(), NoMemory>
     requires well { IsWalk walk.old }
-    requires target { IsDoTarget SeventySeven at.now.flow.now.setting.now.book.now.unit.now at.now.flow.now.graph.now.forks (flow.target at.now.flow.now.setting.now.book.now.unit.now.lines label) at.now.point at.now.target }
+    requires target { IsDoTarget SeventySeven at.now.flow.now.setting.now.book.now.unit.now
+        at.now.flow.now.graph.now.forks
+        (flow.target at.now.flow.now.setting.now.book.now.unit.now.lines label) at.now.point
+        at.now.target }
     ensures on { Follows walk.old walk.new }
-    ensures did { OnOk result (PerformsIn walk.old.pool at.now.flow.now.setting.now (moment walk.old) (λ w. forms.passed_over w (flow.target w.unit.lines label) at.now.point (moment walk.old).now choices.now) (moment walk.new)) }
+    ensures did { OnOk result (PerformsIn walk.old.pool at.now.flow.now.setting.now
+        (moment walk.old) (λ w. forms.passed_over w (flow.target w.unit.lines label) at.now.point
+        (moment walk.old).now choices.now) (moment walk.new)) }
 {
     let Some(target) = at.turn(1) else {
         return Ok(());
@@ -45,9 +50,15 @@ pub(crate) fn enter(
     requires well { IsWalk walk.old }
     requires first { IsIn walk.old.pool limits.first }
     requires last { IsIn walk.old.pool limits.last }
-    requires target { IsDoTarget SeventySeven at.now.flow.now.setting.now.book.now.unit.now at.now.flow.now.graph.now.forks (flow.target at.now.flow.now.setting.now.book.now.unit.now.lines label) at.now.point at.now.target }
+    requires target { IsDoTarget SeventySeven at.now.flow.now.setting.now.book.now.unit.now
+        at.now.flow.now.graph.now.forks
+        (flow.target at.now.flow.now.setting.now.book.now.unit.now.lines label) at.now.point
+        at.now.target }
     ensures on { Follows walk.old walk.new }
-    ensures did { OnOk result (PerformsIn walk.old.pool at.now.flow.now.setting.now (moment walk.old) (λ w. forms.entered w (flow.target w.unit.lines label) at.now.point (moment walk.old).now (tree_of walk.old.pool limits.first) (tree_of walk.old.pool limits.last) choices.now) (moment walk.new)) }
+    ensures did { OnOk result (PerformsIn walk.old.pool at.now.flow.now.setting.now
+        (moment walk.old) (λ w. forms.entered w (flow.target w.unit.lines label) at.now.point
+        (moment walk.old).now (tree_of walk.old.pool limits.first)
+        (tree_of walk.old.pool limits.last) choices.now) (moment walk.new)) }
 {
     let [choice, more @ ..] = choices else {
         return Ok(());

@@ -36,7 +36,10 @@ pub(crate) fn limits_of(
     ensures first { IfOk result (λ m. IsIn walk.new.pool m.first) }
     ensures last { IfOk result (λ m. IsIn walk.new.pool m.last) }
     ensures step { IfOk result (λ m. IsIn walk.new.pool m.step) }
-    ensures did { IfOk result (λ m. DoesIn walk.old.pool card.now.setting.now (moment walk.old) (λ w. begins.limits_of w card.now.number (moment walk.old).now first last step) (moment walk.new) (tree_of walk.new.pool m.first, tree_of walk.new.pool m.last, tree_of walk.new.pool m.step)) }
+    ensures did { IfOk result (λ m. DoesIn walk.old.pool card.now.setting.now (moment walk.old)
+        (λ w. begins.limits_of w card.now.number (moment walk.old).now first last step)
+        (moment walk.new) (tree_of walk.new.pool m.first, tree_of walk.new.pool m.last,
+        tree_of walk.new.pool m.step)) }
 {
     let bound = card.setting.scene.bound;
     let first = parameter(walk, bound, card.number, first)?;
@@ -53,7 +56,9 @@ pub(crate) fn check_trips(walk: &mut Walk, card: u32, limits: Limits) -> Result<
     requires last { IsIn walk.old.pool limits.last }
     requires step { IsIn walk.old.pool limits.step }
     ensures on { Follows walk.old walk.new }
-    ensures did { OnOk result (Does (moment walk.old) (λ w. begins.trips_checked w card (tree_of walk.old.pool limits.first) (tree_of walk.old.pool limits.last) (tree_of walk.old.pool limits.step)) (moment walk.new) tt) }
+    ensures did { OnOk result (Does (moment walk.old) (λ w. begins.trips_checked w card
+        (tree_of walk.old.pool limits.first) (tree_of walk.old.pool limits.last)
+        (tree_of walk.old.pool limits.step)) (moment walk.new) tt) }
 {
     check_step(walk, card, limits.step)?;
     let distance = operate(walk, card, BinOp::Sub, limits.last, limits.first)?;

@@ -24,7 +24,8 @@ pub record IsCalled (before : Moment) (part : See Tree (Named Tree × Tree)) (af
 
 -- in each program that is told by a pool and by where the walk is
 abbrev pub CallsIn : List Node → Setting → Moment → (Sight Tree → See Tree (Named Tree × Tree)) → Moment → Tree → Type 0
-CallsIn pool s before part after value = (p : Program) → IsReady pool s.scene.now p → IsCalled before (part (seen_from s p)) after value
+CallsIn pool s before part after value = (p : Program) → IsReady pool s.scene.now p
+    → IsCalled before (part (seen_from s p)) after value
 
 -- a call of the unit g, which has the number i: it has the next answer
 abbrev pub unit_call : Sight Tree → ℕ → ℕ → Routine → Named Tree → List (Operand Tree) → See Tree (Named Tree × Tree)

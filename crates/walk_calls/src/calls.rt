@@ -41,7 +41,10 @@ fn call_unit(walk: &mut Walk, called: &Called, operands: &[Operand]) -> Result<T
     requires operands { AreOperandsIn (length walk.old.pool) operands.now }
     ensures on { Follows walk.old walk.new }
     ensures is_in { IfOk result (λ id. IsIn walk.new.pool id) }
-    ensures did { IfOk result (λ id. CallsIn walk.old.pool called.now.setting.now (moment walk.old) (λ w. unit_call w called.now.card called.now.number called.now.callee.now.unit.now (moment walk.old).now (operand_trees walk.old.pool operands.now)) (moment walk.new) (tree_of walk.new.pool id)) }
+    ensures did { IfOk result (λ id. CallsIn walk.old.pool called.now.setting.now (moment walk.old)
+        (λ w. unit_call w called.now.card called.now.number called.now.callee.now.unit.now
+        (moment walk.old).now (operand_trees walk.old.pool operands.now)) (moment walk.new)
+        (tree_of walk.new.pool id)) }
 {
     let call = walk.next_call()?;
     let mut frame = enter_unit(walk, called, operands)?;
@@ -64,7 +67,9 @@ fn call_number(
     requires operands { AreOperandsIn (length walk.old.pool) operands.now }
     ensures on { Follows walk.old walk.new }
     ensures is_in { IfOk result (λ id. IsIn walk.new.pool id) }
-    ensures did { IfOk result (λ id. CallsIn walk.old.pool setting.now (moment walk.old) (λ w. walks.call w card (Some number) (moment walk.old).now (operand_trees walk.old.pool operands.now)) (moment walk.new) (tree_of walk.new.pool id)) }
+    ensures did { IfOk result (λ id. CallsIn walk.old.pool setting.now (moment walk.old)
+        (λ w. walks.call w card (Some number) (moment walk.old).now
+        (operand_trees walk.old.pool operands.now)) (moment walk.new) (tree_of walk.new.pool id)) }
 {
     if number >= setting.scene.books.units.len() {
         let Ok(none) = call_nothing(walk) else {
@@ -99,7 +104,9 @@ pub fn call(
     requires operands { AreOperandsIn (length walk.old.pool) operands.now }
     ensures on { Follows walk.old walk.new }
     ensures is_in { IfOk result (λ id. IsIn walk.new.pool id) }
-    ensures did { IfOk result (λ id. CallsIn walk.old.pool setting.now (moment walk.old) (λ w. walks.call w card callee (moment walk.old).now (operand_trees walk.old.pool operands.now)) (moment walk.new) (tree_of walk.new.pool id)) }
+    ensures did { IfOk result (λ id. CallsIn walk.old.pool setting.now (moment walk.old)
+        (λ w. walks.call w card callee (moment walk.old).now
+        (operand_trees walk.old.pool operands.now)) (moment walk.new) (tree_of walk.new.pool id)) }
 {
     match callee {
         Some(number) => call_number(walk, setting, card, number, operands),
@@ -122,7 +129,9 @@ pub fn refer(
     requires function { (f : Text) × (callee ≡ function setting.now.scene.now.books.now.units.now f) }
     ensures on { Follows walk.old walk.new }
     ensures is_in { IfOk result (λ id. IsIn walk.new.pool id) }
-    ensures did { IfOk result (λ id. DoesIn walk.old.pool setting.now (moment walk.old) (λ w. value_of_call w card callee (moment walk.old).now (operand_trees walk.old.pool operands.now)) (moment walk.new) (tree_of walk.new.pool id)) }
+    ensures did { IfOk result (λ id. DoesIn walk.old.pool setting.now (moment walk.old)
+        (λ w. value_of_call w card callee (moment walk.old).now
+        (operand_trees walk.old.pool operands.now)) (moment walk.new) (tree_of walk.new.pool id)) }
 {
     call(walk, setting, card, callee, operands)
 }

@@ -36,4 +36,5 @@ module _ (w : Sight Tree) (card : ℕ) (now : Named Tree) where
 
   -- a number is read that counts one of so many labels
   abbrev pub selected : ℕ → Name → ℕ → List ℕ → See Tree (Named Tree)
-  selected pc x labels cs = read w card (now x) >>= λ i. forms.choice_check w w.program.dialect card labels i >> forms.selected w card pc now labels i cs
+  selected pc x labels cs = read w card (now x) >>= λ i. forms.choice_check w w.program.dialect card
+      labels i >> forms.selected w card pc now labels i cs

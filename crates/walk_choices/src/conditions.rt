@@ -19,7 +19,9 @@ pub fn is_true(walk: &mut Walk, card: &Card, e: &Expr) -> Result<(), NoMemory>
     requires well { IsWalk walk.old }
     requires ready { (p : Program) × IsReady walk.old.pool card.now.setting.now.scene.now p }
     ensures on { Follows walk.old walk.new }
-    ensures did { OnOk result (DoesIn walk.old.pool card.now.setting.now (moment walk.old) (λ w. choices_of.is_true w card.now.number (moment walk.old).now e.now) (moment walk.new) tt) }
+    ensures did { OnOk result (DoesIn walk.old.pool card.now.setting.now (moment walk.old)
+        (λ w. choices_of.is_true w card.now.number (moment walk.old).now e.now)
+        (moment walk.new) tt) }
 {
     let truth = value(walk, card, e)?;
     take_true(walk, truth)
@@ -30,7 +32,9 @@ pub fn is_false(walk: &mut Walk, card: &Card, e: &Expr) -> Result<(), NoMemory>
     requires well { IsWalk walk.old }
     requires ready { (p : Program) × IsReady walk.old.pool card.now.setting.now.scene.now p }
     ensures on { Follows walk.old walk.new }
-    ensures did { OnOk result (DoesIn walk.old.pool card.now.setting.now (moment walk.old) (λ w. choices_of.is_false w card.now.number (moment walk.old).now e.now) (moment walk.new) tt) }
+    ensures did { OnOk result (DoesIn walk.old.pool card.now.setting.now (moment walk.old)
+        (λ w. choices_of.is_false w card.now.number (moment walk.old).now e.now)
+        (moment walk.new) tt) }
 {
     let truth = value(walk, card, e)?;
     take_not(walk, truth)
@@ -42,7 +46,9 @@ pub fn condition(walk: &mut Walk, card: &Card, e: &Expr, choices: &[usize]) -> R
     requires well { IsWalk walk.old }
     requires ready { (p : Program) × IsReady walk.old.pool card.now.setting.now.scene.now p }
     ensures on { Follows walk.old walk.new }
-    ensures did { OnOk result (PerformsIn walk.old.pool card.now.setting.now (moment walk.old) (λ w. choices_of.decided w card.now.number (moment walk.old).now e.now choices.now) (moment walk.new)) }
+    ensures did { OnOk result (PerformsIn walk.old.pool card.now.setting.now (moment walk.old)
+        (λ w. choices_of.decided w card.now.number (moment walk.old).now e.now choices.now)
+        (moment walk.new)) }
 {
     let choice = first_choice(choices);
     if choice == 1 {

@@ -24,7 +24,9 @@ fn no_label(pool: &mut TermPool, labels: u64, number: TermId) -> Result<TermId, 
     requires { IsIn pool.old number }
     ensures grows { Grows pool.old pool.new }
     ensures is_in { IfOk result (λ id. IsIn pool.new id) }
-    ensures tree { IfOk result (λ id. tree_of pool.new id ≡ negated_tree of_terms (lies_from_to of_terms (natural_tree of_terms 1) (natural_tree of_terms labels) (tree_of pool.old number))) }
+    ensures tree { IfOk result (λ id. tree_of pool.new id ≡ negated_tree of_terms
+        (lies_from_to of_terms (natural_tree of_terms 1) (natural_tree of_terms labels)
+        (tree_of pool.old number))) }
 {
     let least = natural(pool, 1)?;
     let most = natural(pool, labels)?;
@@ -38,7 +40,9 @@ fn take_no_label(walk: &mut Walk, labels: u64, number: TermId) -> Result<(), NoM
     requires well { IsWalk walk.old }
     requires number { IsIn walk.old.pool number }
     ensures on { Follows walk.old walk.new }
-    ensures did { OnOk result (Does (moment walk.old) (λ w. forms.taken w (negated_tree w.sense (forms.counts_label w labels (tree_of walk.old.pool number)))) (moment walk.new) tt) }
+    ensures did { OnOk result (Does (moment walk.old) (λ w. forms.taken w
+        (negated_tree w.sense (forms.counts_label w labels (tree_of walk.old.pool number))))
+        (moment walk.new) tt) }
 {
     let Ok(fact) = no_label(&mut walk.pool, labels, number) else {
         return Err(NoMemory);
@@ -57,7 +61,8 @@ fn check_choice(
     requires well { IsWalk walk.old }
     requires number { IsIn walk.old.pool number }
     ensures on { Follows walk.old walk.new }
-    ensures did { OnOk result (Does (moment walk.old) (λ w. forms.choice_check w dialect card labels (tree_of walk.old.pool number)) (moment walk.new) tt) }
+    ensures did { OnOk result (Does (moment walk.old) (λ w. forms.choice_check w dialect card labels
+        (tree_of walk.old.pool number)) (moment walk.new) tt) }
 {
     match dialect {
         Dialect::Common => check_label(walk, card, labels, number),
@@ -75,9 +80,12 @@ fn pass_labels(
 ) -> Result<(), NoMemory>
     requires well { IsWalk walk.old }
     requires number { IsIn walk.old.pool number }
-    requires target { IsComputedTarget SeventySeven at.now.flow.now.setting.now.book.now.unit.now at.now.flow.now.graph.now.forks at.now.point labels.now at.now.target }
+    requires target { IsComputedTarget SeventySeven at.now.flow.now.setting.now.book.now.unit.now
+        at.now.flow.now.graph.now.forks at.now.point labels.now at.now.target }
     ensures on { Follows walk.old walk.new }
-    ensures did { OnOk result (PerformsIn walk.old.pool at.now.flow.now.setting.now (moment walk.old) (λ w. choices_of.passed w at.now.card (moment walk.old).now at.now.point (length labels.now) (tree_of walk.old.pool number) choices.now) (moment walk.new)) }
+    ensures did { OnOk result (PerformsIn walk.old.pool at.now.flow.now.setting.now
+        (moment walk.old) (λ w. choices_of.passed w at.now.card (moment walk.old).now at.now.point
+        (length labels.now) (tree_of walk.old.pool number) choices.now) (moment walk.new)) }
 {
     take_no_label(walk, labels.len() as u64, number)?;
     let Some(target) = at.turn(labels.len()) else {
@@ -96,9 +104,13 @@ fn choose(
 ) -> Result<(), NoMemory>
     requires well { IsWalk walk.old }
     requires number { IsIn walk.old.pool number }
-    requires target { IsComputedTarget at.now.flow.now.setting.now.scene.now.dialect at.now.flow.now.setting.now.book.now.unit.now at.now.flow.now.graph.now.forks at.now.point labels.now at.now.target }
+    requires target { IsComputedTarget at.now.flow.now.setting.now.scene.now.dialect
+        at.now.flow.now.setting.now.book.now.unit.now at.now.flow.now.graph.now.forks at.now.point
+        labels.now at.now.target }
     ensures on { Follows walk.old walk.new }
-    ensures did { OnOk result (PerformsIn walk.old.pool at.now.flow.now.setting.now (moment walk.old) (λ w. forms.selected w at.now.card at.now.point (moment walk.old).now (length labels.now) (tree_of walk.old.pool number) choices.now) (moment walk.new)) }
+    ensures did { OnOk result (PerformsIn walk.old.pool at.now.flow.now.setting.now
+        (moment walk.old) (λ w. forms.selected w at.now.card at.now.point (moment walk.old).now
+        (length labels.now) (tree_of walk.old.pool number) choices.now) (moment walk.new)) }
 {
     let [choice, more @ ..] = choices else {
         return Ok(());
@@ -123,9 +135,13 @@ pub fn select(
     choices: &[usize],
 ) -> Result<(), NoMemory>
     requires well { IsWalk walk.old }
-    requires target { IsComputedTarget at.now.flow.now.setting.now.scene.now.dialect at.now.flow.now.setting.now.book.now.unit.now at.now.flow.now.graph.now.forks at.now.point labels.now at.now.target }
+    requires target { IsComputedTarget at.now.flow.now.setting.now.scene.now.dialect
+        at.now.flow.now.setting.now.book.now.unit.now at.now.flow.now.graph.now.forks at.now.point
+        labels.now at.now.target }
     ensures on { Follows walk.old walk.new }
-    ensures did { OnOk result (PerformsIn walk.old.pool at.now.flow.now.setting.now (moment walk.old) (λ w. choices_of.selected w at.now.card (moment walk.old).now at.now.point selector.now (length labels.now) choices.now) (moment walk.new)) }
+    ensures did { OnOk result (PerformsIn walk.old.pool at.now.flow.now.setting.now
+        (moment walk.old) (λ w. choices_of.selected w at.now.card (moment walk.old).now
+        at.now.point selector.now (length labels.now) choices.now) (moment walk.new)) }
 {
     let number = read_name(walk, at.card, selector)?;
     let dialect = at.flow.setting.scene.dialect;

@@ -26,7 +26,9 @@ fn below_zero(walk: &mut Walk, number: TermId) -> Result<(), NoMemory>
     requires well { IsWalk walk.old }
     requires number { IsIn walk.old.pool number }
     ensures on { Follows walk.old walk.new }
-    ensures did { OnOk result (Does (moment walk.old) (λ w. forms.taken w (make2 of_terms Less (tree_of walk.old.pool number) (natural_tree of_terms 0))) (moment walk.new) tt) }
+    ensures did { OnOk result (Does (moment walk.old) (λ w. forms.taken w
+        (make2 of_terms Less (tree_of walk.old.pool number) (natural_tree of_terms 0)))
+        (moment walk.new) tt) }
 {
     let Ok(zero) = natural(&mut walk.pool, 0) else {
         return Err(NoMemory);
@@ -39,7 +41,9 @@ fn above_zero(walk: &mut Walk, number: TermId) -> Result<(), NoMemory>
     requires well { IsWalk walk.old }
     requires number { IsIn walk.old.pool number }
     ensures on { Follows walk.old walk.new }
-    ensures did { OnOk result (Does (moment walk.old) (λ w. forms.taken w (make2 of_terms Less (natural_tree of_terms 0) (tree_of walk.old.pool number))) (moment walk.new) tt) }
+    ensures did { OnOk result (Does (moment walk.old) (λ w. forms.taken w
+        (make2 of_terms Less (natural_tree of_terms 0) (tree_of walk.old.pool number)))
+        (moment walk.new) tt) }
 {
     let Ok(zero) = natural(&mut walk.pool, 0) else {
         return Err(NoMemory);
@@ -52,7 +56,8 @@ fn take_sign(walk: &mut Walk, number: TermId, choices: &[usize]) -> Result<(), N
     requires well { IsWalk walk.old }
     requires number { IsIn walk.old.pool number }
     ensures on { Follows walk.old walk.new }
-    ensures did { OnOk result (Does (moment walk.old) (λ w. forms.taken w (forms.sign_fact w (tree_of walk.old.pool number) choices.now)) (moment walk.new) tt) }
+    ensures did { OnOk result (Does (moment walk.old) (λ w. forms.taken w
+        (forms.sign_fact w (tree_of walk.old.pool number) choices.now)) (moment walk.new) tt) }
 {
     let choice = first_choice(choices);
     if choice == 1 {
@@ -69,7 +74,9 @@ pub fn sign(walk: &mut Walk, card: &Card, e: &Expr, choices: &[usize]) -> Result
     requires well { IsWalk walk.old }
     requires ready { (p : Program) × IsReady walk.old.pool card.now.setting.now.scene.now p }
     ensures on { Follows walk.old walk.new }
-    ensures did { OnOk result (PerformsIn walk.old.pool card.now.setting.now (moment walk.old) (λ w. choices_of.signed w card.now.number (moment walk.old).now e.now choices.now) (moment walk.new)) }
+    ensures did { OnOk result (PerformsIn walk.old.pool card.now.setting.now (moment walk.old)
+        (λ w. choices_of.signed w card.now.number (moment walk.old).now e.now choices.now)
+        (moment walk.new)) }
 {
     let number = value(walk, card, e)?;
     take_sign(walk, number, choices)

@@ -23,7 +23,9 @@ pub fn absolute(walk: &mut Walk, card: u32, a: TermId) -> Result<TermId, NoMemor
     requires a { IsIn walk.old.pool a }
     ensures on { Follows walk.old walk.new }
     ensures is_in { IfOk result (λ id. IsIn walk.new.pool id) }
-    ensures did { IfOk result (λ id. Does (moment walk.old) (λ w. steps.intrinsic_value w card Absolute (tree_of walk.old.pool a ∷ [])) (moment walk.new) (tree_of walk.new.pool id)) }
+    ensures did { IfOk result (λ id. Does (moment walk.old)
+        (λ w. steps.intrinsic_value w card Absolute (tree_of walk.old.pool a ∷ []))
+        (moment walk.new) (tree_of walk.new.pool id)) }
 {
     let Ok(value) = walk.pool.unary(BuiltIn::Absolute, a) else {
         return Err(NoMemory);
@@ -38,7 +40,9 @@ fn quotient_ranged(walk: &mut Walk, card: u32, a: TermId, b: TermId) -> Result<T
     requires a { IsIn walk.old.pool a }
     requires b { IsIn walk.old.pool b }
     ensures on { Follows walk.old walk.new }
-    ensures did { IfOk result (λ id. Does (moment walk.old) (λ w. steps.ranged w card (make2 of_terms Quotient (tree_of walk.old.pool a) (tree_of walk.old.pool b))) (moment walk.new) (tree_of walk.new.pool id)) }
+    ensures did { IfOk result (λ id. Does (moment walk.old) (λ w. steps.ranged w card
+        (make2 of_terms Quotient (tree_of walk.old.pool a) (tree_of walk.old.pool b)))
+        (moment walk.new) (tree_of walk.new.pool id)) }
 {
     let Ok(value) = walk.pool.binary(BuiltIn::Quotient, a, b) else {
         return Err(NoMemory);
@@ -54,7 +58,9 @@ pub fn modulo(walk: &mut Walk, card: u32, a: TermId, b: TermId) -> Result<TermId
     requires b { IsIn walk.old.pool b }
     ensures on { Follows walk.old walk.new }
     ensures is_in { IfOk result (λ id. IsIn walk.new.pool id) }
-    ensures did { IfOk result (λ id. Does (moment walk.old) (λ w. steps.intrinsic_value w card Modulo (tree_of walk.old.pool a ∷ tree_of walk.old.pool b ∷ [])) (moment walk.new) (tree_of walk.new.pool id)) }
+    ensures did { IfOk result (λ id. Does (moment walk.old)
+        (λ w. steps.intrinsic_value w card Modulo (tree_of walk.old.pool a ∷ tree_of walk.old.pool
+        b ∷ [])) (moment walk.new) (tree_of walk.new.pool id)) }
 {
     divisor(walk, card, b)?;
     quotient_ranged(walk, card, a, b)?;
@@ -75,7 +81,9 @@ pub fn folded(
     requires others { AllBelow (length pool.old) others.now }
     ensures grows { Grows pool.old pool.new }
     ensures is_in { IfOk result (λ id. IsIn pool.new id) }
-    ensures tree { IfOk result (λ id. (p : Program) (i : ℕ) (u : Routine) → tree_of pool.new id ≡ steps.folded (sight of_terms p i u) (greatest_or_least is_greatest) (tree_of pool.old first) (map (tree_of pool.old) others.now)) }
+    ensures tree { IfOk result (λ id. (p : Program) (i : ℕ) (u : Routine)
+        → tree_of pool.new id ≡ steps.folded (sight of_terms p i u) (greatest_or_least is_greatest)
+        (tree_of pool.old first) (map (tree_of pool.old) others.now)) }
 {
     let [other, rest @ ..] = others else {
         return Ok(first);
@@ -96,7 +104,8 @@ fn greater_or_less(
     requires b { IsIn pool.old b }
     ensures grows { Grows pool.old pool.new }
     ensures is_in { IfOk result (λ id. IsIn pool.new id) }
-    ensures tree { IfOk result (λ id. tree_of pool.new id ≡ make2 of_terms (greatest_or_least is_greatest) (tree_of pool.old a) (tree_of pool.old b)) }
+    ensures tree { IfOk result (λ id. tree_of pool.new id ≡ make2 of_terms
+        (greatest_or_least is_greatest) (tree_of pool.old a) (tree_of pool.old b)) }
 {
     if is_greatest {
         return pool.binary(BuiltIn::Maximum, a, b);

@@ -22,7 +22,8 @@ fn check_subscript(walk: &mut Walk, card: u32, subscript: TermId, dim: Dim) -> R
     requires well { IsWalk walk.old }
     requires subscript { IsIn walk.old.pool subscript }
     ensures on { Follows walk.old walk.new }
-    ensures met { OnOk result (moment walk.new ≡ with_event (moment walk.old) (subscript_check card (moment walk.old).now (tree_of walk.old.pool subscript) dim)) }
+    ensures met { OnOk result (moment walk.new ≡ with_event (moment walk.old)
+        (subscript_check card (moment walk.old).now (tree_of walk.old.pool subscript) dim)) }
 {
     let Ok(goal) = subscript_fits(walk.alloc, &mut walk.pool, &walk.names, subscript, dim) else {
         return Err(NoMemory);
@@ -41,7 +42,9 @@ fn check_subscripts(
     requires well { IsWalk walk.old }
     requires subscripts { AllBelow (length walk.old.pool) subscripts.now }
     ensures on { Follows walk.old walk.new }
-    ensures met { OnOk result (moment walk.new ≡ with_events (moment walk.old) (checks SubscriptCheck card (subscripts_fit of_terms (moment walk.old).now (map (tree_of walk.old.pool) subscripts.now) dims.now))) }
+    ensures met { OnOk result (moment walk.new ≡ with_events (moment walk.old)
+        (checks SubscriptCheck card (subscripts_fit of_terms (moment walk.old).now
+        (map (tree_of walk.old.pool) subscripts.now) dims.now))) }
 {
     let [subscript, more @ ..] = subscripts else {
         return Ok(());
@@ -65,7 +68,9 @@ pub fn place_checked(
     requires subscripts { AllBelow (length walk.old.pool) subscripts.now }
     ensures on { Follows walk.old walk.new }
     ensures is_in { IfOk result (λ id. IsIn walk.new.pool id) }
-    ensures did { IfOk result (λ id. Does (moment walk.old) (λ w. steps.place_checked w card (moment walk.old).now dims.now (map (tree_of walk.old.pool) subscripts.now)) (moment walk.new) (tree_of walk.new.pool id)) }
+    ensures did { IfOk result (λ id. Does (moment walk.old) (λ w. steps.place_checked w card
+        (moment walk.old).now dims.now (map (tree_of walk.old.pool) subscripts.now))
+        (moment walk.new) (tree_of walk.new.pool id)) }
 {
     check_subscripts(walk, card, subscripts, dims)?;
     let Ok(id) = place(walk.alloc, &mut walk.pool, &walk.names, subscripts, dims) else {

@@ -31,7 +31,8 @@ module _ (w : Sight Tree) (card : ℕ) (now : Named Tree) where
 
   -- a reference to a FUNCTION
   abbrev pub of_reference : Name → List Expr → See Tree (Operand Tree)
-  of_reference a args = operands w card now (row_of args) >>= λ xs. call w card (function w.program.units a) now xs >>= λ c. see (Computed (c.1))
+  of_reference a args = operands w card now (row_of args) >>= λ xs. call w card (function w.program.units a)
+      now xs >>= λ c. see (Computed (c.1))
 
   -- a name with expressions in brackets behind it
   abbrev pub of_applied : Name → List Expr → See Tree (Operand Tree)

@@ -32,7 +32,9 @@ pub fn operand(walk: &mut Walk, card: &Card, e: &Expr) -> Result<Operand, NoMemo
     requires ready { (p : Program) × IsReady walk.old.pool card.now.setting.now.scene.now p }
     ensures on { Follows walk.old walk.new }
     ensures is_in { IfOk result (λ x. IsOperandIn (length walk.new.pool) x) }
-    ensures did { IfOk result (λ x. DoesIn walk.old.pool card.now.setting.now (moment walk.old) (λ w. steps.operand w card.now.number (moment walk.old).now e.now) (moment walk.new) (operand_tree walk.new.pool x)) }
+    ensures did { IfOk result (λ x. DoesIn walk.old.pool card.now.setting.now (moment walk.old)
+        (λ w. steps.operand w card.now.number (moment walk.old).now e.now) (moment walk.new)
+        (operand_tree walk.new.pool x)) }
 {
     match e {
         Expr::Const(c) => constant_of(walk, card.setting.scene.bound, card.number, *c),
@@ -71,8 +73,11 @@ fn part_value(walk: &mut Walk, card: &Card, e: &Expr) -> Result<TermId, NoMemory
     requires ready { (p : Program) × IsReady walk.old.pool card.now.setting.now.scene.now p }
     ensures on { Follows walk.old walk.new }
     ensures is_in { IfOk result (λ id. IsIn walk.new.pool id) }
-    ensures ready { IfOk result (λ _. (p : Program) × IsReady walk.new.pool card.now.setting.now.scene.now p) }
-    ensures did { IfOk result (λ id. DoesIn walk.old.pool card.now.setting.now (moment walk.old) (λ w. steps.value w card.now.number (moment walk.old).now e.now) (moment walk.new) (tree_of walk.new.pool id)) }
+    ensures ready { IfOk result (λ _. (p : Program)
+        × IsReady walk.new.pool card.now.setting.now.scene.now p) }
+    ensures did { IfOk result (λ id. DoesIn walk.old.pool card.now.setting.now (moment walk.old)
+        (λ w. steps.value w card.now.number (moment walk.old).now e.now) (moment walk.new)
+        (tree_of walk.new.pool id)) }
 {
     let part = operand(walk, card, e)?;
     let id = read_operand(walk, card.number, part)?;
@@ -86,7 +91,9 @@ fn single(walk: &mut Walk, card: &Card, op: Unary, a: &Expr) -> Result<Operand, 
     requires ready { (p : Program) × IsReady walk.old.pool card.now.setting.now.scene.now p }
     ensures on { Follows walk.old walk.new }
     ensures is_in { IfOk result (λ x. IsOperandIn (length walk.new.pool) x) }
-    ensures did { IfOk result (λ x. DoesIn walk.old.pool card.now.setting.now (moment walk.old) (λ w. parts.of_single w card.now.number (moment walk.old).now op a.now) (moment walk.new) (operand_tree walk.new.pool x)) }
+    ensures did { IfOk result (λ x. DoesIn walk.old.pool card.now.setting.now (moment walk.old)
+        (λ w. parts.of_single w card.now.number (moment walk.old).now op a.now) (moment walk.new)
+        (operand_tree walk.new.pool x)) }
 {
     let first = part_value(walk, card, a)?;
     let id = unary_value(walk, card.number, op, first)?;
@@ -107,7 +114,9 @@ fn second(
     requires first { IsIn walk.old.pool first }
     ensures on { Follows walk.old walk.new }
     ensures is_in { IfOk result (λ x. IsOperandIn (length walk.new.pool) x) }
-    ensures did { IfOk result (λ x. DoesIn walk.old.pool card.now.setting.now (moment walk.old) (λ w. parts.of_second w card.now.number (moment walk.old).now op (tree_of walk.old.pool first) b.now) (moment walk.new) (operand_tree walk.new.pool x)) }
+    ensures did { IfOk result (λ x. DoesIn walk.old.pool card.now.setting.now (moment walk.old)
+        (λ w. parts.of_second w card.now.number (moment walk.old).now op
+        (tree_of walk.old.pool first) b.now) (moment walk.new) (operand_tree walk.new.pool x)) }
 {
     let other = part_value(walk, card, b)?;
     let id = binary_value(walk, card.number, op, first, other)?;
@@ -120,7 +129,9 @@ pub fn value(walk: &mut Walk, card: &Card, e: &Expr) -> Result<TermId, NoMemory>
     requires ready { (p : Program) × IsReady walk.old.pool card.now.setting.now.scene.now p }
     ensures on { Follows walk.old walk.new }
     ensures is_in { IfOk result (λ id. IsIn walk.new.pool id) }
-    ensures did { IfOk result (λ id. DoesIn walk.old.pool card.now.setting.now (moment walk.old) (λ w. steps.value w card.now.number (moment walk.old).now e.now) (moment walk.new) (tree_of walk.new.pool id)) }
+    ensures did { IfOk result (λ id. DoesIn walk.old.pool card.now.setting.now (moment walk.old)
+        (λ w. steps.value w card.now.number (moment walk.old).now e.now) (moment walk.new)
+        (tree_of walk.new.pool id)) }
 {
     let Ok(id) = part_value(walk, card, e) else {
         return Err(NoMemory);
@@ -135,7 +146,9 @@ pub fn values(walk: &mut Walk, card: &Card, args: &[Expr]) -> Result<Vec<TermId>
     requires ready { (p : Program) × IsReady walk.old.pool card.now.setting.now.scene.now p }
     ensures on { Follows walk.old walk.new }
     ensures is_in { IfOk result (λ ids. AllBelow (length walk.new.pool) ids.items) }
-    ensures did { IfOk result (λ ids. DoesIn walk.old.pool card.now.setting.now (moment walk.old) (λ w. steps.values w card.now.number (moment walk.old).now (row_of args.now)) (moment walk.new) (map (tree_of walk.new.pool) ids.items)) }
+    ensures did { IfOk result (λ ids. DoesIn walk.old.pool card.now.setting.now (moment walk.old)
+        (λ w. steps.values w card.now.number (moment walk.old).now (row_of args.now))
+        (moment walk.new) (map (tree_of walk.new.pool) ids.items)) }
 {
     let mut all = Vec::new(walk.alloc);
     for e in args {
@@ -154,7 +167,9 @@ pub fn operands(walk: &mut Walk, card: &Card, args: &[Expr]) -> Result<Vec<Opera
     requires ready { (p : Program) × IsReady walk.old.pool card.now.setting.now.scene.now p }
     ensures on { Follows walk.old walk.new }
     ensures is_in { IfOk result (λ xs. AreOperandsIn (length walk.new.pool) xs.items) }
-    ensures did { IfOk result (λ xs. DoesIn walk.old.pool card.now.setting.now (moment walk.old) (λ w. steps.operands w card.now.number (moment walk.old).now (row_of args.now)) (moment walk.new) (operand_trees walk.new.pool xs.items)) }
+    ensures did { IfOk result (λ xs. DoesIn walk.old.pool card.now.setting.now (moment walk.old)
+        (λ w. steps.operands w card.now.number (moment walk.old).now (row_of args.now))
+        (moment walk.new) (operand_trees walk.new.pool xs.items)) }
 {
     let mut all = Vec::new(walk.alloc);
     for e in args {
@@ -173,7 +188,9 @@ fn element(walk: &mut Walk, card: &Card, a: &Name, args: &[Expr]) -> Result<Oper
     requires ready { (p : Program) × IsReady walk.old.pool card.now.setting.now.scene.now p }
     ensures on { Follows walk.old walk.new }
     ensures is_in { IfOk result (λ x. IsOperandIn (length walk.new.pool) x) }
-    ensures did { IfOk result (λ x. DoesIn walk.old.pool card.now.setting.now (moment walk.old) (λ w. parts.of_element w card.now.number (moment walk.old).now a.now args.now) (moment walk.new) (operand_tree walk.new.pool x)) }
+    ensures did { IfOk result (λ x. DoesIn walk.old.pool card.now.setting.now (moment walk.old)
+        (λ w. parts.of_element w card.now.number (moment walk.old).now a.now args.now)
+        (moment walk.new) (operand_tree walk.new.pool x)) }
 {
     let subscripts = values(walk, card, args)?;
     let dims = card.setting.book.dims(a);
@@ -193,7 +210,9 @@ fn built_in(
     requires ready { (p : Program) × IsReady walk.old.pool card.now.setting.now.scene.now p }
     ensures on { Follows walk.old walk.new }
     ensures is_in { IfOk result (λ x. IsOperandIn (length walk.new.pool) x) }
-    ensures did { IfOk result (λ x. DoesIn walk.old.pool card.now.setting.now (moment walk.old) (λ w. parts.of_built_in w card.now.number (moment walk.old).now (meaning function) args.now) (moment walk.new) (operand_tree walk.new.pool x)) }
+    ensures did { IfOk result (λ x. DoesIn walk.old.pool card.now.setting.now (moment walk.old)
+        (λ w. parts.of_built_in w card.now.number (moment walk.old).now (meaning function) args.now)
+        (moment walk.new) (operand_tree walk.new.pool x)) }
 {
     let given = values(walk, card, args)?;
     let id = intrinsic_value(walk, card.number, function, given.as_slice())?;
@@ -207,7 +226,9 @@ fn reference(walk: &mut Walk, card: &Card, a: &Name, args: &[Expr]) -> Result<Op
     requires ready { (p : Program) × IsReady walk.old.pool card.now.setting.now.scene.now p }
     ensures on { Follows walk.old walk.new }
     ensures is_in { IfOk result (λ x. IsOperandIn (length walk.new.pool) x) }
-    ensures did { IfOk result (λ x. DoesIn walk.old.pool card.now.setting.now (moment walk.old) (λ w. parts.of_reference w card.now.number (moment walk.old).now a.now args.now) (moment walk.new) (operand_tree walk.new.pool x)) }
+    ensures did { IfOk result (λ x. DoesIn walk.old.pool card.now.setting.now (moment walk.old)
+        (λ w. parts.of_reference w card.now.number (moment walk.old).now a.now args.now)
+        (moment walk.new) (operand_tree walk.new.pool x)) }
 {
     let actuals = operands(walk, card, args)?;
     let callee = card.setting.function(a);
@@ -222,7 +243,9 @@ fn applied(walk: &mut Walk, card: &Card, a: &Name, args: &[Expr]) -> Result<Oper
     requires ready { (p : Program) × IsReady walk.old.pool card.now.setting.now.scene.now p }
     ensures on { Follows walk.old walk.new }
     ensures is_in { IfOk result (λ x. IsOperandIn (length walk.new.pool) x) }
-    ensures did { IfOk result (λ x. DoesIn walk.old.pool card.now.setting.now (moment walk.old) (λ w. parts.of_applied w card.now.number (moment walk.old).now a.now args.now) (moment walk.new) (operand_tree walk.new.pool x)) }
+    ensures did { IfOk result (λ x. DoesIn walk.old.pool card.now.setting.now (moment walk.old)
+        (λ w. parts.of_applied w card.now.number (moment walk.old).now a.now args.now)
+        (moment walk.new) (operand_tree walk.new.pool x)) }
 {
     if !card.setting.book.dims(a).is_empty() {
         return element(walk, card, a, args);

@@ -17,7 +17,8 @@ pub fn take_true(walk: &mut Walk, a: TermId) -> Result<(), NoMemory>
     requires well { IsWalk walk.old }
     requires a { IsIn walk.old.pool a }
     ensures on { Follows walk.old walk.new }
-    ensures did { OnOk result (Does (moment walk.old) (λ w. taken w (tree_of walk.old.pool a)) (moment walk.new) tt) }
+    ensures did { OnOk result (Does (moment walk.old) (λ w. taken w (tree_of walk.old.pool a))
+        (moment walk.new) tt) }
 {
     walk.take(a)?;
     Ok(())
@@ -28,7 +29,8 @@ pub fn take_not(walk: &mut Walk, a: TermId) -> Result<(), NoMemory>
     requires well { IsWalk walk.old }
     requires a { IsIn walk.old.pool a }
     ensures on { Follows walk.old walk.new }
-    ensures did { OnOk result (Does (moment walk.old) (λ w. taken w (negated_tree of_terms (tree_of walk.old.pool a))) (moment walk.new) tt) }
+    ensures did { OnOk result (Does (moment walk.old) (λ w. taken w (negated_tree of_terms
+        (tree_of walk.old.pool a))) (moment walk.new) tt) }
 {
     let Ok(fact) = negated(&mut walk.pool, a) else {
         return Err(NoMemory);
@@ -43,7 +45,8 @@ pub fn take_at_most(walk: &mut Walk, a: TermId, b: TermId) -> Result<(), NoMemor
     requires a { IsIn walk.old.pool a }
     requires b { IsIn walk.old.pool b }
     ensures on { Follows walk.old walk.new }
-    ensures did { OnOk result (Does (moment walk.old) (λ w. taken w (make2 of_terms AtMost (tree_of walk.old.pool a) (tree_of walk.old.pool b))) (moment walk.new) tt) }
+    ensures did { OnOk result (Does (moment walk.old) (λ w. taken w (make2 of_terms AtMost
+        (tree_of walk.old.pool a) (tree_of walk.old.pool b))) (moment walk.new) tt) }
 {
     let Ok(fact) = walk.pool.binary(BuiltIn::AtMost, a, b) else {
         return Err(NoMemory);
@@ -58,7 +61,8 @@ pub fn take_less(walk: &mut Walk, a: TermId, b: TermId) -> Result<(), NoMemory>
     requires a { IsIn walk.old.pool a }
     requires b { IsIn walk.old.pool b }
     ensures on { Follows walk.old walk.new }
-    ensures did { OnOk result (Does (moment walk.old) (λ w. taken w (make2 of_terms Less (tree_of walk.old.pool a) (tree_of walk.old.pool b))) (moment walk.new) tt) }
+    ensures did { OnOk result (Does (moment walk.old) (λ w. taken w (make2 of_terms Less
+        (tree_of walk.old.pool a) (tree_of walk.old.pool b))) (moment walk.new) tt) }
 {
     let Ok(fact) = walk.pool.binary(BuiltIn::Less, a, b) else {
         return Err(NoMemory);
@@ -72,7 +76,8 @@ pub fn take_equals(walk: &mut Walk, a: TermId, n: u64) -> Result<(), NoMemory>
     requires well { IsWalk walk.old }
     requires a { IsIn walk.old.pool a }
     ensures on { Follows walk.old walk.new }
-    ensures did { OnOk result (Does (moment walk.old) (λ w. taken w (make2 of_terms Equal (tree_of walk.old.pool a) (natural_tree of_terms n))) (moment walk.new) tt) }
+    ensures did { OnOk result (Does (moment walk.old) (λ w. taken w (make2 of_terms Equal
+        (tree_of walk.old.pool a) (natural_tree of_terms n))) (moment walk.new) tt) }
 {
     let Ok(number) = natural(&mut walk.pool, n) else {
         return Err(NoMemory);

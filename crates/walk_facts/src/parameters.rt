@@ -18,7 +18,8 @@ pub fn read_name(walk: &mut Walk, card: u32, name: &Name) -> Result<TermId, NoMe
     requires { IsWalk walk.old }
     ensures on { Follows walk.old walk.new }
     ensures is_in { IfOk result (λ id. IsIn walk.new.pool id) }
-    ensures did { IfOk result (λ id. Does (moment walk.old) (λ w. steps.read w card ((moment walk.old).now name.now)) (moment walk.new) (tree_of walk.new.pool id)) }
+    ensures did { IfOk result (λ id. Does (moment walk.old) (λ w. steps.read w card
+        ((moment walk.old).now name.now)) (moment walk.new) (tree_of walk.new.pool id)) }
 {
     let value = walk.term(name)?;
     read(walk, card, value)?;
@@ -30,7 +31,9 @@ pub fn parameter(walk: &mut Walk, bound: u64, card: u32, param: Param) -> Result
     requires { IsWalk walk.old }
     ensures on { Follows walk.old walk.new }
     ensures is_in { IfOk result (λ id. IsIn walk.new.pool id) }
-    ensures did { IfOk result (λ id. DoesWithin bound (moment walk.old) (λ w. forms.parameter w card (moment walk.old).now param) (moment walk.new) (tree_of walk.new.pool id)) }
+    ensures did { IfOk result (λ id. DoesWithin bound (moment walk.old)
+        (λ w. forms.parameter w card (moment walk.old).now param) (moment walk.new)
+        (tree_of walk.new.pool id)) }
 {
     match param {
         Param::Fixed(c) => constant(walk, bound, card, c),
@@ -51,7 +54,9 @@ pub fn step_value(
     requires { IsWalk walk.old }
     ensures on { Follows walk.old walk.new }
     ensures is_in { IfOk result (λ id. IsIn walk.new.pool id) }
-    ensures did { IfOk result (λ id. DoesWithin bound (moment walk.old) (λ w. forms.step_value w card (moment walk.old).now step) (moment walk.new) (tree_of walk.new.pool id)) }
+    ensures did { IfOk result (λ id. DoesWithin bound (moment walk.old)
+        (λ w. forms.step_value w card (moment walk.old).now step) (moment walk.new)
+        (tree_of walk.new.pool id)) }
 {
     let Some(param) = step else {
         let Ok(one) = natural(&mut walk.pool, 1) else {

@@ -19,7 +19,8 @@ fn counts(pool: &mut TermPool, labels: u64, number: TermId) -> Result<TermId, No
     requires { IsIn pool.old number }
     ensures grows { Grows pool.old pool.new }
     ensures is_in { IfOk result (λ id. IsIn pool.new id) }
-    ensures tree { IfOk result (λ id. tree_of pool.new id ≡ lies_from_to of_terms (natural_tree of_terms 1) (natural_tree of_terms labels) (tree_of pool.old number)) }
+    ensures tree { IfOk result (λ id. tree_of pool.new id ≡ lies_from_to of_terms
+        (natural_tree of_terms 1) (natural_tree of_terms labels) (tree_of pool.old number)) }
 {
     let least = natural(pool, 1)?;
     let most = natural(pool, labels)?;
@@ -32,7 +33,8 @@ pub fn check_label(walk: &mut Walk, card: u32, labels: u64, number: TermId) -> R
     requires well { IsWalk walk.old }
     requires number { IsIn walk.old.pool number }
     ensures on { Follows walk.old walk.new }
-    ensures did { OnOk result (Does (moment walk.old) (λ w. checked w ChoiceCheck card (counts_label w labels (tree_of walk.old.pool number))) (moment walk.new) tt) }
+    ensures did { OnOk result (Does (moment walk.old) (λ w. checked w ChoiceCheck card
+        (counts_label w labels (tree_of walk.old.pool number))) (moment walk.new) tt) }
 {
     let Ok(goal) = counts(&mut walk.pool, labels, number) else {
         return Err(NoMemory);
@@ -45,7 +47,8 @@ pub fn check_label(walk: &mut Walk, card: u32, labels: u64, number: TermId) -> R
 pub fn check_result(walk: &mut Walk, card: u32, own: &Name) -> Result<(), NoMemory>
     requires { IsWalk walk.old }
     ensures on { Follows walk.old walk.new }
-    ensures did { OnOk result (Does (moment walk.old) (λ w. checked w ResultCheck card (is_defined of_terms ((moment walk.old).now own.now))) (moment walk.new) tt) }
+    ensures did { OnOk result (Does (moment walk.old) (λ w. checked w ResultCheck card
+        (is_defined of_terms ((moment walk.old).now own.now))) (moment walk.new) tt) }
 {
     let value = walk.term(own)?;
     let Ok(goal) = defined(&mut walk.pool, value) else {

@@ -73,8 +73,11 @@ impl<'a> UnitFlow<'a> {
     /// Where the statement at a point leads.
     pub fn start(&self, point: usize) -> Target
         requires within { point < length self.now.setting.now.book.now.unit.now.lines }
-        requires graph { (notes : Notes) × IsGraphOf self.now.setting.now.scene.now.dialect self.now.setting.now.book.now.unit.now notes self.now.graph.now }
-        ensures { (line : Line) → slice_get self.now.setting.now.book.now.unit.now.lines point ≡ Some line → IsTargetOf self.now.setting.now.scene.now.dialect self.now.setting.now.book.now.unit.now self.now.graph.now.forks point line.stmt result }
+        requires graph { (notes : Notes) × IsGraphOf self.now.setting.now.scene.now.dialect
+            self.now.setting.now.book.now.unit.now notes self.now.graph.now }
+        ensures { (line : Line) → slice_get self.now.setting.now.book.now.unit.now.lines point
+            ≡ Some line → IsTargetOf self.now.setting.now.scene.now.dialect
+            self.now.setting.now.book.now.unit.now self.now.graph.now.forks point line.stmt result }
     {
         match target_at(self.graph.starts.as_slice(), point) {
             Some(target) => target,
@@ -84,7 +87,8 @@ impl<'a> UnitFlow<'a> {
 
     /// The card of the first statement with a label; 0 where there is none.
     pub fn card_of_label(&self, label: u32) -> u32
-        ensures { result ≡ card_in (slice_get self.now.setting.now.book.now.unit.now.lines (flow.target self.now.setting.now.book.now.unit.now.lines label)) }
+        ensures { result ≡ card_in (slice_get self.now.setting.now.book.now.unit.now.lines
+            (flow.target self.now.setting.now.book.now.unit.now.lines label)) }
     {
         let lines = self.setting.book.unit.lines.as_slice();
         match lines.get(self.labels.point(lines, label)) {

@@ -42,7 +42,9 @@ fn test_at(unit: &Unit, at: u32) -> Option<DoTest>
 
 /// The test of the first of the DOs that a target stands for.
 pub fn next_test(flow: &UnitFlow, target: Target) -> Option<NextTest>
-    ensures { (q : ℕ) (ds : List Loop) → AreTests flow.now.graph.now.forks q ds target → AreLoopsOf flow.now.setting.now.book.now.unit.now ds → IsNextTest flow.now.setting.now.book.now.unit.now flow.now.graph.now.forks q ds result }
+    ensures { (q : ℕ) (ds : List Loop) → AreTests flow.now.graph.now.forks q ds target
+        → AreLoopsOf flow.now.setting.now.book.now.unit.now ds
+        → IsNextTest flow.now.setting.now.book.now.unit.now flow.now.graph.now.forks q ds result }
 {
     let Target::Fork(number) = target else {
         return None;

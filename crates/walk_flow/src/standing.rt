@@ -46,7 +46,9 @@ impl<'a> Standing<'a> {
 
     /// Where the flow goes on by a choice, counted from 0, where it goes on with a fork.
     pub fn turn(&self, choice: usize) -> Option<Target>
-        ensures { (tested : Option ℕ) (targets : List Goal) → IsForkTo self.now.flow.now.graph.now.forks self.now.target tested targets → result ≡ slice_get targets choice }
+        ensures { (tested : Option ℕ) (targets : List Goal)
+            → IsForkTo self.now.flow.now.graph.now.forks self.now.target tested targets
+            → result ≡ slice_get targets choice }
     {
         let Target::Fork(number) = self.target else {
             return None;

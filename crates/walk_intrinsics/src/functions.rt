@@ -21,7 +21,8 @@ fn nothing(walk: &mut Walk) -> Result<TermId, NoMemory>
     requires { IsWalk walk.old }
     ensures on { Follows walk.old walk.new }
     ensures is_in { IfOk result (λ id. IsIn walk.new.pool id) }
-    ensures did { IfOk result (λ id. Does (moment walk.old) (λ w. see (undefined_tree of_terms)) (moment walk.new) (tree_of walk.new.pool id)) }
+    ensures did { IfOk result (λ id. Does (moment walk.old) (λ w. see (undefined_tree of_terms))
+        (moment walk.new) (tree_of walk.new.pool id)) }
 {
     let Ok(id) = undefined(&mut walk.pool) else {
         return Err(NoMemory);
@@ -35,7 +36,9 @@ fn absolute_of(walk: &mut Walk, card: u32, values: &[TermId]) -> Result<TermId, 
     requires values { AllBelow (length walk.old.pool) values.now }
     ensures on { Follows walk.old walk.new }
     ensures is_in { IfOk result (λ id. IsIn walk.new.pool id) }
-    ensures did { IfOk result (λ id. Does (moment walk.old) (λ w. steps.intrinsic_value w card names.Absolute (map (tree_of walk.old.pool) values.now)) (moment walk.new) (tree_of walk.new.pool id)) }
+    ensures did { IfOk result (λ id. Does (moment walk.old)
+        (λ w. steps.intrinsic_value w card names.Absolute (map (tree_of walk.old.pool) values.now))
+        (moment walk.new) (tree_of walk.new.pool id)) }
 {
     let count = values.len();
     if count != 1 {
@@ -52,7 +55,9 @@ fn modulo_of(walk: &mut Walk, card: u32, values: &[TermId]) -> Result<TermId, No
     requires values { AllBelow (length walk.old.pool) values.now }
     ensures on { Follows walk.old walk.new }
     ensures is_in { IfOk result (λ id. IsIn walk.new.pool id) }
-    ensures did { IfOk result (λ id. Does (moment walk.old) (λ w. steps.intrinsic_value w card names.Modulo (map (tree_of walk.old.pool) values.now)) (moment walk.new) (tree_of walk.new.pool id)) }
+    ensures did { IfOk result (λ id. Does (moment walk.old)
+        (λ w. steps.intrinsic_value w card names.Modulo (map (tree_of walk.old.pool) values.now))
+        (moment walk.new) (tree_of walk.new.pool id)) }
 {
     let count = values.len();
     if count != 2 {
@@ -69,7 +74,9 @@ fn folded_of(walk: &mut Walk, is_greatest: bool, values: &[TermId]) -> Result<Te
     requires values { AllBelow (length walk.old.pool) values.now }
     ensures on { Follows walk.old walk.new }
     ensures is_in { IfOk result (λ id. IsIn walk.new.pool id) }
-    ensures did { IfOk result (λ id. (card : ℕ) → Does (moment walk.old) (λ w. steps.intrinsic_value w card (greatest_or_least is_greatest) (map (tree_of walk.old.pool) values.now)) (moment walk.new) (tree_of walk.new.pool id)) }
+    ensures did { IfOk result (λ id. (card : ℕ) → Does (moment walk.old)
+        (λ w. steps.intrinsic_value w card (greatest_or_least is_greatest)
+        (map (tree_of walk.old.pool) values.now)) (moment walk.new) (tree_of walk.new.pool id)) }
 {
     let [first, rest @ ..] = values else {
         let none = nothing(walk)?;
@@ -93,7 +100,9 @@ pub fn intrinsic_value(
     requires values { AllBelow (length walk.old.pool) values.now }
     ensures on { Follows walk.old walk.new }
     ensures is_in { IfOk result (λ id. IsIn walk.new.pool id) }
-    ensures did { IfOk result (λ id. Does (moment walk.old) (λ w. steps.intrinsic_value w card (meaning function) (map (tree_of walk.old.pool) values.now)) (moment walk.new) (tree_of walk.new.pool id)) }
+    ensures did { IfOk result (λ id. Does (moment walk.old) (λ w. steps.intrinsic_value w card
+        (meaning function) (map (tree_of walk.old.pool) values.now)) (moment walk.new)
+        (tree_of walk.new.pool id)) }
 {
     match function {
         Function::Absolute => {

@@ -16,7 +16,8 @@ pub fn take_all(walk: &mut Walk, facts: &[TermId]) -> Result<(), NoMemory>
     requires well { IsWalk walk.old }
     requires facts { AllBelow (length walk.old.pool) facts.now }
     ensures on { Follows walk.old walk.new }
-    ensures did { OnOk result (Did (moment walk.old) (meet (takes (trees_in walk.old.pool facts.now))) (moment walk.new) tt) }
+    ensures did { OnOk result (Did (moment walk.old)
+        (meet (takes (trees_in walk.old.pool facts.now))) (moment walk.new) tt) }
 {
     for fact in facts {
         walk.take(*fact)?;
@@ -29,7 +30,8 @@ pub fn check_all(walk: &mut Walk, kind: Kind, card: u32, goals: &[TermId]) -> Re
     requires well { IsWalk walk.old }
     requires goals { AllBelow (length walk.old.pool) goals.now }
     ensures on { Follows walk.old walk.new }
-    ensures did { OnOk result (Did (moment walk.old) (meet (checks kind card (trees_in walk.old.pool goals.now))) (moment walk.new) tt) }
+    ensures did { OnOk result (Did (moment walk.old)
+        (meet (checks kind card (trees_in walk.old.pool goals.now))) (moment walk.new) tt) }
 {
     for goal in goals {
         walk.check(kind, card, *goal)?;

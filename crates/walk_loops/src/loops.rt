@@ -22,7 +22,8 @@ fn positive(pool: &mut TermPool, number: TermId) -> Result<TermId, NoMemory>
     requires { IsIn pool.old number }
     ensures grows { Grows pool.old pool.new }
     ensures is_in { IfOk result (λ id. IsIn pool.new id) }
-    ensures tree { IfOk result (λ id. tree_of pool.new id ≡ make2 of_terms AtMost (natural_tree of_terms 1) (tree_of pool.old number)) }
+    ensures tree { IfOk result (λ id. tree_of pool.new id ≡ make2 of_terms AtMost
+        (natural_tree of_terms 1) (tree_of pool.old number)) }
 {
     let one = natural(pool, 1)?;
     let at_least = pool.binary(BuiltIn::AtMost, one, number)?;
@@ -36,7 +37,8 @@ fn fits(pool: &mut TermPool, first: TermId, last: TermId, step: TermId) -> Resul
     requires step { IsIn pool.old step }
     ensures grows { Grows pool.old pool.new }
     ensures is_in { IfOk result (λ id. IsIn pool.new id) }
-    ensures tree { IfOk result (λ id. tree_of pool.new id ≡ loops.fits (tree_of pool.old first) (tree_of pool.old last) (tree_of pool.old step)) }
+    ensures tree { IfOk result (λ id. tree_of pool.new id ≡ loops.fits (tree_of pool.old first)
+        (tree_of pool.old last) (tree_of pool.old step)) }
 {
     let begins = positive(pool, first)?;
     let goes_up = pool.binary(BuiltIn::AtMost, first, last)?;
@@ -58,7 +60,9 @@ pub fn check_loop(
     requires last { IsIn walk.old.pool last }
     requires step { IsIn walk.old.pool step }
     ensures on { Follows walk.old walk.new }
-    ensures did { OnOk result (Does (moment walk.old) (λ w. checked w LoopCheck card (loops.fits (tree_of walk.old.pool first) (tree_of walk.old.pool last) (tree_of walk.old.pool step))) (moment walk.new) tt) }
+    ensures did { OnOk result (Does (moment walk.old) (λ w. checked w LoopCheck card
+        (loops.fits (tree_of walk.old.pool first) (tree_of walk.old.pool last)
+        (tree_of walk.old.pool step))) (moment walk.new) tt) }
 {
     let Ok(goal) = fits(&mut walk.pool, first, last, step) else {
         return Err(NoMemory);
@@ -72,7 +76,9 @@ pub fn check_step(walk: &mut Walk, card: u32, step: TermId) -> Result<(), NoMemo
     requires well { IsWalk walk.old }
     requires step { IsIn walk.old.pool step }
     ensures on { Follows walk.old walk.new }
-    ensures did { OnOk result (Does (moment walk.old) (λ w. checked w LoopCheck card (make2 of_terms AtMost (natural_tree of_terms 1) (tree_of walk.old.pool step))) (moment walk.new) tt) }
+    ensures did { OnOk result (Does (moment walk.old) (λ w. checked w LoopCheck card
+        (make2 of_terms AtMost (natural_tree of_terms 1) (tree_of walk.old.pool step)))
+        (moment walk.new) tt) }
 {
     let Ok(goal) = positive(&mut walk.pool, step) else {
         return Err(NoMemory);
@@ -92,7 +98,9 @@ pub fn next_sum(
     requires { IsWalk walk.old }
     ensures on { Follows walk.old walk.new }
     ensures is_in { IfOk result (λ id. IsIn walk.new.pool id) }
-    ensures did { IfOk result (λ id. DoesWithin bound (moment walk.old) (λ w. loops.next_sum w card (moment walk.old).now variable.now step) (moment walk.new) (tree_of walk.new.pool id)) }
+    ensures did { IfOk result (λ id. DoesWithin bound (moment walk.old)
+        (λ w. loops.next_sum w card (moment walk.old).now variable.now step) (moment walk.new)
+        (tree_of walk.new.pool id)) }
 {
     let value = read_name(walk, card, variable)?;
     let by = step_value(walk, bound, card, step)?;

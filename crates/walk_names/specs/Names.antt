@@ -58,7 +58,8 @@ pub record IsSame (old_nodes : List Node) (old : Names) (new_nodes : List Node) 
   pub extends : Extends old.table new.table
 
 -- one name stands for something new
-pub record IsSet (old_nodes : List Node) (old : Names) (new_nodes : List Node) (new : Names) (x : List ℕ) (t : Tree) : Type 0 where
+pub record IsSet (old_nodes : List Node) (old : Names) (new_nodes : List Node) (new : Names) (x : List ℕ)
+    (t : Tree) : Type 0 where
   pub kept : IsNames new_nodes new
   pub now : named new_nodes new ≡ with_name (named old_nodes old) x t
   pub before : past new_nodes new ≡ past old_nodes old

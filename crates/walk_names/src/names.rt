@@ -137,7 +137,8 @@ impl Names {
 
     /// Marks what the names stand for now.
     pub fn keep(&mut self) -> Result<(), NoMemory>
-        ensures kept { OnOk result ((nodes : List Node) → IsNames nodes self.old → IsKept nodes self.old self.new) }
+        ensures kept { OnOk result ((nodes : List Node) → IsNames nodes self.old
+            → IsKept nodes self.old self.new) }
         ensures same { OnErr result (self.new ≡ self.old) }
     {
         self.log.push(Logged::Mark)
@@ -146,7 +147,9 @@ impl Names {
     /// The names stand for what they stood for at the last mark, which is taken away; with no mark,
     /// for what they stood for at first.
     pub fn back(&mut self)
-        ensures { (nodes : List Node) (told : Named Tree) (earlier : List (Named Tree)) → IsNames nodes self.old → past nodes self.old ≡ told ∷ earlier → IsBack nodes self.old self.new told earlier }
+        ensures { (nodes : List Node) (told : Named Tree) (earlier : List (Named Tree))
+            → IsNames nodes self.old → past nodes self.old ≡ told ∷ earlier
+            → IsBack nodes self.old self.new told earlier }
     {
         while let Some(entry) = self.log.pop() {
             match entry {

@@ -12,7 +12,8 @@ pub record AreSameOperands (old new : List Node) (xs : List Operand) : Type 0 wh
   pub trees : operand_trees new xs ≡ operand_trees old xs
 
 abbrev pub OperandsStay : Type 0
-OperandsStay = (old new : List Node) (xs : List Operand) → Grows old new → AreOperandsIn (length old) xs → AreSameOperands old new xs
+OperandsStay = (old new : List Node) (xs : List Operand) → Grows old new → AreOperandsIn (length old) xs
+    → AreSameOperands old new xs
 
 -- operands with one more behind them
 pub record AreMoreOperands (nodes : List Node) (xs : List Operand) (x : Operand) : Type 0 where
@@ -21,7 +22,8 @@ pub record AreMoreOperands (nodes : List Node) (xs : List Operand) (x : Operand)
 
 abbrev pub OperandsJoin : Type 0
 OperandsJoin =
-    (nodes : List Node) (xs : List Operand) (x : Operand) → AreOperandsIn (length nodes) xs → IsOperandIn (length nodes) x → AreMoreOperands nodes xs x
+    (nodes : List Node) (xs : List Operand) (x : Operand) → AreOperandsIn (length nodes) xs
+        → IsOperandIn (length nodes) x → AreMoreOperands nodes xs x
 
 -- the terms of operands are of the pool, and their trees are what the operands stand for
 pub record HaveTerms (nodes : List Node) (xs : List Operand) : Type 0 where

@@ -26,7 +26,9 @@ pub fn element_at(
     requires subscripts { AllBelow (length walk.old.pool) subscripts.now }
     ensures on { Follows walk.old walk.new }
     ensures is_in { IfOk result (λ x. IsOperandIn (length walk.new.pool) x) }
-    ensures did { IfOk result (λ x. Does (moment walk.old) (λ w. element_of w card (moment walk.old).now array.now dims.now (map (tree_of walk.old.pool) subscripts.now)) (moment walk.new) (operand_tree walk.new.pool x)) }
+    ensures did { IfOk result (λ x. Does (moment walk.old) (λ w. element_of w card
+        (moment walk.old).now array.now dims.now (map (tree_of walk.old.pool) subscripts.now))
+        (moment walk.new) (operand_tree walk.new.pool x)) }
 {
     let place = place_checked(walk, card, dims, subscripts)?;
     let whole = walk.term(array)?;

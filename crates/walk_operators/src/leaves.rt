@@ -20,7 +20,9 @@ pub fn constant_of(walk: &mut Walk, bound: u64, card: u32, c: u64) -> Result<Ope
     requires { IsWalk walk.old }
     ensures on { Follows walk.old walk.new }
     ensures is_in { IfOk result (λ x. IsOperandIn (length walk.new.pool) x) }
-    ensures did { IfOk result (λ x. DoesWithin bound (moment walk.old) (λ w. steps.computed w (steps.constant w card c)) (moment walk.new) (operand_tree walk.new.pool x)) }
+    ensures did { IfOk result (λ x. DoesWithin bound (moment walk.old)
+        (λ w. steps.computed w (steps.constant w card c)) (moment walk.new)
+        (operand_tree walk.new.pool x)) }
 {
     let value = constant(walk, bound, card, c)?;
     Ok(Operand::Computed(value))
@@ -31,7 +33,9 @@ pub fn truth_of(walk: &mut Walk, b: bool) -> Result<Operand, NoMemory>
     requires { IsWalk walk.old }
     ensures on { Follows walk.old walk.new }
     ensures is_in { IfOk result (λ x. IsOperandIn (length walk.new.pool) x) }
-    ensures did { IfOk result (λ x. Does (moment walk.old) (λ w. see (Computed (w.sense.truth_value b))) (moment walk.new) (operand_tree walk.new.pool x)) }
+    ensures did { IfOk result (λ x. Does (moment walk.old)
+        (λ w. see (Computed (w.sense.truth_value b))) (moment walk.new)
+        (operand_tree walk.new.pool x)) }
 {
     let Ok(value) = walk.pool.truth(b) else {
         return Err(NoMemory);
@@ -44,7 +48,9 @@ pub fn name_of(walk: &mut Walk, name: &Name) -> Result<Operand, NoMemory>
     requires { IsWalk walk.old }
     ensures on { Follows walk.old walk.new }
     ensures is_in { IfOk result (λ x. IsOperandIn (length walk.new.pool) x) }
-    ensures did { IfOk result (λ x. Does (moment walk.old) (λ w. see (Bare name.now ((moment walk.old).now name.now))) (moment walk.new) (operand_tree walk.new.pool x)) }
+    ensures did { IfOk result (λ x. Does (moment walk.old)
+        (λ w. see (Bare name.now ((moment walk.old).now name.now))) (moment walk.new)
+        (operand_tree walk.new.pool x)) }
 {
     let value = walk.term(name)?;
     Ok(Operand::Bare(*name, value))

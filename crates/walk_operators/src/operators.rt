@@ -41,7 +41,8 @@ pub fn read_operand(walk: &mut Walk, card: u32, operand: Operand) -> Result<Term
     requires operand { IsOperandIn (length walk.old.pool) operand }
     ensures on { Follows walk.old walk.new }
     ensures is_in { IfOk result (λ id. IsIn walk.new.pool id) }
-    ensures did { IfOk result (λ id. Does (moment walk.old) (λ w. steps.read_operand w card (operand_tree walk.old.pool operand)) (moment walk.new) (tree_of walk.new.pool id)) }
+    ensures did { IfOk result (λ id. Does (moment walk.old) (λ w. steps.read_operand w card
+        (operand_tree walk.old.pool operand)) (moment walk.new) (tree_of walk.new.pool id)) }
 {
     match operand {
         Operand::Bare(_, value) => {
@@ -62,7 +63,9 @@ fn negative(walk: &mut Walk, card: u32, a: TermId) -> Result<TermId, NoMemory>
     requires a { IsIn walk.old.pool a }
     ensures on { Follows walk.old walk.new }
     ensures is_in { IfOk result (λ id. IsIn walk.new.pool id) }
-    ensures did { IfOk result (λ id. Does (moment walk.old) (λ w. steps.ranged w card (make1 of_terms f.Negative (tree_of walk.old.pool a))) (moment walk.new) (tree_of walk.new.pool id)) }
+    ensures did { IfOk result (λ id. Does (moment walk.old) (λ w. steps.ranged w card
+        (make1 of_terms f.Negative (tree_of walk.old.pool a))) (moment walk.new)
+        (tree_of walk.new.pool id)) }
 {
     let Ok(value) = walk.pool.unary(BuiltIn::Negative, a) else {
         return Err(NoMemory);
@@ -77,7 +80,8 @@ pub fn unary_value(walk: &mut Walk, card: u32, op: Unary, a: TermId) -> Result<T
     requires a { IsIn walk.old.pool a }
     ensures on { Follows walk.old walk.new }
     ensures is_in { IfOk result (λ id. IsIn walk.new.pool id) }
-    ensures did { IfOk result (λ id. Does (moment walk.old) (λ w. of_one w card op (tree_of walk.old.pool a)) (moment walk.new) (Computed (tree_of walk.new.pool id))) }
+    ensures did { IfOk result (λ id. Does (moment walk.old) (λ w. of_one w card op
+        (tree_of walk.old.pool a)) (moment walk.new) (Computed (tree_of walk.new.pool id))) }
 {
     match op {
         Unary::Kept => Ok(a),
@@ -111,7 +115,9 @@ pub fn binary_value(
     requires b { IsIn walk.old.pool b }
     ensures on { Follows walk.old walk.new }
     ensures is_in { IfOk result (λ id. IsIn walk.new.pool id) }
-    ensures did { IfOk result (λ id. Does (moment walk.old) (λ w. of_two w card op (tree_of walk.old.pool a) (tree_of walk.old.pool b)) (moment walk.new) (Computed (tree_of walk.new.pool id))) }
+    ensures did { IfOk result (λ id. Does (moment walk.old) (λ w. of_two w card op
+        (tree_of walk.old.pool a) (tree_of walk.old.pool b)) (moment walk.new)
+        (Computed (tree_of walk.new.pool id))) }
 {
     match op {
         Binary::Number(op) => {

@@ -31,7 +31,9 @@ pub(crate) fn tested(
     requires b { IsIn pool.old b }
     ensures grows { Grows pool.old pool.new }
     ensures is_in { IfOk result (λ id. IsIn pool.new id) }
-    ensures tree { IfOk result (λ id. (p : Program) (i : ℕ) (u : Routine) → tree_of pool.new id ≡ tested (sight of_terms p i u) test (tree_of pool.old a) (tree_of pool.old b)) }
+    ensures tree { IfOk result (λ id. (p : Program) (i : ℕ) (u : Routine)
+        → tree_of pool.new id ≡ tested (sight of_terms p i u) test (tree_of pool.old a)
+        (tree_of pool.old b)) }
 {
     match test {
         Test::Relation(op) => relation(pool, op, a, b),

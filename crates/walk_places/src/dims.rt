@@ -22,7 +22,8 @@ pub fn dim_term(
     requires { IsNames pool.old names.now }
     ensures grows { Grows pool.old pool.new }
     ensures is_in { IfOk result (λ id. IsIn pool.new id) }
-    ensures tree { IfOk result (λ id. tree_of pool.new id ≡ walks.dim of_terms (named pool.old names.now) dim) }
+    ensures tree { IfOk result (λ id. tree_of pool.new id ≡ walks.dim of_terms
+        (named pool.old names.now) dim) }
 {
     match dim {
         Dim::Fixed(n) => natural(pool, n),
@@ -42,7 +43,8 @@ fn stretch_from(
     requires product { IsIn pool.old product }
     ensures grows { Grows pool.old pool.new }
     ensures is_in { IfOk result (λ id. IsIn pool.new id) }
-    ensures tree { IfOk result (λ id. tree_of pool.new id ≡ walks.stretch_from of_terms (named pool.old names.now) (tree_of pool.old product) dims.now) }
+    ensures tree { IfOk result (λ id. tree_of pool.new id ≡ walks.stretch_from of_terms
+        (named pool.old names.now) (tree_of pool.old product) dims.now) }
 {
     match dims {
         [] => Ok(product),
@@ -65,7 +67,8 @@ pub fn stretch(
     requires { IsNames pool.old names.now }
     ensures grows { Grows pool.old pool.new }
     ensures is_in { IfOk result (λ id. IsIn pool.new id) }
-    ensures tree { IfOk result (λ id. tree_of pool.new id ≡ walks.stretch of_terms (named pool.old names.now) dims.now) }
+    ensures tree { IfOk result (λ id. tree_of pool.new id ≡ walks.stretch of_terms
+        (named pool.old names.now) dims.now) }
 {
     match dims {
         [] => natural(pool, 1),

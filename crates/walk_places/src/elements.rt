@@ -26,7 +26,9 @@ pub fn subscript_fits(
     requires subscript { IsIn pool.old subscript }
     ensures grows { Grows pool.old pool.new }
     ensures is_in { IfOk result (λ id. IsIn pool.new id) }
-    ensures tree { IfOk result (λ id. tree_of pool.new id ≡ lies_from_to of_terms (natural_tree of_terms 1) (walks.dim of_terms (named pool.old names.now) dim) (tree_of pool.old subscript)) }
+    ensures tree { IfOk result (λ id. tree_of pool.new id ≡ lies_from_to of_terms
+        (natural_tree of_terms 1) (walks.dim of_terms (named pool.old names.now) dim)
+        (tree_of pool.old subscript)) }
 {
     let most = dim_term(alloc, pool, names, dim)?;
     let least = natural(pool, 1)?;
@@ -55,7 +57,9 @@ fn moved(pool: &mut TermPool, so_far: Reached, subscript: TermId) -> Result<Term
     requires subscript { IsIn pool.old subscript }
     ensures grows { Grows pool.old pool.new }
     ensures is_in { IfOk result (λ id. IsIn pool.new id) }
-    ensures tree { IfOk result (λ id. tree_of pool.new id ≡ place_moved (tree_of pool.old so_far.place) (tree_of pool.old so_far.stretch) (tree_of pool.old subscript)) }
+    ensures tree { IfOk result (λ id. tree_of pool.new id ≡ place_moved
+        (tree_of pool.old so_far.place) (tree_of pool.old so_far.stretch)
+        (tree_of pool.old subscript)) }
 {
     let one = natural(pool, 1)?;
     let count = pool.binary(BuiltIn::Difference, subscript, one)?;
@@ -79,7 +83,9 @@ fn place_from(
     requires subscripts { AllBelow (length pool.old) left.now.subscripts.now }
     ensures grows { Grows pool.old pool.new }
     ensures is_in { IfOk result (λ id. IsIn pool.new id) }
-    ensures tree { IfOk result (λ id. tree_of pool.new id ≡ walks.place_from of_terms (named pool.old names.now) (tree_of pool.old so_far.place) (tree_of pool.old so_far.stretch) (map (tree_of pool.old) left.now.subscripts.now) left.now.dims.now) }
+    ensures tree { IfOk result (λ id. tree_of pool.new id ≡ walks.place_from of_terms
+        (named pool.old names.now) (tree_of pool.old so_far.place) (tree_of pool.old so_far.stretch)
+        (map (tree_of pool.old) left.now.subscripts.now) left.now.dims.now) }
 {
     let [subscript, more @ ..] = left.subscripts else {
         return Ok(so_far.place);
@@ -111,7 +117,8 @@ pub fn place(
     requires subscripts { AllBelow (length pool.old) subscripts.now }
     ensures grows { Grows pool.old pool.new }
     ensures is_in { IfOk result (λ id. IsIn pool.new id) }
-    ensures tree { IfOk result (λ id. tree_of pool.new id ≡ walks.place of_terms (named pool.old names.now) (map (tree_of pool.old) subscripts.now) dims.now) }
+    ensures tree { IfOk result (λ id. tree_of pool.new id ≡ walks.place of_terms
+        (named pool.old names.now) (map (tree_of pool.old) subscripts.now) dims.now) }
 {
     let [subscript, more @ ..] = subscripts else {
         return natural(pool, 1);

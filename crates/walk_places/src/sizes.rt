@@ -53,7 +53,8 @@ pub fn size(
     requires shape { IsGoodShape dims.now }
     ensures grows { Grows pool.old pool.new }
     ensures is_in { IfOk result (λ id. IsIn pool.new id) }
-    ensures tree { IfOk result (λ id. tree_of pool.new id ≡ walks.size of_terms (named pool.old names.now) dims.now) }
+    ensures tree { IfOk result (λ id. tree_of pool.new id ≡ walks.size of_terms
+        (named pool.old names.now) dims.now) }
 {
     match fixed_size(dims) {
         Some(n) => natural(pool, n),
@@ -68,7 +69,8 @@ pub fn blank(pool: &mut TermPool, names: &Names, dims: &[Dim]) -> Result<TermId,
     requires fixed { IsSome (walks.size_if_fixed dims.now) }
     ensures grows { Grows pool.old pool.new }
     ensures is_in { IfOk result (λ id. IsIn pool.new id) }
-    ensures tree { IfOk result (λ id. tree_of pool.new id ≡ walks.blank_by of_terms (named pool.old names.now) dims.now) }
+    ensures tree { IfOk result (λ id. tree_of pool.new id ≡ walks.blank_by of_terms
+        (named pool.old names.now) dims.now) }
 {
     if dims.is_empty() {
         return undefined(pool);

@@ -34,7 +34,8 @@ pub fn sort_by(
     requires value { IsIn pool.old value }
     ensures grows { Grows pool.old pool.new }
     ensures is_in { IfOk result (λ id. IsIn pool.new id) }
-    ensures tree { IfOk result (λ id. tree_of pool.new id ≡ walks.sort_by of_terms (named pool.old names.now) shape.now.dims.now shape.now.sort (tree_of pool.old value)) }
+    ensures tree { IfOk result (λ id. tree_of pool.new id ≡ walks.sort_by of_terms
+        (named pool.old names.now) shape.now.dims.now shape.now.sort (tree_of pool.old value)) }
 {
     if shape.dims.is_empty() {
         return cell_sort(pool, shape.sort, value);
@@ -56,7 +57,8 @@ pub fn sort_in(
     requires shape { IfSome (option_copied entity) (λ d. IsGoodShape d.dims) }
     ensures grows { Grows pool.old pool.new }
     ensures is_in { IfOk result (λ id. IsIn pool.new id) }
-    ensures tree { IfOk result (λ id. tree_of pool.new id ≡ walks.sort_in of_terms (named pool.old names.now) name.now (option_copied entity.entry)) }
+    ensures tree { IfOk result (λ id. tree_of pool.new id ≡ walks.sort_in of_terms
+        (named pool.old names.now) name.now (option_copied entity.entry)) }
 {
     let Some(entity) = entity else {
         return pool.truth(true);

@@ -27,4 +27,5 @@ performed_at m part =
 
 -- a part of a walk that answers what names stand for was done
 abbrev pub PerformsIn : List Node → Setting → Moment → (Sight Tree → See Tree (Named Tree)) → Moment → Type 0
-PerformsIn pool s before part after = (p : Program) → IsReady pool s.scene.now p → after ≡ performed_at before (part (seen_from s p))
+PerformsIn pool s before part after = (p : Program) → IsReady pool s.scene.now p
+    → after ≡ performed_at before (part (seen_from s p))

@@ -56,7 +56,8 @@ impl Walk {
         requires well { IsWalk self.old }
         requires goal { IsIn self.old.pool goal }
         ensures on { Follows self.old self.new }
-        ensures met { OnOk result (moment self.new ≡ with_event (moment self.old) (event.Check kind card (tree_of self.old.pool goal))) }
+        ensures met { OnOk result (moment self.new ≡ with_event (moment self.old)
+            (event.Check kind card (tree_of self.old.pool goal))) }
     {
         let Ok(()) = self.met.push(Met::Check(kind, card, goal)) else {
             return Err(NoMemory);
@@ -69,7 +70,8 @@ impl Walk {
         requires well { IsWalk self.old }
         requires fact { IsIn self.old.pool fact }
         ensures on { Follows self.old self.new }
-        ensures met { OnOk result (moment self.new ≡ with_event (moment self.old) (event.Take (tree_of self.old.pool fact))) }
+        ensures met { OnOk result (moment self.new ≡ with_event (moment self.old)
+            (event.Take (tree_of self.old.pool fact))) }
     {
         let Ok(()) = self.met.push(Met::Take(fact)) else {
             return Err(NoMemory);
@@ -93,7 +95,8 @@ impl Walk {
         requires well { IsWalk self.old }
         requires term { IsIn self.old.pool term }
         ensures on { Follows self.old self.new }
-        ensures set { OnOk result (moment self.new ≡ with_names (moment self.old) (with_name (moment self.old).now name.now (tree_of self.old.pool term))) }
+        ensures set { OnOk result (moment self.new ≡ with_names (moment self.old)
+            (with_name (moment self.old).now name.now (tree_of self.old.pool term))) }
     {
         let Ok(()) = self.names.set(self.alloc, &mut self.pool, name, term) else {
             return Err(NoMemory);
@@ -106,8 +109,10 @@ impl Walk {
     pub fn next_call(&mut self) -> Result<u32, NoMemory>
         requires { IsWalk self.old }
         ensures on { Follows self.old self.new }
-        ensures next { OnOk result (moment self.new ≡ with_answers (moment self.old) (later (moment self.old).answers)) }
-        ensures answer { IfOk result (λ k. (x : Text) → (moment self.old).answers 0 x ≡ symbol (word_of (ByCall x k))) }
+        ensures next { OnOk result (moment self.new ≡ with_answers (moment self.old)
+            (later (moment self.old).answers)) }
+        ensures answer { IfOk result (λ k. (x : Text) → (moment self.old).answers 0 x
+            ≡ symbol (word_of (ByCall x k))) }
     {
         if self.calls == u32::MAX {
             return Err(NoMemory);
@@ -122,7 +127,8 @@ impl Walk {
         ensures on { Follows self.old self.new }
         ensures same { moment self.new ≡ moment self.old }
         ensures is_in { IfOk result (λ id. IsIn self.new.pool id) }
-        ensures tree { IfOk result (λ id. tree_of self.new.pool id ≡ symbol (word_of (ByCall name.now number))) }
+        ensures tree { IfOk result (λ id. tree_of self.new.pool id ≡ symbol
+            (word_of (ByCall name.now number))) }
     {
         call_symbol(self.alloc, &mut self.pool, name, number)
     }

@@ -16,7 +16,8 @@ module _ (w : Sight Tree) (card pc : ℕ) (now : Named Tree) where
   of_assignment left right cs = value w card now right >>= λ v. assign w card now left v >>= λ after. behind w card pc after cs
 
   abbrev pub of_call : Name → List Expr → List ℕ → See Tree (Named Tree)
-  of_call f args cs = operands w card now (row_of args) >>= λ xs. call w card (subroutine w.program.units f) now xs >>= λ after. behind w card pc (after.0) cs
+  of_call f args cs = operands w card now (row_of args) >>= λ xs. call w card (subroutine w.program.units f)
+      now xs >>= λ after. behind w card pc (after.0) cs
 
   abbrev pub of_return : See Tree (Named Tree)
   of_return = result w card now (is_function w.unit) >> see now

@@ -33,9 +33,12 @@ fn perform_assignment(
 ) -> Result<(), NoMemory>
     requires well { IsWalk walk.old }
     requires ready { (p : Program) × IsReady walk.old.pool at.now.flow.now.setting.now.scene.now p }
-    requires target { IsBehind at.now.flow.now.setting.now.book.now.unit.now at.now.flow.now.graph.now.forks at.now.point at.now.target }
+    requires target { IsBehind at.now.flow.now.setting.now.book.now.unit.now
+        at.now.flow.now.graph.now.forks at.now.point at.now.target }
     ensures on { Follows walk.old walk.new }
-    ensures did { OnOk result (PerformsIn walk.old.pool at.now.flow.now.setting.now (moment walk.old) (λ w. parts.of_assignment w at.now.card at.now.point (moment walk.old).now left.now right.now choices.now) (moment walk.new)) }
+    ensures did { OnOk result (PerformsIn walk.old.pool at.now.flow.now.setting.now
+        (moment walk.old) (λ w. parts.of_assignment w at.now.card at.now.point
+        (moment walk.old).now left.now right.now choices.now) (moment walk.new)) }
 {
     let term = value(walk, &at.at_card(), right)?;
     assign(walk, &at.at_card(), left, term)?;
@@ -52,9 +55,12 @@ fn perform_call(
 ) -> Result<(), NoMemory>
     requires well { IsWalk walk.old }
     requires ready { (p : Program) × IsReady walk.old.pool at.now.flow.now.setting.now.scene.now p }
-    requires target { IsBehind at.now.flow.now.setting.now.book.now.unit.now at.now.flow.now.graph.now.forks at.now.point at.now.target }
+    requires target { IsBehind at.now.flow.now.setting.now.book.now.unit.now
+        at.now.flow.now.graph.now.forks at.now.point at.now.target }
     ensures on { Follows walk.old walk.new }
-    ensures did { OnOk result (PerformsIn walk.old.pool at.now.flow.now.setting.now (moment walk.old) (λ w. parts.of_call w at.now.card at.now.point (moment walk.old).now called.now args.now choices.now) (moment walk.new)) }
+    ensures did { OnOk result (PerformsIn walk.old.pool at.now.flow.now.setting.now
+        (moment walk.old) (λ w. parts.of_call w at.now.card at.now.point (moment walk.old).now
+        called.now args.now choices.now) (moment walk.new)) }
 {
     let actuals = operands(walk, &at.at_card(), args)?;
     let callee = at.flow.setting.subroutine(called);
@@ -66,7 +72,9 @@ fn perform_call(
 fn perform_return(walk: &mut Walk, at: &Standing) -> Result<(), NoMemory>
     requires { IsWalk walk.old }
     ensures on { Follows walk.old walk.new }
-    ensures did { OnOk result (PerformsIn walk.old.pool at.now.flow.now.setting.now (moment walk.old) (λ w. parts.of_return w at.now.card at.now.point (moment walk.old).now) (moment walk.new)) }
+    ensures did { OnOk result (PerformsIn walk.old.pool at.now.flow.now.setting.now
+        (moment walk.old) (λ w. parts.of_return w at.now.card at.now.point (moment walk.old).now)
+        (moment walk.new)) }
 {
     let unit = at.flow.setting.book.unit;
     if unit.sort.is_none() {
@@ -79,9 +87,12 @@ fn perform_return(walk: &mut Walk, at: &Standing) -> Result<(), NoMemory>
 fn pass_carried(walk: &mut Walk, at: &Standing, e: &Expr, choices: &[usize]) -> Result<(), NoMemory>
     requires well { IsWalk walk.old }
     requires ready { (p : Program) × IsReady walk.old.pool at.now.flow.now.setting.now.scene.now p }
-    requires target { IsBehind at.now.flow.now.setting.now.book.now.unit.now at.now.flow.now.graph.now.forks at.now.point at.now.target }
+    requires target { IsBehind at.now.flow.now.setting.now.book.now.unit.now
+        at.now.flow.now.graph.now.forks at.now.point at.now.target }
     ensures on { Follows walk.old walk.new }
-    ensures did { OnOk result (PerformsIn walk.old.pool at.now.flow.now.setting.now (moment walk.old) (λ w. parts.of_passed w at.now.card at.now.point (moment walk.old).now e.now choices.now) (moment walk.new)) }
+    ensures did { OnOk result (PerformsIn walk.old.pool at.now.flow.now.setting.now
+        (moment walk.old) (λ w. parts.of_passed w at.now.card at.now.point
+        (moment walk.old).now e.now choices.now) (moment walk.new)) }
 {
     is_false(walk, &at.at_card(), e)?;
     behind(walk, at, choices)
@@ -98,9 +109,13 @@ fn perform_logical(
 ) -> Result<(), NoMemory>
     requires well { IsWalk walk.old }
     requires ready { (p : Program) × IsReady walk.old.pool at.now.flow.now.setting.now.scene.now p }
-    requires target { IsTargetOf at.now.flow.now.setting.now.scene.now.dialect at.now.flow.now.setting.now.book.now.unit.now at.now.flow.now.graph.now.forks at.now.point (stmt.LogicalIf e.now carried.now) at.now.target }
+    requires target { IsTargetOf at.now.flow.now.setting.now.scene.now.dialect
+        at.now.flow.now.setting.now.book.now.unit.now at.now.flow.now.graph.now.forks at.now.point
+        (stmt.LogicalIf e.now carried.now) at.now.target }
     ensures on { Follows walk.old walk.new }
-    ensures did { OnOk result (PerformsIn walk.old.pool at.now.flow.now.setting.now (moment walk.old) (λ w. forms.performed w at.now.card at.now.point (moment walk.old).now (stmt.LogicalIf e.now carried.now) choices.now) (moment walk.new)) }
+    ensures did { OnOk result (PerformsIn walk.old.pool at.now.flow.now.setting.now
+        (moment walk.old) (λ w. forms.performed w at.now.card at.now.point (moment walk.old).now
+        (stmt.LogicalIf e.now carried.now) choices.now) (moment walk.new)) }
 {
     let [choice, more @ ..] = choices else {
         return Ok(());
@@ -123,9 +138,13 @@ fn perform_logical(
 fn perform(walk: &mut Walk, at: &Standing, stmt: &Stmt, choices: &[usize]) -> Result<(), NoMemory>
     requires well { IsWalk walk.old }
     requires ready { (p : Program) × IsReady walk.old.pool at.now.flow.now.setting.now.scene.now p }
-    requires target { IsTargetOf at.now.flow.now.setting.now.scene.now.dialect at.now.flow.now.setting.now.book.now.unit.now at.now.flow.now.graph.now.forks at.now.point stmt.now at.now.target }
+    requires target { IsTargetOf at.now.flow.now.setting.now.scene.now.dialect
+        at.now.flow.now.setting.now.book.now.unit.now at.now.flow.now.graph.now.forks at.now.point
+        stmt.now at.now.target }
     ensures on { Follows walk.old walk.new }
-    ensures did { OnOk result (PerformsIn walk.old.pool at.now.flow.now.setting.now (moment walk.old) (λ w. forms.performed w at.now.card at.now.point (moment walk.old).now stmt.now choices.now) (moment walk.new)) }
+    ensures did { OnOk result (PerformsIn walk.old.pool at.now.flow.now.setting.now
+        (moment walk.old) (λ w. forms.performed w at.now.card at.now.point
+        (moment walk.old).now stmt.now choices.now) (moment walk.new)) }
 {
     match stmt {
         Stmt::Assign(left, right) => perform_assignment(walk, at, left, right, choices),
@@ -162,9 +181,14 @@ pub fn performed(
     requires well { IsWalk walk.old }
     requires ready { (p : Program) × IsReady walk.old.pool flow.now.setting.now.scene.now p }
     requires within { point < length flow.now.setting.now.book.now.unit.now.lines }
-    requires graph { (notes : Notes) × IsGraphOf flow.now.setting.now.scene.now.dialect flow.now.setting.now.book.now.unit.now notes flow.now.graph.now }
+    requires graph { (notes : Notes) × IsGraphOf flow.now.setting.now.scene.now.dialect
+        flow.now.setting.now.book.now.unit.now notes flow.now.graph.now }
     ensures on { Follows walk.old walk.new }
-    ensures did { OnOk result ((line : Line) → slice_get flow.now.setting.now.book.now.unit.now.lines point ≡ Some line → PerformsIn walk.old.pool flow.now.setting.now (moment walk.old) (λ w. forms.performed w line.card point (moment walk.old).now line.stmt choices.now) (moment walk.new)) }
+    ensures did { OnOk result ((line : Line)
+        → slice_get flow.now.setting.now.book.now.unit.now.lines point ≡ Some line
+        → PerformsIn walk.old.pool flow.now.setting.now (moment walk.old)
+        (λ w. forms.performed w line.card point (moment walk.old).now line.stmt choices.now)
+        (moment walk.new)) }
 {
     let line = flow.line(point);
     let at = Standing {

@@ -15,7 +15,8 @@ fn integer_cell(pool: &mut TermPool, value: TermId) -> Result<TermId, NoMemory>
     requires { IsIn pool.old value }
     ensures grows { Grows pool.old pool.new }
     ensures is_in { IfOk result (λ id. IsIn pool.new id) }
-    ensures tree { IfOk result (λ id. tree_of pool.new id ≡ sorts.cell_sort of_terms Sort.Integer (tree_of pool.old value)) }
+    ensures tree { IfOk result (λ id. tree_of pool.new id ≡ sorts.cell_sort of_terms Sort.Integer
+        (tree_of pool.old value)) }
 {
     let least = least_integer(pool)?;
     let greatest = greatest_integer(pool)?;
@@ -28,7 +29,8 @@ pub fn cell_sort(pool: &mut TermPool, sort: Sort, value: TermId) -> Result<TermI
     requires { IsIn pool.old value }
     ensures grows { Grows pool.old pool.new }
     ensures is_in { IfOk result (λ id. IsIn pool.new id) }
-    ensures tree { IfOk result (λ id. tree_of pool.new id ≡ sorts.cell_sort of_terms sort (tree_of pool.old value)) }
+    ensures tree { IfOk result (λ id. tree_of pool.new id ≡ sorts.cell_sort of_terms sort
+        (tree_of pool.old value)) }
 {
     match sort {
         Sort::Integer => integer_cell(pool, value),
@@ -47,7 +49,8 @@ fn integer_cells(
     requires value { IsIn pool.old value }
     ensures grows { Grows pool.old pool.new }
     ensures is_in { IfOk result (λ id. IsIn pool.new id) }
-    ensures tree { IfOk result (λ id. tree_of pool.new id ≡ sorts.cells_sort of_terms Sort.Integer (tree_of pool.old count) (tree_of pool.old value)) }
+    ensures tree { IfOk result (λ id. tree_of pool.new id ≡ sorts.cells_sort of_terms Sort.Integer
+        (tree_of pool.old count) (tree_of pool.old value)) }
 {
     let least = least_integer(pool)?;
     let greatest = greatest_integer(pool)?;
@@ -68,7 +71,8 @@ pub fn cells_sort(
     requires value { IsIn pool.old value }
     ensures grows { Grows pool.old pool.new }
     ensures is_in { IfOk result (λ id. IsIn pool.new id) }
-    ensures tree { IfOk result (λ id. tree_of pool.new id ≡ sorts.cells_sort of_terms sort (tree_of pool.old count) (tree_of pool.old value)) }
+    ensures tree { IfOk result (λ id. tree_of pool.new id ≡ sorts.cells_sort of_terms sort
+        (tree_of pool.old count) (tree_of pool.old value)) }
 {
     match sort {
         Sort::Integer => integer_cells(alloc, pool, count, value),

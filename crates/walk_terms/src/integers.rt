@@ -63,7 +63,8 @@ pub fn between(
     requires high { IsIn pool.old high }
     ensures grows { Grows pool.old pool.new }
     ensures is_in { IfOk result (λ id. IsIn pool.new id) }
-    ensures tree { IfOk result (λ id. tree_of pool.new id ≡ lies_from_to of_terms (tree_of pool.old low) (tree_of pool.old high) (tree_of pool.old number)) }
+    ensures tree { IfOk result (λ id. tree_of pool.new id ≡ lies_from_to of_terms
+        (tree_of pool.old low) (tree_of pool.old high) (tree_of pool.old number)) }
 {
     let first = pool.binary(BuiltIn::AtMost, low, number)?;
     let second = pool.binary(BuiltIn::AtMost, number, high)?;
@@ -76,7 +77,8 @@ pub fn in_range(pool: &mut TermPool, number: TermId) -> Result<TermId, NoMemory>
     requires { IsIn pool.old number }
     ensures grows { Grows pool.old pool.new }
     ensures is_in { IfOk result (λ id. IsIn pool.new id) }
-    ensures tree { IfOk result (λ id. tree_of pool.new id ≡ terms.in_range of_terms (tree_of pool.old number)) }
+    ensures tree { IfOk result (λ id. tree_of pool.new id ≡ terms.in_range of_terms
+        (tree_of pool.old number)) }
 {
     let least = least_integer(pool)?;
     let greatest = greatest_integer(pool)?;
@@ -89,7 +91,8 @@ pub fn not_negative(pool: &mut TermPool, number: TermId) -> Result<TermId, NoMem
     requires { IsIn pool.old number }
     ensures grows { Grows pool.old pool.new }
     ensures is_in { IfOk result (λ id. IsIn pool.new id) }
-    ensures tree { IfOk result (λ id. tree_of pool.new id ≡ make2 of_terms AtMost (terms.natural of_terms 0) (tree_of pool.old number)) }
+    ensures tree { IfOk result (λ id. tree_of pool.new id ≡ make2 of_terms AtMost
+        (terms.natural of_terms 0) (tree_of pool.old number)) }
 {
     let zero = natural(pool, 0)?;
     let at_least = pool.binary(BuiltIn::AtMost, zero, number)?;

@@ -43,7 +43,8 @@ pub fn not_zero(pool: &mut TermPool, b: TermId) -> Result<TermId, NoMemory>
     requires { IsIn pool.old b }
     ensures grows { Grows pool.old pool.new }
     ensures is_in { IfOk result (λ id. IsIn pool.new id) }
-    ensures tree { IfOk result (λ id. tree_of pool.new id ≡ terms.negated of_terms (make2 of_terms f.Equal (tree_of pool.old b) (terms.natural of_terms 0))) }
+    ensures tree { IfOk result (λ id. tree_of pool.new id ≡ terms.negated of_terms
+        (make2 of_terms f.Equal (tree_of pool.old b) (terms.natural of_terms 0))) }
 {
     let zero = natural(pool, 0)?;
     let is_zero = pool.binary(BuiltIn::Equal, b, zero)?;
@@ -57,7 +58,8 @@ pub fn both(pool: &mut TermPool, a: TermId, b: TermId) -> Result<TermId, NoMemor
     requires b { IsIn pool.old b }
     ensures grows { Grows pool.old pool.new }
     ensures is_in { IfOk result (λ id. IsIn pool.new id) }
-    ensures tree { IfOk result (λ id. tree_of pool.new id ≡ make2 of_terms f.And (tree_of pool.old a) (tree_of pool.old b)) }
+    ensures tree { IfOk result (λ id. tree_of pool.new id ≡ make2 of_terms f.And
+        (tree_of pool.old a) (tree_of pool.old b)) }
 {
     pool.binary(BuiltIn::And, a, b)
 }
@@ -68,7 +70,8 @@ pub fn choice(pool: &mut TermPool, a: TermId, b: TermId) -> Result<TermId, NoMem
     requires b { IsIn pool.old b }
     ensures grows { Grows pool.old pool.new }
     ensures is_in { IfOk result (λ id. IsIn pool.new id) }
-    ensures tree { IfOk result (λ id. tree_of pool.new id ≡ make2 of_terms f.Or (tree_of pool.old a) (tree_of pool.old b)) }
+    ensures tree { IfOk result (λ id. tree_of pool.new id ≡ make2 of_terms f.Or (tree_of pool.old a)
+        (tree_of pool.old b)) }
 {
     pool.binary(BuiltIn::Or, a, b)
 }
@@ -80,7 +83,8 @@ pub fn all_three(pool: &mut TermPool, a: TermId, b: TermId, c: TermId) -> Result
     requires c { IsIn pool.old c }
     ensures grows { Grows pool.old pool.new }
     ensures is_in { IfOk result (λ id. IsIn pool.new id) }
-    ensures tree { IfOk result (λ id. tree_of pool.new id ≡ make3 of_terms f.And (tree_of pool.old a) (tree_of pool.old b) (tree_of pool.old c)) }
+    ensures tree { IfOk result (λ id. tree_of pool.new id ≡ make3 of_terms f.And
+        (tree_of pool.old a) (tree_of pool.old b) (tree_of pool.old c)) }
 {
     pool.ternary(BuiltIn::And, a, b, c)
 }
@@ -91,7 +95,8 @@ pub fn element(pool: &mut TermPool, array: TermId, place: TermId) -> Result<Term
     requires place { IsIn pool.old place }
     ensures grows { Grows pool.old pool.new }
     ensures is_in { IfOk result (λ id. IsIn pool.new id) }
-    ensures tree { IfOk result (λ id. tree_of pool.new id ≡ make2 of_terms f.Element (tree_of pool.old array) (tree_of pool.old place)) }
+    ensures tree { IfOk result (λ id. tree_of pool.new id ≡ make2 of_terms f.Element
+        (tree_of pool.old array) (tree_of pool.old place)) }
 {
     pool.binary(BuiltIn::Element, array, place)
 }
@@ -108,7 +113,8 @@ pub fn put(
     requires value { IsIn pool.old value }
     ensures grows { Grows pool.old pool.new }
     ensures is_in { IfOk result (λ id. IsIn pool.new id) }
-    ensures tree { IfOk result (λ id. tree_of pool.new id ≡ make3 of_terms f.Put (tree_of pool.old array) (tree_of pool.old place) (tree_of pool.old value)) }
+    ensures tree { IfOk result (λ id. tree_of pool.new id ≡ make3 of_terms f.Put
+        (tree_of pool.old array) (tree_of pool.old place) (tree_of pool.old value)) }
 {
     pool.ternary(BuiltIn::Put, array, place, value)
 }

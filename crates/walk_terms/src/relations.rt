@@ -19,7 +19,8 @@ pub fn operation(pool: &mut TermPool, op: BinOp, a: TermId, b: TermId) -> Result
     requires b { IsIn pool.old b }
     ensures grows { Grows pool.old pool.new }
     ensures is_in { IfOk result (λ id. IsIn pool.new id) }
-    ensures tree { IfOk result (λ id. tree_of pool.new id ≡ make2 of_terms (function_of op) (tree_of pool.old a) (tree_of pool.old b)) }
+    ensures tree { IfOk result (λ id. tree_of pool.new id ≡ make2 of_terms (function_of op)
+        (tree_of pool.old a) (tree_of pool.old b)) }
 {
     match op {
         BinOp::Add => pool.binary(BuiltIn::Plus, a, b),
@@ -35,7 +36,9 @@ fn apart(pool: &mut TermPool, a: TermId, b: TermId) -> Result<TermId, NoMemory>
     requires b { IsIn pool.old b }
     ensures grows { Grows pool.old pool.new }
     ensures is_in { IfOk result (λ id. IsIn pool.new id) }
-    ensures tree { IfOk result (λ id. (p : Program) (i : ℕ) (u : Routine) → tree_of pool.new id ≡ walks.relation (sight of_terms p i u) RelOp.Ne (tree_of pool.old a) (tree_of pool.old b)) }
+    ensures tree { IfOk result (λ id. (p : Program) (i : ℕ) (u : Routine)
+        → tree_of pool.new id ≡ walks.relation (sight of_terms p i u) RelOp.Ne (tree_of pool.old a)
+        (tree_of pool.old b)) }
 {
     let same = pool.binary(BuiltIn::Equal, a, b)?;
     let not = negated(pool, same)?;
@@ -48,7 +51,9 @@ pub fn relation(pool: &mut TermPool, op: RelOp, a: TermId, b: TermId) -> Result<
     requires b { IsIn pool.old b }
     ensures grows { Grows pool.old pool.new }
     ensures is_in { IfOk result (λ id. IsIn pool.new id) }
-    ensures tree { IfOk result (λ id. (p : Program) (i : ℕ) (u : Routine) → tree_of pool.new id ≡ walks.relation (sight of_terms p i u) op (tree_of pool.old a) (tree_of pool.old b)) }
+    ensures tree { IfOk result (λ id. (p : Program) (i : ℕ) (u : Routine)
+        → tree_of pool.new id ≡ walks.relation (sight of_terms p i u) op (tree_of pool.old a)
+        (tree_of pool.old b)) }
 {
     match op {
         RelOp::Lt => pool.binary(BuiltIn::Less, a, b),

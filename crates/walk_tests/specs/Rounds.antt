@@ -23,7 +23,8 @@ module _ (w : Sight Tree) (card : ℕ) (now : Named Tree) (d : DoTest) where
 
   -- a DO is left
   abbrev pub without_next : Tree × Tree → See Tree (Named Tree)
-  without_next b = taken w (make2 w.sense Less (b.1) (b.0)) >> see (with_name now d.variable (left_with w w.program.dialect (b.0)))
+  without_next b = taken w (make2 w.sense Less (b.1) (b.0)) >> see (with_name now d.variable
+      (left_with w w.program.dialect (b.0)))
 
   abbrev pub is_left : See Tree (Named Tree)
   is_left = next_and_last >>= without_next

@@ -32,7 +32,9 @@ fn bounds_of(walk: &mut Walk, card: &Card, test: &DoTest) -> Result<Bounds, NoMe
     ensures on { Follows walk.old walk.new }
     ensures next { IfOk result (λ b. IsIn walk.new.pool b.next) }
     ensures last { IfOk result (λ b. IsIn walk.new.pool b.last) }
-    ensures did { IfOk result (λ b. DoesIn walk.old.pool card.now.setting.now (moment walk.old) (λ w. rounds.next_and_last w card.now.number (moment walk.old).now test.now) (moment walk.new) (tree_of walk.new.pool b.next, tree_of walk.new.pool b.last)) }
+    ensures did { IfOk result (λ b. DoesIn walk.old.pool card.now.setting.now (moment walk.old)
+        (λ w. rounds.next_and_last w card.now.number (moment walk.old).now test.now)
+        (moment walk.new) (tree_of walk.new.pool b.next, tree_of walk.new.pool b.last)) }
 {
     let bound = card.setting.scene.bound;
     let next = next_sum(walk, bound, card.number, &test.variable, test.step)?;
@@ -52,7 +54,9 @@ fn with_next(
     requires next { IsIn walk.old.pool next }
     requires last { IsIn walk.old.pool last }
     ensures on { Follows walk.old walk.new }
-    ensures did { OnOk result (PerformsIn walk.old.pool card.now.setting.now (moment walk.old) (λ w. rounds.with_next w card.now.number (moment walk.old).now test.now (tree_of walk.old.pool next, tree_of walk.old.pool last)) (moment walk.new)) }
+    ensures did { OnOk result (PerformsIn walk.old.pool card.now.setting.now (moment walk.old)
+        (λ w. rounds.with_next w card.now.number (moment walk.old).now test.now
+        (tree_of walk.old.pool next, tree_of walk.old.pool last)) (moment walk.new)) }
 {
     take_at_most(walk, next, last)?;
     walk.set(&test.variable, next)
@@ -62,7 +66,9 @@ fn with_next(
 pub(crate) fn go_round(walk: &mut Walk, card: &Card, test: &DoTest) -> Result<(), NoMemory>
     requires { IsWalk walk.old }
     ensures on { Follows walk.old walk.new }
-    ensures did { OnOk result (PerformsIn walk.old.pool card.now.setting.now (moment walk.old) (λ w. rounds.goes_round w card.now.number (moment walk.old).now test.now) (moment walk.new)) }
+    ensures did { OnOk result (PerformsIn walk.old.pool card.now.setting.now (moment walk.old)
+        (λ w. rounds.goes_round w card.now.number (moment walk.old).now test.now)
+        (moment walk.new)) }
 {
     let both = bounds_of(walk, card, test)?;
     with_next(walk, card, test, both.next, both.last)
@@ -72,7 +78,8 @@ pub(crate) fn go_round(walk: &mut Walk, card: &Card, test: &DoTest) -> Result<()
 fn leave_undefined(walk: &mut Walk, variable: &Name) -> Result<(), NoMemory>
     requires { IsWalk walk.old }
     ensures on { Follows walk.old walk.new }
-    ensures did { OnOk result (moment walk.new ≡ with_names (moment walk.old) (forms.with_name (moment walk.old).now variable.now (undefined_tree of_terms))) }
+    ensures did { OnOk result (moment walk.new ≡ with_names (moment walk.old)
+        (forms.with_name (moment walk.old).now variable.now (undefined_tree of_terms))) }
 {
     let Ok(nothing) = undefined(&mut walk.pool) else {
         return Err(NoMemory);
@@ -90,7 +97,9 @@ fn leave_with(
     requires well { IsWalk walk.old }
     requires sum { IsIn walk.old.pool sum }
     ensures on { Follows walk.old walk.new }
-    ensures did { OnOk result ((w : Sight Tree) → w.sense ≡ of_terms → moment walk.new ≡ with_names (moment walk.old) (forms.with_name (moment walk.old).now variable.now (forms.left_with w dialect (tree_of walk.old.pool sum)))) }
+    ensures did { OnOk result ((w : Sight Tree) → w.sense ≡ of_terms → moment walk.new
+        ≡ with_names (moment walk.old) (forms.with_name (moment walk.old).now variable.now
+        (forms.left_with w dialect (tree_of walk.old.pool sum)))) }
 {
     match dialect {
         Dialect::SeventySeven => walk.set(variable, sum),
@@ -110,7 +119,9 @@ fn without_next(
     requires next { IsIn walk.old.pool next }
     requires last { IsIn walk.old.pool last }
     ensures on { Follows walk.old walk.new }
-    ensures did { OnOk result (PerformsIn walk.old.pool card.now.setting.now (moment walk.old) (λ w. rounds.without_next w card.now.number (moment walk.old).now test.now (tree_of walk.old.pool next, tree_of walk.old.pool last)) (moment walk.new)) }
+    ensures did { OnOk result (PerformsIn walk.old.pool card.now.setting.now (moment walk.old)
+        (λ w. rounds.without_next w card.now.number (moment walk.old).now test.now
+        (tree_of walk.old.pool next, tree_of walk.old.pool last)) (moment walk.new)) }
 {
     take_less(walk, last, next)?;
     leave_with(walk, card.setting.scene.dialect, &test.variable, next)
@@ -120,7 +131,8 @@ fn without_next(
 pub(crate) fn leave(walk: &mut Walk, card: &Card, test: &DoTest) -> Result<(), NoMemory>
     requires { IsWalk walk.old }
     ensures on { Follows walk.old walk.new }
-    ensures did { OnOk result (PerformsIn walk.old.pool card.now.setting.now (moment walk.old) (λ w. rounds.is_left w card.now.number (moment walk.old).now test.now) (moment walk.new)) }
+    ensures did { OnOk result (PerformsIn walk.old.pool card.now.setting.now (moment walk.old)
+        (λ w. rounds.is_left w card.now.number (moment walk.old).now test.now) (moment walk.new)) }
 {
     let both = bounds_of(walk, card, test)?;
     without_next(walk, card, test, both.next, both.last)

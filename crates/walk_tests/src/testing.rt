@@ -17,7 +17,11 @@ use walk_state::Walk;
 pub fn tests_from(walk: &mut Walk, at: &Standing, choices: &[usize]) -> Result<(), NoMemory>
     requires { IsWalk walk.old }
     ensures on { Follows walk.old walk.new }
-    ensures did { OnOk result ((q : ℕ) (ds : List Loop) → AreTests at.now.flow.now.graph.now.forks q ds at.now.target → AreLoopsOf at.now.flow.now.setting.now.book.now.unit.now ds → PerformsIn walk.old.pool at.now.flow.now.setting.now (moment walk.old) (λ w. forms.tests w at.now.card (moment walk.old).now ds choices.now) (moment walk.new)) }
+    ensures did { OnOk result ((q : ℕ) (ds : List Loop)
+        → AreTests at.now.flow.now.graph.now.forks q ds at.now.target
+        → AreLoopsOf at.now.flow.now.setting.now.book.now.unit.now ds
+        → PerformsIn walk.old.pool at.now.flow.now.setting.now (moment walk.old)
+        (λ w. forms.tests w at.now.card (moment walk.old).now ds choices.now) (moment walk.new)) }
 {
     let mut target = at.target;
     for choice in choices {
@@ -36,9 +40,12 @@ pub fn tests_from(walk: &mut Walk, at: &Standing, choices: &[usize]) -> Result<(
 /// What comes behind a statement: the tests of the DOs whose last statement it is.
 pub fn behind(walk: &mut Walk, at: &Standing, choices: &[usize]) -> Result<(), NoMemory>
     requires well { IsWalk walk.old }
-    requires target { IsBehind at.now.flow.now.setting.now.book.now.unit.now at.now.flow.now.graph.now.forks at.now.point at.now.target }
+    requires target { IsBehind at.now.flow.now.setting.now.book.now.unit.now
+        at.now.flow.now.graph.now.forks at.now.point at.now.target }
     ensures on { Follows walk.old walk.new }
-    ensures did { OnOk result (PerformsIn walk.old.pool at.now.flow.now.setting.now (moment walk.old) (λ w. forms.behind w at.now.card at.now.point (moment walk.old).now choices.now) (moment walk.new)) }
+    ensures did { OnOk result (PerformsIn walk.old.pool at.now.flow.now.setting.now
+        (moment walk.old) (λ w. forms.behind w at.now.card at.now.point (moment walk.old).now
+        choices.now) (moment walk.new)) }
 {
     tests_from(walk, at, choices)
 }

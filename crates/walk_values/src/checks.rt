@@ -21,7 +21,8 @@ pub fn read(walk: &mut Walk, card: u32, value: TermId) -> Result<(), NoMemory>
     requires well { IsWalk walk.old }
     requires value { IsIn walk.old.pool value }
     ensures on { Follows walk.old walk.new }
-    ensures did { OnOk result (Does (moment walk.old) (λ w. steps.read w card (tree_of walk.old.pool value)) (moment walk.new) (tree_of walk.old.pool value)) }
+    ensures did { OnOk result (Does (moment walk.old) (λ w. steps.read w card
+        (tree_of walk.old.pool value)) (moment walk.new) (tree_of walk.old.pool value)) }
 {
     let Ok(goal) = defined(&mut walk.pool, value) else {
         return Err(NoMemory);
@@ -35,7 +36,8 @@ pub fn ranged(walk: &mut Walk, card: u32, number: TermId) -> Result<(), NoMemory
     requires well { IsWalk walk.old }
     requires number { IsIn walk.old.pool number }
     ensures on { Follows walk.old walk.new }
-    ensures did { OnOk result (Does (moment walk.old) (λ w. steps.ranged w card (tree_of walk.old.pool number)) (moment walk.new) (tree_of walk.old.pool number)) }
+    ensures did { OnOk result (Does (moment walk.old) (λ w. steps.ranged w card
+        (tree_of walk.old.pool number)) (moment walk.new) (tree_of walk.old.pool number)) }
 {
     let Ok(goal) = in_range(&mut walk.pool, number) else {
         return Err(NoMemory);
@@ -49,7 +51,8 @@ pub fn divisor(walk: &mut Walk, card: u32, number: TermId) -> Result<(), NoMemor
     requires well { IsWalk walk.old }
     requires number { IsIn walk.old.pool number }
     ensures on { Follows walk.old walk.new }
-    ensures did { OnOk result (Does (moment walk.old) (λ w. steps.divisor w card (tree_of walk.old.pool number)) (moment walk.new) tt) }
+    ensures did { OnOk result (Does (moment walk.old) (λ w. steps.divisor w card
+        (tree_of walk.old.pool number)) (moment walk.new) tt) }
 {
     let Ok(goal) = not_zero(&mut walk.pool, number) else {
         return Err(NoMemory);
@@ -63,7 +66,9 @@ fn not_too_great(walk: &mut Walk, card: u32, number: TermId) -> Result<(), NoMem
     requires well { IsWalk walk.old }
     requires number { IsIn walk.old.pool number }
     ensures on { Follows walk.old walk.new }
-    ensures met { OnOk result (moment walk.new ≡ with_event (moment walk.old) (Check RangeCheck card (make2 of_terms AtMost (tree_of walk.old.pool number) (greatest_tree of_terms)))) }
+    ensures met { OnOk result (moment walk.new ≡ with_event (moment walk.old)
+        (Check RangeCheck card (make2 of_terms AtMost (tree_of walk.old.pool number)
+        (greatest_tree of_terms)))) }
 {
     let Ok(greatest) = greatest_integer(&mut walk.pool) else {
         return Err(NoMemory);
@@ -81,7 +86,8 @@ pub fn constant(walk: &mut Walk, bound: u64, card: u32, c: u64) -> Result<TermId
     requires { IsWalk walk.old }
     ensures on { Follows walk.old walk.new }
     ensures is_in { IfOk result (λ id. IsIn walk.new.pool id) }
-    ensures did { IfOk result (λ id. DoesWithin bound (moment walk.old) (λ w. steps.constant w card c) (moment walk.new) (tree_of walk.new.pool id)) }
+    ensures did { IfOk result (λ id. DoesWithin bound (moment walk.old)
+        (λ w. steps.constant w card c) (moment walk.new) (tree_of walk.new.pool id)) }
 {
     let Ok(number) = natural(&mut walk.pool, c) else {
         return Err(NoMemory);

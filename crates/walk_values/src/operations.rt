@@ -27,7 +27,9 @@ pub(crate) fn in_range_of(
     requires b { IsIn walk.old.pool b }
     ensures on { Follows walk.old walk.new }
     ensures is_in { IfOk result (λ id. IsIn walk.new.pool id) }
-    ensures did { IfOk result (λ id. Does (moment walk.old) (λ w. steps.ranged w card (make2 of_terms (function_of op) (tree_of walk.old.pool a) (tree_of walk.old.pool b))) (moment walk.new) (tree_of walk.new.pool id)) }
+    ensures did { IfOk result (λ id. Does (moment walk.old) (λ w. steps.ranged w card
+        (make2 of_terms (function_of op) (tree_of walk.old.pool a) (tree_of walk.old.pool b)))
+        (moment walk.new) (tree_of walk.new.pool id)) }
 {
     let Ok(value) = operation(&mut walk.pool, op, a, b) else {
         return Err(NoMemory);
@@ -43,7 +45,9 @@ pub(crate) fn quotient(walk: &mut Walk, card: u32, a: TermId, b: TermId) -> Resu
     requires b { IsIn walk.old.pool b }
     ensures on { Follows walk.old walk.new }
     ensures is_in { IfOk result (λ id. IsIn walk.new.pool id) }
-    ensures did { IfOk result (λ id. Does (moment walk.old) (λ w. steps.operate w card BinOp.Div (tree_of walk.old.pool a) (tree_of walk.old.pool b)) (moment walk.new) (tree_of walk.new.pool id)) }
+    ensures did { IfOk result (λ id. Does (moment walk.old) (λ w. steps.operate w card BinOp.Div
+        (tree_of walk.old.pool a) (tree_of walk.old.pool b)) (moment walk.new)
+        (tree_of walk.new.pool id)) }
 {
     divisor(walk, card, b)?;
     let value = in_range_of(walk, card, BinOp::Div, a, b)?;
@@ -63,7 +67,9 @@ pub fn operate(
     requires b { IsIn walk.old.pool b }
     ensures on { Follows walk.old walk.new }
     ensures is_in { IfOk result (λ id. IsIn walk.new.pool id) }
-    ensures did { IfOk result (λ id. Does (moment walk.old) (λ w. steps.operate w card op (tree_of walk.old.pool a) (tree_of walk.old.pool b)) (moment walk.new) (tree_of walk.new.pool id)) }
+    ensures did { IfOk result (λ id. Does (moment walk.old) (λ w. steps.operate w card op
+        (tree_of walk.old.pool a) (tree_of walk.old.pool b)) (moment walk.new)
+        (tree_of walk.new.pool id)) }
 {
     match op {
         BinOp::Add => in_range_of(walk, card, BinOp::Add, a, b),

@@ -24,7 +24,9 @@ fn power_from(
     requires product { IsIn walk.old.pool product }
     ensures on { Follows walk.old walk.new }
     ensures is_in { IfOk result (λ id. IsIn walk.new.pool id) }
-    ensures did { IfOk result (λ id. Does (moment walk.old) (λ w. steps.power_from w card (tree_of walk.old.pool base) more (tree_of walk.old.pool product)) (moment walk.new) (tree_of walk.new.pool id)) }
+    ensures did { IfOk result (λ id. Does (moment walk.old) (λ w. steps.power_from w card
+        (tree_of walk.old.pool base) more (tree_of walk.old.pool product)) (moment walk.new)
+        (tree_of walk.new.pool id)) }
 {
     if more == 0 {
         return Ok(product);
@@ -40,7 +42,8 @@ pub fn power(walk: &mut Walk, card: u32, base: TermId, exponent: u8) -> Result<T
     requires base { IsIn walk.old.pool base }
     ensures on { Follows walk.old walk.new }
     ensures is_in { IfOk result (λ id. IsIn walk.new.pool id) }
-    ensures did { IfOk result (λ id. Does (moment walk.old) (λ w. steps.power w card (tree_of walk.old.pool base) exponent) (moment walk.new) (tree_of walk.new.pool id)) }
+    ensures did { IfOk result (λ id. Does (moment walk.old) (λ w. steps.power w card
+        (tree_of walk.old.pool base) exponent) (moment walk.new) (tree_of walk.new.pool id)) }
 {
     power_from(walk, card, base, exponent.saturating_sub(1), base)
 }

@@ -13,7 +13,8 @@ use Rattle.way_laws.specs.PathsOf.{path_of, paths_of, way_points}
 
 -- the ways through the graph of a unit are the paths of the unit in order
 abbrev pub WaysArePaths : Type 0
-WaysArePaths = (dialect : Dialect) (u : Routine) (notes : Notes) (graph : Graph) → IsGraphOf dialect u notes graph → ArePathsInOrder dialect u notes (paths_of graph)
+WaysArePaths = (dialect : Dialect) (u : Routine) (notes : Notes) (graph : Graph) → IsGraphOf dialect u notes graph
+    → ArePathsInOrder dialect u notes (paths_of graph)
 
 -- the points of a way are those that its path leads through
 abbrev pub WaysHavePoints : Type 0

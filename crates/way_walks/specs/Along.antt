@@ -50,9 +50,11 @@ module _ {V : Type 0} (w : Sight V) where
   along_from_assert None steps end = []
   along_from_assert (Some a) steps end =
       takes (entry_facts w) ++ takes (start_facts w a)
-      ++ arrives_behind (Some (map (note w.sense (at_entry w) (at_start w)) a.clock)) end (gone (stops steps) 0 (at_start w) (symbols_of_calls w.sense))
+      ++ arrives_behind (Some (map (note w.sense (at_entry w) (at_start w)) a.clock)) end
+          (gone (stops steps) 0 (at_start w) (symbols_of_calls w.sense))
 
   -- what is met along a way
   abbrev pub along : ℕ → List Step → ℕ → List (Event V)
-  along zero steps end = takes (entry_facts w) ++ arrives_behind None end (gone (stops steps) 0 (at_entry w) (symbols_of_calls w.sense))
+  along zero steps end = takes (entry_facts w) ++ arrives_behind None end (gone (stops steps) 0 (at_entry w)
+      (symbols_of_calls w.sense))
   along (suc k) steps end = along_from_assert (slice_get (notes_here w).asserts k) steps end

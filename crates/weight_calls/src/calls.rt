@@ -47,8 +47,10 @@ fn hit_names(
     operands: &[Operand],
     smashed: &NameSet,
 ) -> Result<List<Name>, NoMemory>
-    requires { smashed_names (seen_program subject.now.pool.now subject.now.scene.now) callee.now.number ≡ smashed.now }
-    ensures { IfOk result (λ ns. ns ≡ hits (sight_of subject.now) callee.now.number callee.now.book.now.unit.now (map operand_of operands.now)) }
+    requires { smashed_names (seen_program subject.now.pool.now subject.now.scene.now)
+        callee.now.number ≡ smashed.now }
+    ensures { IfOk result (λ ns. ns ≡ hits (sight_of subject.now) callee.now.number
+        callee.now.book.now.unit.now (map operand_of operands.now)) }
 {
     let Ok(bare) = bare_names(subject.alloc, operands) else {
         return Err(NoMemory);
@@ -71,7 +73,8 @@ fn smashed_by(
     callee: &Callee,
     operands: &[Operand],
 ) -> Result<List<Name>, NoMemory>
-    ensures { IfOk result (λ ns. ns ≡ hits (sight_of subject.now) callee.now.number callee.now.book.now.unit.now (map operand_of operands.now)) }
+    ensures { IfOk result (λ ns. ns ≡ hits (sight_of subject.now) callee.now.number
+        callee.now.book.now.unit.now (map operand_of operands.now)) }
 {
     let none = NameSet::new(subject.alloc, subject.keys);
     match subject.smashes(callee.number) {
@@ -87,7 +90,8 @@ fn seen_before(
     names: &NameWeights,
     operands: &[Operand],
 ) -> Result<NameWeights, NoMemory>
-    ensures { IfOk result (λ t. held t ≡ seen_by (sight_of subject.now) callee.now.book.now.unit.now (map stands_for (map operand_of operands.now)) (held names.now) 1) }
+    ensures { IfOk result (λ t. held t ≡ seen_by (sight_of subject.now) callee.now.book.now.unit.now
+        (map stands_for (map operand_of operands.now)) (held names.now) 1) }
 {
     let Ok(weights) = weights_of(subject.alloc, operands) else {
         return Err(NoMemory);
@@ -111,7 +115,9 @@ fn seen_behind(
     smashed: &[Name],
     operands: &[Operand],
 ) -> Result<NameWeights, NoMemory>
-    ensures { IfOk result (λ t. held t ≡ tally.seen_after (sight_of subject.now) callee.now.book.now.unit.now (changed_by smashed.now (held names.now)) (map operand_of operands.now)) }
+    ensures { IfOk result (λ t. held t ≡ tally.seen_after (sight_of subject.now)
+        callee.now.book.now.unit.now (changed_by smashed.now (held names.now))
+        (map operand_of operands.now)) }
 {
     let mut set = NameSet::new(subject.alloc, subject.keys);
     let Ok(_) = set.add_all(smashed) else {
@@ -139,7 +145,9 @@ fn weigh(
     operands: &[Operand],
     load: &mut Load,
 ) -> Result<List<Name>, NoMemory>
-    ensures { IfOk result (λ ns. IsWeighed (tally.unit_called (sight_of subject.now) callee.now.number callee.now.book.now.unit.now (held names.now) (map operand_of operands.now)) load.old (held names.now) load.new ns) }
+    ensures { IfOk result (λ ns. IsWeighed (tally.unit_called (sight_of subject.now)
+        callee.now.number callee.now.book.now.unit.now (held names.now)
+        (map operand_of operands.now)) load.old (held names.now) load.new ns) }
 {
     let Ok(before) = seen_before(subject, callee, names, operands) else {
         return Err(NoMemory);
@@ -179,7 +187,8 @@ fn weigh_any(
     operands: &[Operand],
     load: &mut Load,
 ) -> Result<List<Name>, NoMemory>
-    ensures { IfOk result (λ ns. IsWeighed (tally.called (sight_of subject.now) callee (held names.now) (map operand_of operands.now)) load.old (held names.now) load.new ns) }
+    ensures { IfOk result (λ ns. IsWeighed (tally.called (sight_of subject.now) callee
+        (held names.now) (map operand_of operands.now)) load.old (held names.now) load.new ns) }
 {
     let Some(number) = callee else {
         return Ok(List::from_vec(Vec::new(subject.alloc)));
@@ -206,7 +215,8 @@ pub fn refer(
     operands: &[Operand],
     load: &mut Load,
 ) -> Result<(), NoMemory>
-    ensures { OnOk result (load.new ≡ (tally.called (sight_of subject.now) callee (held names.now) (map operand_of operands.now) load.old).load) }
+    ensures { OnOk result (load.new ≡ (tally.called (sight_of subject.now) callee (held names.now)
+        (map operand_of operands.now) load.old).load) }
 {
     let Ok(_) = weigh_any(subject, callee, names, operands, load) else {
         return Err(NoMemory);
@@ -235,8 +245,10 @@ pub fn call(
     operands: &[Operand],
     load: &mut Load,
 ) -> Result<(), NoMemory>
-    ensures load { OnOk result (load.new ≡ (tally.called (sight_of subject.now) callee (held names.old) (map operand_of operands.now) load.old).load) }
-    ensures names { OnOk result (held names.new ≡ (tally.called (sight_of subject.now) callee (held names.old) (map operand_of operands.now) load.old).value) }
+    ensures load { OnOk result (load.new ≡ (tally.called (sight_of subject.now) callee
+        (held names.old) (map operand_of operands.now) load.old).load) }
+    ensures names { OnOk result (held names.new ≡ (tally.called (sight_of subject.now) callee
+        (held names.old) (map operand_of operands.now) load.old).value) }
     ensures marks { OnOk result (marked names.new ≡ marked names.old) }
 {
     let Ok(smashed) = weigh_any(subject, callee, names, operands, load) else {

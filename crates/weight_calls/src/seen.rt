@@ -34,7 +34,8 @@ impl<'a> Caller<'a> {
 
     /// What an operand weighs.
     fn operand_weight(&self, operand: &Operand) -> u32
-        ensures { (w : Sight ℕ) → result ≡ stands_after w (changed_by self.now.smashed.now (held self.now.names.now)) (operand_of operand.now) }
+        ensures { (w : Sight ℕ) → result ≡ stands_after w (changed_by self.now.smashed.now
+            (held self.now.names.now)) (operand_of operand.now) }
     {
         match operand {
             Operand::Bare(name, _) => self.weight(name),
@@ -50,7 +51,9 @@ pub(crate) fn weights_behind(
     caller: &Caller,
     operands: &[Operand],
 ) -> Result<Vec<u32>, NoMemory>
-    ensures { IfOk result (λ ns. (w : Sight ℕ) → ns.items ≡ map (stands_after w (changed_by caller.now.smashed.now (held caller.now.names.now))) (map operand_of operands.now)) }
+    ensures { IfOk result (λ ns. (w : Sight ℕ)
+        → ns.items ≡ map (stands_after w (changed_by caller.now.smashed.now
+        (held caller.now.names.now))) (map operand_of operands.now)) }
 {
     let mut weights = Vec::new(alloc);
     for operand in operands {
@@ -74,7 +77,8 @@ fn data_weight(caller: &Caller, named: &DataName) -> u32
 
 /// What the data names of a called unit weigh.
 fn set_names(table: &mut NameWeights, caller: &Caller, names: &[DataName]) -> Result<(), NoMemory>
-    ensures { OnOk result (held table.new ≡ by_names (changed_by caller.now.smashed.now (held caller.now.names.now)) names.now (held table.old)) }
+    ensures { OnOk result (held table.new ≡ by_names (changed_by caller.now.smashed.now
+        (held caller.now.names.now)) names.now (held table.old)) }
 {
     let mut left = names.len();
     while left > 0 {
@@ -89,7 +93,8 @@ fn set_names(table: &mut NameWeights, caller: &Caller, names: &[DataName]) -> Re
 
 /// Dummies weigh what their actuals do.
 fn set_actuals(table: &mut NameWeights, dummies: &[Name], weights: &[u32]) -> Result<(), NoMemory>
-    ensures { OnOk result ((w : Sight ℕ) → held table.new ≡ with_actuals w dummies.now weights.now (held table.old)) }
+    ensures { OnOk result ((w : Sight ℕ) → held table.new ≡ with_actuals w dummies.now weights.now
+        (held table.old)) }
 {
     let mut left = dummies.len().min(weights.len());
     while left > 0 {
@@ -108,7 +113,8 @@ pub(crate) fn seen(
     caller: &Caller,
     weights: &[u32],
 ) -> Result<NameWeights, NoMemory>
-    ensures { IfOk result (λ t. held t ≡ seen_by (sight_of subject.now) unit.now weights.now (changed_by caller.now.smashed.now (held caller.now.names.now)) 1) }
+    ensures { IfOk result (λ t. held t ≡ seen_by (sight_of subject.now) unit.now weights.now
+        (changed_by caller.now.smashed.now (held caller.now.names.now)) 1) }
 {
     let mut table = NameWeights::new(subject.alloc, subject.keys);
     let Ok(()) = set_names(&mut table, caller, unit.names.as_slice()) else {

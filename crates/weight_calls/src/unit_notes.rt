@@ -19,7 +19,8 @@ impl<'a> Subject<'a> {
 
     /// The terms of INPUT of a unit of the program.
     pub fn input(&self, number: usize) -> &'a [TermId]
-        ensures terms { map (tree_of self.now.pool.now) result.now ≡ (notes_of (seen_program self.now.pool.now self.now.scene.now) number).input }
+        ensures terms { map (tree_of self.now.pool.now) result.now
+            ≡ (notes_of (seen_program self.now.pool.now self.now.scene.now) number).input }
         ensures below { AllBelow (length self.now.pool.now) result.now }
     {
         match self.spec(number) {
@@ -30,7 +31,8 @@ impl<'a> Subject<'a> {
 
     /// The terms of OUTPUT of a unit of the program.
     pub fn output(&self, number: usize) -> &'a [TermId]
-        ensures terms { map (tree_of self.now.pool.now) result.now ≡ (notes_of (seen_program self.now.pool.now self.now.scene.now) number).output }
+        ensures terms { map (tree_of self.now.pool.now) result.now
+            ≡ (notes_of (seen_program self.now.pool.now self.now.scene.now) number).output }
         ensures below { AllBelow (length self.now.pool.now) result.now }
     {
         match self.spec(number) {

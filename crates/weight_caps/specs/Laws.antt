@@ -18,7 +18,8 @@ CapLists = (ns : List ℕ) → capped (sum (map capped ns)) ≡ capped (sum ns)
 
 -- terms of notes, whose names have capped weights
 abbrev pub CapTerms : Type 0
-CapTerms = (now past : List ℕ → ℕ) (t : Tree) → capped (term_weight (λ x. capped (now x)) (λ x. capped (past x)) t) ≡ capped (term_weight now past t)
+CapTerms = (now past : List ℕ → ℕ) (t : Tree) → capped (term_weight (λ x. capped (now x)) (λ x. capped (past x)) t)
+    ≡ capped (term_weight now past t)
 
 abbrev pub CappedWeightsAreWeights : Type 0
 CappedWeightsAreWeights = CapTwice × CapSums × CapLists × CapTerms

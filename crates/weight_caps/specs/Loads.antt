@@ -40,12 +40,14 @@ behind l part = let w = part l.running in record {
 
 -- a load is an exact one, as far as the cap
 abbrev pub IsCappedLoad : Load → Load → Type 0
-IsCappedLoad l exact = l ≡ record { running = capped exact.running; conditions = capped exact.conditions; weight = capped exact.weight }
+IsCappedLoad l exact = l ≡ record { running = capped exact.running; conditions = capped exact.conditions;
+    weight = capped exact.weight }
 
 -- a load goes over into another, and a value is reached, just as a part of a path does with each exact load that it
 -- may stand for; values correspond by R
 abbrev pub Weighs : {A B : Type 0} → (A → B → Type 0) → Load → Weigh A → Load → B → Type 0
-Weighs R old part new value = (exact : Load) → IsCappedLoad old exact → IsCappedLoad new (behind exact part) × R (part exact.running).value value
+Weighs R old part new value = (exact : Load) → IsCappedLoad old exact → IsCappedLoad new (behind exact part)
+    × R (part exact.running).value value
 
 -- a value is a weight, as far as the cap
 abbrev pub IsCapped : ℕ → ℕ → Type 0

@@ -25,8 +25,14 @@ fn applied_weight(
     name: &Name,
     args: &[Expr],
 ) -> Result<Operand, NoMemory>
-    ensures load { OnOk result (load.new ≡ (tally.apply_weight (sight_of subject.now) (held names.now) name.now (text.applied subject.now.book.now.unit.now name.now) (values_listed (sight_of subject.now) (held names.now) args.now) (operands_listed (sight_of subject.now) (held names.now) args.now) load.old).load) }
-    ensures value { IfOk result (λ x. operand_of x ≡ (tally.apply_weight (sight_of subject.now) (held names.now) name.now (text.applied subject.now.book.now.unit.now name.now) (values_listed (sight_of subject.now) (held names.now) args.now) (operands_listed (sight_of subject.now) (held names.now) args.now) load.old).value) }
+    ensures load { OnOk result (load.new ≡ (tally.apply_weight (sight_of subject.now)
+        (held names.now) name.now (text.applied subject.now.book.now.unit.now name.now)
+        (values_listed (sight_of subject.now) (held names.now) args.now)
+        (operands_listed (sight_of subject.now) (held names.now) args.now) load.old).load) }
+    ensures value { IfOk result (λ x. operand_of x ≡ (tally.apply_weight (sight_of subject.now)
+        (held names.now) name.now (text.applied subject.now.book.now.unit.now name.now)
+        (values_listed (sight_of subject.now) (held names.now) args.now)
+        (operands_listed (sight_of subject.now) (held names.now) args.now) load.old).value) }
 {
     match applied(subject.book, name) {
         Bracketed::Element(dims) => {
@@ -70,8 +76,10 @@ fn bracketed(
     load: &mut Load,
     e: &Expr,
 ) -> Result<Operand, NoMemory>
-    ensures load { OnOk result (load.new ≡ (bracketed_part (sight_of subject.now) (held names.now) e.now load.old).load) }
-    ensures value { IfOk result (λ x. operand_of x ≡ (bracketed_part (sight_of subject.now) (held names.now) e.now load.old).value) }
+    ensures load { OnOk result (load.new ≡ (bracketed_part (sight_of subject.now)
+        (held names.now) e.now load.old).load) }
+    ensures value { IfOk result (λ x. operand_of x ≡ (bracketed_part (sight_of subject.now)
+        (held names.now) e.now load.old).value) }
 {
     let Ok(weight) = value(subject, names, load, e) else {
         return Err(NoMemory);
@@ -87,8 +95,10 @@ fn negated(
     load: &mut Load,
     e: &Expr,
 ) -> Result<Operand, NoMemory>
-    ensures load { OnOk result (load.new ≡ (negated_part (sight_of subject.now) (held names.now) e.now load.old).load) }
-    ensures value { IfOk result (λ x. operand_of x ≡ (negated_part (sight_of subject.now) (held names.now) e.now load.old).value) }
+    ensures load { OnOk result (load.new ≡ (negated_part (sight_of subject.now)
+        (held names.now) e.now load.old).load) }
+    ensures value { IfOk result (λ x. operand_of x ≡ (negated_part (sight_of subject.now)
+        (held names.now) e.now load.old).value) }
 {
     let Ok(weight) = value(subject, names, load, e) else {
         return Err(NoMemory);
@@ -104,8 +114,10 @@ fn denied(
     load: &mut Load,
     e: &Expr,
 ) -> Result<Operand, NoMemory>
-    ensures load { OnOk result (load.new ≡ (denied_part (sight_of subject.now) (held names.now) e.now load.old).load) }
-    ensures value { IfOk result (λ x. operand_of x ≡ (denied_part (sight_of subject.now) (held names.now) e.now load.old).value) }
+    ensures load { OnOk result (load.new ≡ (denied_part (sight_of subject.now)
+        (held names.now) e.now load.old).load) }
+    ensures value { IfOk result (λ x. operand_of x ≡ (denied_part (sight_of subject.now)
+        (held names.now) e.now load.old).value) }
 {
     let Ok(weight) = value(subject, names, load, e) else {
         return Err(NoMemory);
@@ -122,8 +134,10 @@ fn raised(
     exponent: u8,
     e: &Expr,
 ) -> Result<Operand, NoMemory>
-    ensures load { OnOk result (load.new ≡ (raised_part (sight_of subject.now) (held names.now) exponent e.now load.old).load) }
-    ensures value { IfOk result (λ x. operand_of x ≡ (raised_part (sight_of subject.now) (held names.now) exponent e.now load.old).value) }
+    ensures load { OnOk result (load.new ≡ (raised_part (sight_of subject.now)
+        (held names.now) exponent e.now load.old).load) }
+    ensures value { IfOk result (λ x. operand_of x ≡ (raised_part (sight_of subject.now)
+        (held names.now) exponent e.now load.old).value) }
 {
     let Ok(weight) = value(subject, names, load, e) else {
         return Err(NoMemory);
@@ -140,8 +154,10 @@ fn joined(
     first: u32,
     e: &Expr,
 ) -> Result<Operand, NoMemory>
-    ensures load { OnOk result (load.new ≡ (joined_part (sight_of subject.now) (held names.now) first e.now load.old).load) }
-    ensures value { IfOk result (λ x. operand_of x ≡ (joined_part (sight_of subject.now) (held names.now) first e.now load.old).value) }
+    ensures load { OnOk result (load.new ≡ (joined_part (sight_of subject.now)
+        (held names.now) first e.now load.old).load) }
+    ensures value { IfOk result (λ x. operand_of x ≡ (joined_part (sight_of subject.now)
+        (held names.now) first e.now load.old).value) }
 {
     let Ok(weight) = value(subject, names, load, e) else {
         return Err(NoMemory);
@@ -158,8 +174,10 @@ fn operated(
     before: &Before,
     e: &Expr,
 ) -> Result<Operand, NoMemory>
-    ensures load { OnOk result (load.new ≡ (operated_part (sight_of subject.now) (held names.now) before.now.operator before.now.first e.now load.old).load) }
-    ensures value { IfOk result (λ x. operand_of x ≡ (operated_part (sight_of subject.now) (held names.now) before.now.operator before.now.first e.now load.old).value) }
+    ensures load { OnOk result (load.new ≡ (operated_part (sight_of subject.now)
+        (held names.now) before.now.operator before.now.first e.now load.old).load) }
+    ensures value { IfOk result (λ x. operand_of x ≡ (operated_part (sight_of subject.now)
+        (held names.now) before.now.operator before.now.first e.now load.old).value) }
 {
     let Ok(weight) = value(subject, names, load, e) else {
         return Err(NoMemory);
@@ -175,8 +193,10 @@ fn operand(
     load: &mut Load,
     e: &Expr,
 ) -> Result<Operand, NoMemory>
-    ensures load { OnOk result (load.new ≡ (tally.operand (sight_of subject.now) (held names.now) e.now load.old).load) }
-    ensures value { IfOk result (λ x. operand_of x ≡ (tally.operand (sight_of subject.now) (held names.now) e.now load.old).value) }
+    ensures load { OnOk result (load.new ≡ (tally.operand (sight_of subject.now)
+        (held names.now) e.now load.old).load) }
+    ensures value { IfOk result (λ x. operand_of x ≡ (tally.operand (sight_of subject.now)
+        (held names.now) e.now load.old).value) }
 {
     match e {
         Expr::Const(number) => Ok(Operand::Computed(constant(subject, load, *number))),
@@ -227,8 +247,10 @@ pub fn value(
     load: &mut Load,
     e: &Expr,
 ) -> Result<u32, NoMemory>
-    ensures load { OnOk result (load.new ≡ (tally.value (sight_of subject.now) (held names.now) e.now load.old).load) }
-    ensures value { IfOk result (λ n. n ≡ (tally.value (sight_of subject.now) (held names.now) e.now load.old).value) }
+    ensures load { OnOk result (load.new ≡ (tally.value (sight_of subject.now)
+        (held names.now) e.now load.old).load) }
+    ensures value { IfOk result (λ n. n ≡ (tally.value (sight_of subject.now)
+        (held names.now) e.now load.old).value) }
 {
     let Ok(part) = operand(subject, names, load, e) else {
         return Err(NoMemory);
@@ -244,8 +266,10 @@ pub fn values(
     load: &mut Load,
     args: &[Expr],
 ) -> Result<Vec<u32>, NoMemory>
-    ensures load { OnOk result (load.new ≡ (values_listed (sight_of subject.now) (held names.now) args.now load.old).load) }
-    ensures value { IfOk result (λ ns. ns.items ≡ (values_listed (sight_of subject.now) (held names.now) args.now load.old).value) }
+    ensures load { OnOk result (load.new ≡ (values_listed (sight_of subject.now)
+        (held names.now) args.now load.old).load) }
+    ensures value { IfOk result (λ ns. ns.items ≡ (values_listed (sight_of subject.now)
+        (held names.now) args.now load.old).value) }
 {
     let mut weights = Vec::new(subject.alloc);
     for e in args {
@@ -267,8 +291,10 @@ pub fn operands(
     load: &mut Load,
     args: &[Expr],
 ) -> Result<Vec<Operand>, NoMemory>
-    ensures load { OnOk result (load.new ≡ (operands_listed (sight_of subject.now) (held names.now) args.now load.old).load) }
-    ensures value { IfOk result (λ xs. map operand_of xs.items ≡ (operands_listed (sight_of subject.now) (held names.now) args.now load.old).value) }
+    ensures load { OnOk result (load.new ≡ (operands_listed (sight_of subject.now)
+        (held names.now) args.now load.old).load) }
+    ensures value { IfOk result (λ xs. map operand_of xs.items
+        ≡ (operands_listed (sight_of subject.now) (held names.now) args.now load.old).value) }
 {
     let mut found = Vec::new(subject.alloc);
     for e in args {

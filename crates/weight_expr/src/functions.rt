@@ -92,7 +92,10 @@ fn modulo(load: &mut Load, weights: &[u32]) -> u32
 
 /// MAX0 or MIN0 of one weight or more; of none it weighs 1.
 fn greatest(weights: &[u32]) -> u32
-    ensures { (load : Load) → (tally.intrinsic_weight text.Greatest weights.now load ≡ record { value = result; load = load }) × (tally.intrinsic_weight text.Least weights.now load ≡ record { value = result; load = load }) }
+    ensures { (load : Load) → (tally.intrinsic_weight text.Greatest weights.now load
+        ≡ record { value = result; load = load })
+        × (tally.intrinsic_weight text.Least weights.now load
+        ≡ record { value = result; load = load }) }
 {
     if weights.is_empty() {
         return 1;

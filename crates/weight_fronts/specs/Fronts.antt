@@ -25,7 +25,8 @@ module _ (w : Sight ℕ) where
   -- what a path begins with at an ASSERT, and what its clock weighs there; nothing where there is none
   abbrev pub load_at : Option Assertion → Load
   load_at None = nothing_yet
-  load_at (Some a) = with_added nothing_yet (both (both (entry_weight w) (all (told w all_one a.terms))) (all (told w all_one a.clock)))
+  load_at (Some a) = with_added nothing_yet (both (both (entry_weight w) (all (told w all_one a.terms)))
+      (all (told w all_one a.clock)))
 
   abbrev pub clock_at : Option Assertion → Option ℕ
   clock_at None = None
@@ -63,7 +64,8 @@ pub record IsMark (w : Sight ℕ) (start : ℕ) (steps : List Step) (now : Named
 abbrev pub AreMarks : Sight ℕ → ℕ → List Step → ℕ → List (Named ℕ) → List Mark → Type 0
 AreMarks w start steps bound told [] = Unit {0}
 AreMarks w start steps bound [] (mark ∷ marks) = ⊥
-AreMarks w start steps bound (now ∷ told) (mark ∷ marks) = (mark.place < bound) × IsMark w start steps now mark × AreMarks w start steps mark.place told marks
+AreMarks w start steps bound (now ∷ told) (mark ∷ marks) = (mark.place < bound) × IsMark w start steps now mark
+    × AreMarks w start steps mark.place told marks
 
 -- a front has marks on a way, all of them before some step
 pub record IsFront (w : Sight ℕ) (steps : List Step) (bound : ℕ) (f : Front) : Type 0 where

@@ -26,7 +26,8 @@ fn step_back(front: &mut Front) -> Option<Mark>
 pub(crate) fn back_to(front: &mut Front, shared: usize) -> Option<Mark>
     ensures start { front.new.start ≡ front.old.start }
     ensures before { IfSome result (λ mark. mark.place < shared) }
-    ensures at { IfSome result (λ mark. (w : Sight ℕ) (steps : List Step) (bound : ℕ) → IsFront w steps bound front.old → IsBackAt w steps mark front.new) }
+    ensures at { IfSome result (λ mark. (w : Sight ℕ) (steps : List Step) (bound : ℕ)
+        → IsFront w steps bound front.old → IsBackAt w steps mark front.new) }
 {
     while let Some(mark) = step_back(front) {
         if mark.place < shared {

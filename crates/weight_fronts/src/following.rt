@@ -28,8 +28,10 @@ fn weigh(
     requires load { load.old ≡ nothing_yet }
     requires front { (before : List Step) × SharesSteps path.now.shared before path.now.steps.now × IsFront (sight_of course.now.subject.now) before
         (length before) front.old }
-    ensures front { OnOk result (IsFront (sight_of course.now.subject.now) path.now.steps.now (length path.now.steps.now) front.new) }
-    ensures load { OnOk result (load.new ≡ (from_start (sight_of course.now.subject.now) path.now.start path.now.steps.now path.now.end nothing_yet).load) }
+    ensures front { OnOk result (IsFront (sight_of course.now.subject.now) path.now.steps.now
+        (length path.now.steps.now) front.new) }
+    ensures load { OnOk result (load.new ≡ (from_start (sight_of course.now.subject.now)
+        path.now.start path.now.steps.now path.now.end nothing_yet).load) }
 {
     let Ok(found) = stand(front, course.subject, load, path) else {
         return Err(NoMemory);
@@ -55,7 +57,8 @@ fn weigh(
 pub fn follow(front: &mut Front, course: &Course, path: &PathView) -> Result<Load, NoMemory>
     requires { (before : List Step) × SharesSteps path.now.shared before path.now.steps.now × IsFront (sight_of course.now.subject.now) before
         (length before) front.old }
-    ensures front { OnOk result (IsFront (sight_of course.now.subject.now) path.now.steps.now (length path.now.steps.now) front.new) }
+    ensures front { OnOk result (IsFront (sight_of course.now.subject.now) path.now.steps.now
+        (length path.now.steps.now) front.new) }
     ensures load { IfOk result (λ l. l ≡ load_of (seen_program course.now.subject.now.pool.now course.now.subject.now.scene.now)
         course.now.subject.now.number course.now.subject.now.book.now.unit.now (way_seen path.now)) }
 {

@@ -17,7 +17,8 @@ use weight_stmt::Course;
 fn set_mark(front: &mut Front, load: &Load, place: usize) -> Result<(), NoMemory>
     ensures start { OnOk result (front.new.start ≡ front.old.start) }
     ensures clock { OnOk result (front.new.clock ≡ front.old.clock) }
-    ensures at { OnOk result ((w : Sight ℕ) (steps : List OneStep) → IsAt w steps place front.old load.now → IsAt w steps place front.new load.now) }
+    ensures at { OnOk result ((w : Sight ℕ) (steps : List OneStep)
+        → IsAt w steps place front.old load.now → IsAt w steps place front.new load.now) }
     ensures front { OnOk result ((w : Sight ℕ) (steps : List OneStep) → IsFront w steps place front.old → IsAt w steps place front.old load.now
         → HasAt steps place → IsFront w steps (suc place) front.new) }
 {
@@ -48,7 +49,8 @@ fn parts(behind: &[Step]) -> bool {
 fn mark_fork(front: &mut Front, load: &Load, place: usize, behind: &[Step]) -> Result<(), NoMemory>
     ensures start { OnOk result (front.new.start ≡ front.old.start) }
     ensures clock { OnOk result (front.new.clock ≡ front.old.clock) }
-    ensures at { OnOk result ((w : Sight ℕ) (steps : List OneStep) → IsAt w steps place front.old load.now → IsAt w steps place front.new load.now) }
+    ensures at { OnOk result ((w : Sight ℕ) (steps : List OneStep)
+        → IsAt w steps place front.old load.now → IsAt w steps place front.new load.now) }
     ensures front { OnOk result ((w : Sight ℕ) (steps : List OneStep) → IsFront w steps place front.old → IsAt w steps place front.old load.now
         → HasAt steps place → IsFront w steps (suc place) front.new) }
 {
@@ -71,8 +73,10 @@ pub(crate) fn go(
     requires front { IsFront (sight_of course.now.subject.now) steps.now place front.old }
     requires at { IsAt (sight_of course.now.subject.now) steps.now place front.old load.old }
     ensures start { OnOk result (front.new.start ≡ front.old.start) }
-    ensures front { OnOk result (IsFront (sight_of course.now.subject.now) steps.now (length steps.now) front.new) }
-    ensures at { OnOk result (IsAt (sight_of course.now.subject.now) steps.now (length steps.now) front.new load.new) }
+    ensures front { OnOk result (IsFront (sight_of course.now.subject.now) steps.now
+        (length steps.now) front.new) }
+    ensures at { OnOk result (IsAt (sight_of course.now.subject.now) steps.now
+        (length steps.now) front.new load.new) }
 {
     for at in place..steps.len() {
         let Some(point) = begun_at(&steps[at]) else {

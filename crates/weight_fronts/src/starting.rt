@@ -38,8 +38,10 @@ fn begin(
     start: usize,
 ) -> Result<Option<usize>, NoMemory>
     requires { load.old ≡ nothing_yet }
-    ensures some { IfOk result (λ found. IfSome found (λ place. (steps : List Step) → Stands (sight_of subject.now) steps start place front.new load.new)) }
-    ensures none { IfOk result (λ found. IfNone found (IsNowhere (sight_of subject.now) start front.new load.new)) }
+    ensures some { IfOk result (λ found. IfSome found (λ place. (steps : List Step)
+        → Stands (sight_of subject.now) steps start place front.new load.new)) }
+    ensures none { IfOk result (λ found. IfNone found (IsNowhere (sight_of subject.now)
+        start front.new load.new)) }
 {
     clear(front, subject);
     if start == 0 {
@@ -80,8 +82,10 @@ pub(crate) fn stand(
     requires load { load.old ≡ nothing_yet }
     requires front { (before : List Step) × SharesSteps path.now.shared before path.now.steps.now × IsFront (sight_of subject.now) before
         (length before) front.old }
-    ensures some { IfOk result (λ found. IfSome found (λ place. Stands (sight_of subject.now) path.now.steps.now path.now.start place front.new load.new)) }
-    ensures none { IfOk result (λ found. IfNone found (IsNowhere (sight_of subject.now) path.now.start front.new load.new)) }
+    ensures some { IfOk result (λ found. IfSome found (λ place. Stands (sight_of subject.now)
+        path.now.steps.now path.now.start place front.new load.new)) }
+    ensures none { IfOk result (λ found. IfNone found (IsNowhere (sight_of subject.now)
+        path.now.start front.new load.new)) }
 {
     if front.start == path.start {
         if let Some(mark) = back_to(front, path.shared) {

@@ -8,4 +8,5 @@ use Rattle.path_sizes.specs.Weights.{weights_of}
 
 -- along each path there are as many weights of conditions as checks
 abbrev pub WeightsHaveChecks : Type 0
-WeightsHaveChecks = (p : Program) (i : ℕ) (u : Routine) (path : Path) → length (weights_of p i u path) ≡ length (checks_of p i u path)
+WeightsHaveChecks = (p : Program) (i : ℕ) (u : Routine) (path : Path) → length (weights_of p i u path)
+    ≡ length (checks_of p i u path)

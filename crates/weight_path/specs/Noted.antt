@@ -25,7 +25,8 @@ own_weights s now ids = told (sight_of s) now (map (tree_of s.pool.now) ids)
 
 -- what a path begins with at an ASSERT
 abbrev pub assert_weight : Subject → AssertSpec → ℕ
-assert_weight s a = both (both (entry_weight (sight_of s)) (all (own_weights s all_one a.terms))) (all (own_weights s all_one a.clock))
+assert_weight s a = both (both (entry_weight (sight_of s)) (all (own_weights s all_one a.terms)))
+    (all (own_weights s all_one a.clock))
 
 -- the first ASSERT that stands before the statement of a number
 abbrev pub first_at : List AssertSpec → ℕ → Option AssertSpec

@@ -35,7 +35,9 @@ fn arrive_at_assert(
     assert: &AssertSpec,
 ) -> Result<(), NoMemory>
     requires { IsAssertIn (length subject.now.pool.now) assert.now }
-    ensures { OnOk result (load.new ≡ (tally.arrive (sight_of subject.now) clock (AtAssert (assertion_tree subject.now.pool.now assert.now)) (held names.now) load.old).load) }
+    ensures { OnOk result (load.new ≡ (tally.arrive (sight_of subject.now) clock
+        (AtAssert (assertion_tree subject.now.pool.now assert.now)) (held names.now)
+        load.old).load) }
 {
     let Ok(()) = test_own(subject, names, load, assert.terms.as_slice()) else {
         return Err(NoMemory);
@@ -59,7 +61,9 @@ pub fn arrive(
     clock: Option<u32>,
     end: usize,
 ) -> Result<(), NoMemory>
-    ensures { OnOk result (load.new ≡ (tally.arrive (sight_of subject.now) clock (cut_at subject.now.book.now.unit.now (own_notes subject.now) end) (held names.now) load.old).load) }
+    ensures { OnOk result (load.new ≡ (tally.arrive (sight_of subject.now) clock
+        (cut_at subject.now.book.now.unit.now (own_notes subject.now) end)
+        (held names.now) load.old).load) }
 {
     let lines = subject.book.unit.lines.as_slice();
     if end >= lines.len() {

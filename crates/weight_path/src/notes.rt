@@ -48,7 +48,8 @@ fn nth(asserts: &[AssertSpec], number: usize) -> Option<&AssertSpec>
 
 /// The ASSERT of the unit at a point, where one stands there.
 pub(crate) fn assert_at<'a>(subject: &Subject<'a>, point: usize) -> Option<&'a AssertSpec>
-    ensures tree { option_map (assertion_tree subject.now.pool.now) (option_copied result) ≡ assertion_at (own_notes subject.now) point }
+    ensures tree { option_map (assertion_tree subject.now.pool.now) (option_copied result)
+        ≡ assertion_at (own_notes subject.now) point }
     ensures inside { IfSome result (λ a. IsAssertIn (length subject.now.pool.now) a.now) }
 {
     let all = asserts(subject);
@@ -60,7 +61,8 @@ pub(crate) fn assert_at<'a>(subject: &Subject<'a>, point: usize) -> Option<&'a A
 
 /// The ASSERT of the unit of a number, counted from 0, where there is one.
 pub fn assert_of<'a>(subject: &Subject<'a>, number: usize) -> Option<&'a AssertSpec>
-    ensures tree { option_map (assertion_tree subject.now.pool.now) (option_copied result) ≡ slice_get (own_notes subject.now).asserts number }
+    ensures tree { option_map (assertion_tree subject.now.pool.now) (option_copied result)
+        ≡ slice_get (own_notes subject.now).asserts number }
     ensures inside { IfSome result (λ a. IsAssertIn (length subject.now.pool.now) a.now) }
 {
     let all = asserts(subject);

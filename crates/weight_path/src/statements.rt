@@ -29,8 +29,12 @@ pub fn perform_at(
     point: usize,
     behind: &[Step],
 ) -> Result<(), NoMemory>
-    ensures load { OnOk result (load.new ≡ (tally.perform_line (sight_of course.now.subject.now) (slice_get course.now.subject.now.book.now.unit.now.lines point) point (held names.old) (turns behind.now) load.old).load) }
-    ensures names { OnOk result (held names.new ≡ (tally.perform_line (sight_of course.now.subject.now) (slice_get course.now.subject.now.book.now.unit.now.lines point) point (held names.old) (turns behind.now) load.old).value) }
+    ensures load { OnOk result (load.new ≡ (tally.perform_line (sight_of course.now.subject.now)
+        (slice_get course.now.subject.now.book.now.unit.now.lines point) point (held names.old)
+        (turns behind.now) load.old).load) }
+    ensures names { OnOk result (held names.new ≡ (tally.perform_line
+        (sight_of course.now.subject.now) (slice_get course.now.subject.now.book.now.unit.now.lines
+        point) point (held names.old) (turns behind.now) load.old).value) }
     ensures marks { OnOk result (marked names.new ≡ marked names.old) }
 {
     let Some(line) = line_at(course.subject.book.unit, point) else {

@@ -40,7 +40,8 @@ pub(crate) fn test_own(
     ids: &[TermId],
 ) -> Result<(), NoMemory>
     requires { AllBelow (length subject.now.pool.now) ids.now }
-    ensures { OnOk result (load.new ≡ with_tests load.old (own_weights subject.now (held names.now) ids.now)) }
+    ensures { OnOk result (load.new ≡ with_tests load.old (own_weights subject.now
+        (held names.now) ids.now)) }
 {
     let ones = NameWeights::new(subject.alloc, subject.keys);
     let told = Told {

@@ -99,8 +99,10 @@ pub(crate) fn loop_tested(
     load: &mut Load,
     found: &Found,
 ) -> u32
-    ensures load { (at : ℕ) → load.new ≡ (loop_tested (sight_of subject.now) (held names.now) (loop_of at found.now) load.old).load }
-    ensures value { (at : ℕ) → result ≡ (loop_tested (sight_of subject.now) (held names.now) (loop_of at found.now) load.old).value }
+    ensures load { (at : ℕ) → load.new ≡ (loop_tested (sight_of subject.now) (held names.now)
+        (loop_of at found.now) load.old).load }
+    ensures value { (at : ℕ) → result ≡ (loop_tested (sight_of subject.now) (held names.now)
+        (loop_of at found.now) load.old).value }
 {
     let variable = read(load, names.of(&found.variable));
     let step = step_weight(subject, names, load, found.step);

@@ -25,8 +25,10 @@ fn assign(
     left: &Expr,
     weight: u32,
 ) -> Result<(), NoMemory>
-    ensures load { OnOk result (load.new ≡ (tally.assign (sight_of subject.now) (held names.old) left.now weight load.old).load) }
-    ensures names { OnOk result (held names.new ≡ (tally.assign (sight_of subject.now) (held names.old) left.now weight load.old).value) }
+    ensures load { OnOk result (load.new ≡ (tally.assign (sight_of subject.now)
+        (held names.old) left.now weight load.old).load) }
+    ensures names { OnOk result (held names.new ≡ (tally.assign (sight_of subject.now)
+        (held names.old) left.now weight load.old).value) }
     ensures marks { OnOk result (marked names.new ≡ marked names.old) }
 {
     match left {
@@ -53,7 +55,8 @@ fn assign(
 
 /// A condition is decided.
 fn judge(subject: &Subject, names: &NameWeights, load: &mut Load, e: &Expr) -> Result<(), NoMemory>
-    ensures { OnOk result (load.new ≡ (tally.judged (sight_of subject.now) (held names.now) e.now load.old).load) }
+    ensures { OnOk result (load.new ≡ (tally.judged (sight_of subject.now)
+        (held names.now) e.now load.old).load) }
 {
     let Ok(weight) = value(subject, names, load, e) else {
         return Err(NoMemory);
@@ -340,7 +343,8 @@ fn called(
 
 /// A RETURN: that of a FUNCTION needs its value.
 fn returned(subject: &Subject, names: &NameWeights, load: &mut Load)
-    ensures { load.new ≡ (tally.result (sight_of subject.now) (held names.now) (is_function subject.now.book.now.unit.now) load.old).load }
+    ensures { load.new ≡ (tally.result (sight_of subject.now) (held names.now)
+        (is_function subject.now.book.now.unit.now) load.old).load }
 {
     if subject.book.unit.sort.is_some() {
         load.test(names.of(&subject.book.unit.name));

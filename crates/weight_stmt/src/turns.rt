@@ -33,8 +33,10 @@ fn turn(
     found: &Found,
     choice: usize,
 ) -> Result<(), NoMemory>
-    ensures load { OnOk result ((at : ℕ) → load.new ≡ (turned (sight_of subject.now) (held names.old) (loop_of at found.now) choice load.old).load) }
-    ensures names { OnOk result ((at : ℕ) → held names.new ≡ (turned (sight_of subject.now) (held names.old) (loop_of at found.now) choice load.old).value) }
+    ensures load { OnOk result ((at : ℕ) → load.new ≡ (turned (sight_of subject.now)
+        (held names.old) (loop_of at found.now) choice load.old).load) }
+    ensures names { OnOk result ((at : ℕ) → held names.new ≡ (turned (sight_of subject.now)
+        (held names.old) (loop_of at found.now) choice load.old).value) }
     ensures marks { OnOk result (marked names.new ≡ marked names.old) }
 {
     let sum = loop_tested(subject, names, load, found);
@@ -89,8 +91,10 @@ pub(crate) fn behind(
     choices: &[usize],
 ) -> Result<(), NoMemory>
     requires { at ≤ length course.now.subject.now.book.now.unit.now.lines }
-    ensures load { OnOk result (load.new ≡ (tally.behind (sight_of course.now.subject.now) at (held names.old) choices.now load.old).load) }
-    ensures names { OnOk result (held names.new ≡ (tally.behind (sight_of course.now.subject.now) at (held names.old) choices.now load.old).value) }
+    ensures load { OnOk result (load.new ≡ (tally.behind (sight_of course.now.subject.now) at
+        (held names.old) choices.now load.old).load) }
+    ensures names { OnOk result (held names.new ≡ (tally.behind (sight_of course.now.subject.now) at
+        (held names.old) choices.now load.old).value) }
     ensures marks { OnOk result (marked names.new ≡ marked names.old) }
 {
     let points = course.loops.at(course.subject.book.unit, at);
@@ -110,7 +114,8 @@ pub(crate) fn passed_over(
     choices: &[usize],
 ) -> Result<(), NoMemory>
     requires { ends.0 ≤ length course.now.subject.now.book.now.unit.now.lines }
-    ensures load { OnOk result (load.new ≡ (tally.passed_over (sight_of course.now.subject.now) ends.0 ends.1 (held names.old) choices.now load.old).load) }
+    ensures load { OnOk result (load.new ≡ (tally.passed_over (sight_of course.now.subject.now)
+        ends.0 ends.1 (held names.old) choices.now load.old).load) }
     ensures names { OnOk result (held names.new ≡ (tally.passed_over (sight_of course.now.subject.now) ends.0 ends.1 (held names.old) choices.now
         load.old).value) }
     ensures marks { OnOk result (marked names.new ≡ marked names.old) }

@@ -22,7 +22,8 @@ pub fn test_terms(
     load: &mut Load,
 ) -> Result<(), NoMemory>
     requires { AllBelow (length pool.now) ids.now }
-    ensures { OnOk result (load.new ≡ with_tests load.old (weights_told pool.now (held told.now.before.now) (held told.now.behind.now) ids.now)) }
+    ensures { OnOk result (load.new ≡ with_tests load.old (weights_told pool.now
+        (held told.now.before.now) (held told.now.behind.now) ids.now)) }
 {
     for id in ids {
         let Ok(weight) = term_weight(alloc, pool, told, *id) else {
@@ -41,7 +42,8 @@ pub fn sum_terms(
     ids: &[TermId],
 ) -> Result<u32, NoMemory>
     requires { AllBelow (length pool.now) ids.now }
-    ensures { IfOk result (λ n. n ≡ capped (sum (weights_told pool.now (held told.now.before.now) (held told.now.behind.now) ids.now))) }
+    ensures { IfOk result (λ n. n ≡ capped (sum (weights_told pool.now (held told.now.before.now)
+        (held told.now.behind.now) ids.now))) }
 {
     let mut all: u32 = 0;
     for id in ids {

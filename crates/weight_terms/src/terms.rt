@@ -68,7 +68,8 @@ fn push_arguments(waiting: &mut Stack<TermId>, node: &Node) -> Result<(), NoMemo
 /// and what its symbols and entry values weigh. It takes time in its size.
 pub fn term_weight(alloc: Global, pool: &TermPool, told: &Told, id: TermId) -> Result<u32, NoMemory>
     requires { IsIn pool.now id }
-    ensures { IfOk result (λ n. n ≡ capped (note of_weights (held told.now.before.now) (held told.now.behind.now) (tree_of pool.now id))) }
+    ensures { IfOk result (λ n. n ≡ capped (note of_weights (held told.now.before.now)
+        (held told.now.behind.now) (tree_of pool.now id))) }
 {
     let mut all: u32 = 0;
     let mut waiting = Stack::new(alloc);
