@@ -91,6 +91,7 @@ entered_none nodes names ds h first e = record {
   kept = h;
   now = first ∙ (λ i. at_entry_in (sym e i));
   before = refl;
+  extends = extends_not names.table;
   has = subst (λ (xs : List DataName). HasNames xs names.table) (sym e) (λ x k. absurd (cc));
 }
 
@@ -104,6 +105,7 @@ entered_more p0 p1 p2 n0 n1 n2 all k n d was set lt is next =
       now =
           set.now ∙ ((λ i. with_name (was.now i) d.name (value_of d)) ∙ ((λ i y. one_entered d (drop n all) y i) ∙ (λ i. at_entry_in (sym e i))));
       before = set.before ∙ was.before;
+      extends = extends_more n0.table n1.table n2.table was.extends set.extends;
       has = subst (λ (xs : List DataName). HasNames xs n2.table) (sym e) (has_more d (drop n all) n1.table n2.table set.extends set.there was.has);
     }
 

@@ -62,6 +62,7 @@ pub record IsEntered (old_nodes : List Node) (old : Names) (new_nodes : List Nod
   pub kept : IsNames new_nodes new
   pub now : named new_nodes new ≡ at_entry_in ds
   pub before : past new_nodes new ≡ past old_nodes old
+  pub extends : Extends old.table new.table
   pub has : HasNames ds new.table
 
 -- a frame of a unit, whose names stand for something now

@@ -8,7 +8,7 @@ use Rattle.formula.proofs.Grown.{IsIn-Grows, tree_of-Grows}
 use Rattle.fort_model.specs.Events.{Check, Event, Take, takes}
 use Rattle.fort_model.specs.Seen.{Named, meet}
 use Rattle.note_terms.specs.Stated.{Makes, trees_in}
-use Rattle.walk_names.specs.Names.{IsNames, named, past}
+use Rattle.walk_names.specs.Names.{Extends, IsNames, named, past}
 use Rattle.walk_state.specs.declared.walk.Met.{Met}
 use Rattle.walk_state.specs.declared.walk.Met.TheVariants.{Check as Checked, Take as Taken'}
 use Rattle.walk_state.specs.declared.walk.Walk.{Walk}
@@ -72,11 +72,12 @@ pub record Renamed (w later : Walk) (now : Named Tree) : Type 0 where
   pub is : moment later ≡ with_names (moment w) now
 
 pub renamed : (w later : Walk) (now : Named Tree) → IsWalk w → Grows w.pool later.pool → IsNames later.pool later.names → named later.pool later.names ≡ now
-    → past later.pool later.names ≡ past w.pool w.names → later.met.items ≡ w.met.items → later.calls ≡ w.calls → Renamed w later now
-renamed w later now h g kept stand before ms calls = record {
+    → past later.pool later.names ≡ past w.pool w.names → Extends w.names.table later.names.table → later.met.items ≡ w.met.items → later.calls ≡ w.calls → Renamed w later now
+renamed w later now h g kept stand before extends ms calls = record {
   on = record {
     kept = record { names = kept; met = subst (AreMet (length later.pool)) (sym ms) (met_grows w.pool later.pool w.met.items g h.met) };
     grows = g;
+    extends = extends;
   };
   is = λ i. record {
     now = stand i;

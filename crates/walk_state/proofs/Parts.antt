@@ -13,8 +13,8 @@ use Rattle.fort_model.specs.Symbols.{ByCall, word_of}
 use Rattle.fort_model.specs.WalkStmt.{with_name}
 use Rattle.walk_names.specs.declared.names.Names.{Names}
 use Rattle.walk_names.specs.declared.names.Logged.{Logged}
-use Rattle.walk_names.specs.Names.{AreLogged, IsNames, IsSame, IsSet, entry_of, named, named_by, past, pasts}
-use Rattle.walk_names.proofs.NameTables.{named_grows, names_grow, pasts_grows, same_grows}
+use Rattle.walk_names.specs.Names.{AreLogged, Extends, IsNames, IsSame, IsSet, entry_of, named, named_by, past, pasts}
+use Rattle.walk_names.proofs.NameTables.{extends_more, extends_not, named_grows, names_grow, pasts_grows, same_grows}
 use Rattle.walk_state.specs.declared.walk.Met.{Met}
 use Rattle.walk_state.specs.declared.walk.Met.TheVariants.{Check as Checked, Take as Taken}
 use Rattle.walk_state.specs.declared.walk.Walk.{Walk}
@@ -32,6 +32,10 @@ events_grow old new [] g h = refl
 events_grow old new (Checked kind card id ∷ ms) g h = λ i. Check kind card (tree_of-Grows old new id g h.0 i) ∷ events_grow old new ms g h.1 i
 events_grow old new (Taken id ∷ ms) g h = λ i. Take (tree_of-Grows old new id g h.0 i) ∷ events_grow old new ms g h.1 i
 
+-- names that are as they were have the same table
+same_table : (old new : Names) → new ≡ old → Extends old.table new.table
+same_table old new e = subst (λ (ns : Names). Extends old.table ns.table) (sym e) (extends_not old.table)
+
 -- a walk whose pool alone has grown
 pub record Grew (old new : Walk) : Type 0 where
   pub on : Follows old new
@@ -47,6 +51,7 @@ grew w later h g names ms calls =
           met = subst (AreMet (length later.pool)) (sym ms) (met_grows w.pool later.pool w.met.items g h.met);
         };
         grows = g;
+        extends = same_table w.names later.names names;
       };
       same =
           (λ i. record { now = named later.pool (names i); past = past later.pool (names i); events = events_in later.pool (ms i); answers = answers_after (calls i) })
@@ -54,10 +59,14 @@ grew w later h g names ms calls =
     }
 
 pub follows_not : (w : Walk) → IsWalk w → Follows w w
-follows_not w h = record { kept = h; grows = Grows-refl w.pool }
+follows_not w h = record { kept = h; grows = Grows-refl w.pool; extends = extends_not w.names.table }
 
 pub follows_then : (a b c : Walk) → Follows a b → Follows b c → Follows a c
-follows_then a b c p q = record { kept = q.kept; grows = Grows-trans a.pool b.pool c.pool p.grows q.grows }
+follows_then a b c p q = record {
+  kept = q.kept;
+  grows = Grows-trans a.pool b.pool c.pool p.grows q.grows;
+  extends = extends_more a.names.table b.names.table c.names.table p.extends q.extends;
+}
 
 -- ---- one event more
 
@@ -77,6 +86,7 @@ follows_push w later m h k pool names ms = record {
     met = subst (AreMet (length later.pool)) (sym ms) (subst (λ (nodes : List Node). AreMet (length nodes) (w.met.items ++ m ∷ [])) (sym pool) (met_push (length w.pool) w.met.items m h.met k));
   };
   grows = record { added = []; is = pool ∙ (let whole : w.pool ≡ w.pool ++ [] = grind (arith, common_steps) in whole) };
+  extends = same_table w.names later.names names;
 }
 
 pub moment_push : (w : Walk) (ms : List Met) (m : Met) → ms ≡ w.met.items ++ m ∷ []
@@ -94,6 +104,7 @@ pub follows_set : (w later : Walk) (x : List ℕ) (t : Tree) → IsWalk w → Gr
 follows_set w later x t h g s ms = record {
   kept = record { names = s.kept; met = subst (AreMet (length later.pool)) (sym ms) (met_grows w.pool later.pool w.met.items g h.met) };
   grows = g;
+  extends = s.extends;
 }
 
 pub moment_set : (w later : Walk) (x : List ℕ) (t : Tree) → IsWalk w → Grows w.pool later.pool → IsSet w.pool w.names later.pool later.names x t → later.met.items ≡ w.met.items → later.calls ≡ w.calls
@@ -109,6 +120,7 @@ pub follows_same : (w later : Walk) → IsWalk w → Grows w.pool later.pool →
 follows_same w later h g s ms = record {
   kept = record { names = s.kept; met = subst (AreMet (length later.pool)) (sym ms) (met_grows w.pool later.pool w.met.items g h.met) };
   grows = g;
+  extends = s.extends;
 }
 
 -- ---- one call more

@@ -6,7 +6,7 @@ use Rattle.formula.specs.Tree.{Tree}
 use Rattle.fort_model.specs.Events.{Event, Check, Take}
 use Rattle.fort_model.specs.Seen.{Named, Answers, Seen, See, symbols_of_calls}
 use Rattle.fort_model.specs.Senses.{of_terms}
-use Rattle.walk_names.specs.Names.{IsNames, entry_of, named, past}
+use Rattle.walk_names.specs.Names.{Extends, IsNames, entry_of, named, past}
 use Rattle.walk_state.specs.declared.walk.Met.{Met}
 use Rattle.walk_state.specs.declared.walk.Met.TheVariants.{Check as Checked, Take as Taken}
 use Rattle.walk_state.specs.declared.walk.Walk.{Walk}
@@ -74,7 +74,8 @@ pub record IsWalk (w : Walk) : Type 0 where
   pub names : IsNames w.pool w.names
   pub met : AreMet (length w.pool) w.met.items
 
--- a walk went on
+-- a walk went on: its pool grew, and its table of names has those that it had, at their places
 pub record Follows (old new : Walk) : Type 0 where
   pub kept : IsWalk new
   pub grows : Grows old.pool new.pool
+  pub extends : Extends old.names.table new.names.table

@@ -25,7 +25,7 @@ returns-clause-on c =
     let w1 : Walk = record { pool = c.start_names.new.pool; names = c.start_names.new.names; met = w0.met; calls = w0.calls; alloc = w0.alloc } in
     let w2 : Walk = record { pool = c.start_names-2.new.pool; names = w1.names; met = w0.met; calls = w0.calls; alloc = w0.alloc } in
     let s = c.in-Ok.ensures.started in
-    let one = renamed w0 w1 (started c.args.plan.now.smashed.now (moment w0).now) c.requires.well c.start_names.ensures.grows s.kept s.now s.before refl refl in
+    let one = renamed w0 w1 (started c.args.plan.now.smashed.now (moment w0).now) c.requires.well c.start_names.ensures.grows s.kept s.now s.before s.extends refl refl in
     follows_then w0 w1 w2 one.on (grew w1 w2 one.on.kept c.start_names-2.ensures.grows refl refl refl).on
 
 pub returns-clause-stands : goal.returns-clause-stands
@@ -36,7 +36,7 @@ returns-clause-stands c =
     let w2 : Walk = record { pool = c.start_names-2.new.pool; names = w1.names; met = w0.met; calls = w0.calls; alloc = w0.alloc } in
     let s = c.in-Ok.ensures.started in
     let now : started plan.smashed.now (moment w0).now ≡ start_in plan = λ i. started plan.smashed.now (c.requires.at i) in
-    let one = renamed w0 w1 (start_in plan) c.requires.well c.start_names.ensures.grows s.kept (s.now ∙ now) s.before refl refl in
+    let one = renamed w0 w1 (start_in plan) c.requires.well c.start_names.ensures.grows s.kept (s.now ∙ now) s.before s.extends refl refl in
     record {
       names = (grew w1 w2 one.on.kept c.start_names-2.ensures.grows refl refl refl).same ∙ one.is;
       framed =

@@ -1,12 +1,13 @@
 use Rattle.std.proofs.Common.{◌+◌, refl}
 use Rattle.formula.proofs.Grown.{Grows-refl}
+use Rattle.walk_names.proofs.NameTables.{extends_not}
 use Rattle.walk_names.specs.Names.{named, past}
 use Rattle.walk_state.specs.Moments.{events_in}
 use Rattle.walk_state.proofs.Parts.{answer_now, answers_next}
 use Rattle.walk_state.proofs.walk.Walk.next_call.Goals as goal
 
 pub returns-clause-on : goal.returns-clause-on
-returns-clause-on c = record { kept = record { names = c.requires.names; met = c.requires.met }; grows = Grows-refl c.args.self.now.pool }
+returns-clause-on c = record { kept = record { names = c.requires.names; met = c.requires.met }; grows = Grows-refl c.args.self.now.pool; extends = extends_not c.args.self.now.names.table }
 
 pub returns-clause-next : goal.returns-clause-next
 returns-clause-next c =
