@@ -19,7 +19,7 @@ use Rattle.formula.specs.Bounded.{chosen, function_at}
 use Rattle.term_worth.specs.Machine.{newest, all_but, size, body_size, greatest, value_of, values_of, params_of, first_held, held_num, chosen_id, IsWhole, Does}
 use Rattle.formula.specs.Pool.{Grows, IsIn, tree_of}
 use Rattle.formula.specs.Values.{num}
-use Rattle.formula.specs.Worth.{Function, function_of, functions_of, body_of, first_of}
+use Rattle.formula.specs.Worth.{function_of, functions_of, body_of, first_of}
 use Rattle.formula.proofs.Added.{IsBodyIn-Grows}
 use Rattle.term_worth.proofs.Doing.{does-Unknown, does-Use}
 

@@ -2,9 +2,7 @@
 use Rattle.std.proofs.Common.{◌≡◌, ℕ, true, false, if◌then◌else◌, List, [], ◌∷◌, ◌++◌, length, refl, sym, ap, ◌∙◌, subst}
 use Rattle.formula.specs.declared.definition.Definition.{Definition}
 use Rattle.formula.specs.declared.function.BuiltIn.{BuiltIn as Builtin}
-use Rattle.formula.specs.declared.function.Func.{Func}
 use Rattle.formula.specs.declared.function.Func.TheVariants.{BuiltIn}
-use Rattle.formula.specs.declared.function.BuiltIn.TheVariants.{If}
 use Rattle.term_worth.specs.declared.held_values.Answer.{Answer}
 use Rattle.term_worth.specs.declared.held_values.Answer.TheVariants as answer
 use Rattle.term_worth.specs.declared.machine.Held.{Held}
@@ -19,12 +17,11 @@ use Rattle.formula.specs.declared.value.Cell.{Cell}
 use Rattle.formula.specs.declared.value.Value.{Value}
 use Rattle.formula.specs.declared.word.Word.{Word}
 use Rattle.formula.specs.Bounded.{got, beyond, and_then, bounded, is_in_range, ranged}
-use Rattle.term_worth.specs.Machine.{newest, all_but, value_of, values_of, held_small, held_holds, first_held, taken_apart, AreTasks, meaning, IsHeld, AreHeld, IsWhole, Answers, Does, meaning_with}
-use Rattle.formula.specs.Pool.{AllBelow, IsIn, tree_of, trees, row_in}
-use Rattle.formula.specs.Tree.{apply}
+use Rattle.term_worth.specs.Machine.{newest, all_but, value_of, values_of, held_small, held_holds, first_held, AreTasks, meaning, IsHeld, AreHeld, IsWhole, Answers, Does, meaning_with}
+use Rattle.formula.specs.Pool.{IsIn, tree_of}
 use Rattle.formula.specs.Values.{holds, applied}
 use Rattle.formula.specs.Worth.{first_of, functions_of, assigned, nothing_known}
-use Rattle.term_worth.proofs.Doing.{worth_here, does-Combine, does-Making, beyond-Combine, does-leaf, beyond-leaf, does-Branch, does-branching, does-apply, ended}
+use Rattle.term_worth.proofs.Doing.{worth_here, does-Combine, does-Making, beyond-Combine, does-leaf, beyond-leaf, does-Branch, ended}
 use Rattle.term_worth.proofs.Depth.{bounded-calls}
 use Rattle.term_worth.proofs.Applied.{held_true}
 use Rattle.term_worth.proofs.Bodies.{first-values_of}
@@ -33,7 +30,7 @@ use Rattle.term_worth.proofs.Held.{AreHeld-drop}
 pub newest_held : (n c : ℕ) (hs : List Held) → AreHeld n hs → AreHeld n (newest c hs)
 newest_held n c hs h = AreHeld-drop n _ hs h
 
-ranged_got : (v w : Value) (n : ℕ) → w ≡ v → is_in_range v ≡ true → ranged v n ≡ got w n
+pub ranged_got : (v w : Value) (n : ℕ) → w ≡ v → is_in_range v ≡ true → ranged v n ≡ got w n
 ranged_got v w n e h = ap (λ t. if t then got v n else beyond) h ∙ ap (λ x. got x n) (sym e)
 
 ranged_beyond : (v : Value) (n : ℕ) → is_in_range v ≡ false → ranged v n ≡ beyond
@@ -89,12 +86,6 @@ module _ (pool : List Node) (ds : List Definition) (sheet : List (Word × Value)
       let test : held_holds (first_held (newest 1 m.values)) ≡ holds (first_of (values_of sheet m.made (newest 1 m.values))) =
       sym (held_true sheet m.made (first_held (newest 1 m.values))) ∙ ap holds (sym (first-values_of sheet m.made (newest 1 m.values))) in
       does-Branch pool ds sheet m m' a b (if held_holds (first_held (newest 1 m.values)) then a else b) (ap (λ t. if t then a else b) test) ina inb w same
-
-  -- a function was taken apart
-  pub apply_done : (m' : Machine) (id : TermId) (f : Func) (args : List TermId) → tree_of pool id ≡ apply f (row_in (trees pool) args) → AllBelow (length pool) args → IsWhole pool m
-      → m' ≡ record m { tasks = taken_apart f args m.tasks } → Does pool ds sheet (Eval id) m m'
-  apply_done m' id (BuiltIn If) (c ∷ a ∷ b ∷ []) e below w same = does-branching pool ds sheet m m' id c a b e below w same
-  apply_done m' id f args e below w same = does-apply pool ds sheet m m' id f args e refl below w same
 
 -- ---- the whole evaluation
 

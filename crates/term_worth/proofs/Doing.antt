@@ -57,12 +57,16 @@ module _ (pool : List Node) (ds : List Definition) (sheet : List (Word × Value)
 
   -- ---- terms
 
+  pub same-leaf : (id : TermId) (h : Held) → worth_here (tree_of pool id) ≡ got (value_of sheet m.made h) m.turns
+      → meaning pool ds sheet (record m { values = m.values ++ h ∷ [] }) ≡ meaning_with pool ds sheet (Eval id) m
+  same-leaf id h e =
+      ap (λ l. finish (calls_of (functions_of pool ds)) s js l m.turns) (values_of-put sheet m.made m.values h)
+      ∙ ap (λ o. and_then o (λ v n. finish (calls_of (functions_of pool ds)) s js (vs ++ v ∷ []) n)) (sym e)
+
   pub does-leaf : (m' : Machine) (id : TermId) (h : Held) → worth_here (tree_of pool id) ≡ got (value_of sheet m.made h) m.turns → IsHeld (length m.made) h → IsWhole pool m
       → m' ≡ record m { values = m.values ++ h ∷ [] } → Does pool ds sheet (Eval id) m m'
   does-leaf m' id h e k w same = subst (Does pool ds sheet (Eval id) m) (sym same) (record {
-    same =
-        ap (λ l. finish (calls_of (functions_of pool ds)) s js l m.turns) (values_of-put sheet m.made m.values h)
-        ∙ ap (λ o. and_then o (λ v n. finish (calls_of (functions_of pool ds)) s js (vs ++ v ∷ []) n)) (sym e);
+    same = same-leaf id h e;
     smaller = let p = size_pos (tree_of pool id) in omega arith;
     whole = put_whole h k w;
   })

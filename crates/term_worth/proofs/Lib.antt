@@ -6,6 +6,7 @@ pub mod Depth
 pub mod Doing
 pub mod Held
 pub mod OtherLengths
+pub mod Ready
 pub mod Remainders
 pub mod Steps
 pub mod SymbolValues

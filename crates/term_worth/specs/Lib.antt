@@ -1,3 +1,4 @@
+pub mod Leaves
 pub mod Machine
 pub mod Ranges
 pub mod Sheets

@@ -235,10 +235,16 @@ abbrev pub chosen_id : Body → ℤ → TermId
 chosen_id (Plain t) z = t
 chosen_id (Counting base step) z = if int_le z (pos 0) then base else step
 
--- the tasks of a function and its arguments: of IF the condition and then a branch, else all arguments
-abbrev pub taken_apart : Func → List TermId → List Task → List Task
-taken_apart (BuiltIn If) (c ∷ a ∷ b ∷ []) rest = Eval c ∷ Branch a b ∷ rest
-taken_apart f args rest = map Eval args ++ Combine f (length args) ∷ rest
+-- IF with its three arguments
+abbrev pub is_branch : Func → List TermId → Bool
+is_branch (BuiltIn If) (c ∷ a ∷ b ∷ []) = true
+is_branch f args = false
+
+-- the tasks of a function whose first k arguments are evaluated: of IF the condition and then a branch, else the other
+-- arguments
+abbrev pub taken_apart : Func → List TermId → ℕ → List Task → List Task
+taken_apart (BuiltIn If) (c ∷ a ∷ b ∷ []) k rest = Eval c ∷ Branch a b ∷ rest
+taken_apart f args k rest = map Eval (drop k args) ++ Combine f (length args) ∷ rest
 
 -- ---- what is named is there
 

@@ -264,12 +264,7 @@ fn element(cells: &[Cell], place: i128) -> Answer
 fn blanks(alloc: Global, count: i128) -> Result<Answer, NoMemory>
     ensures { IfOk result (λ r. r ≡ answer.Made (replicate (count_of count) cell.Undefined)) }
 {
-    if count < 0 {
-        return Ok(Answer::Made(blank(alloc, 0)?));
-    }
-    let Ok(count) = usize::try_from(count) else {
-        return Err(NoMemory);
-    };
+    let count = u128::try_from(count).unwrap_or(0);
     Ok(Answer::Made(blank(alloc, count)?))
 }
 

@@ -123,12 +123,20 @@ fn all_logical(cells: &[Cell]) -> bool
     true
 }
 
-/// A list of that many undefined cells.
-pub(crate) fn blank(alloc: Global, n: usize) -> Result<List<Cell>, NoMemory>
-    ensures { IfOk result (λ l. l ≡ replicate n Undefined) }
+/// A list of that many undefined cells. Room for all of them is asked for first.
+pub(crate) fn blank(alloc: Global, count: u128) -> Result<List<Cell>, NoMemory>
+    ensures { IfOk result (λ l. l ≡ replicate count Undefined) }
 {
-    let Ok(items) = vec![in alloc; Cell::Undefined; n] else {
+    let room = usize::try_from(count).unwrap_or(usize::MAX);
+    let Ok(mut items) = Vec::with_capacity(alloc, room) else {
         return Err(NoMemory);
     };
+    let mut made = 0;
+    while made < count {
+        let Ok(()) = items.push(Cell::Undefined) else {
+            return Err(NoMemory);
+        };
+        made += 1;
+    }
     Ok(List::from_vec(items))
 }

@@ -9,10 +9,10 @@ ghost use Rattle.term_worth.specs.declared.machine.Task.TheVariants as task;
 
 use crate::combining::{combine_newest, put_ranged};
 use crate::held_values::{counts_as_true, held_value};
-use crate::machine::{Held, Machine, Scope, Task, first, newest, take_newest};
+use crate::leaves::{leaf_value, put_leaves};
+use crate::machine::{Machine, Scope, Task, first, newest, take_newest};
 use crate::pile::Pile;
-use crate::scopes::value_in;
-use crate::taking::take_apart;
+use crate::taking::{is_branch, take_apart};
 use crate::uses::use_definition;
 use crate::{Sheet, Worth};
 use edge_io::{NoMemory, Stack};
@@ -114,16 +114,19 @@ fn evaluate(
     ensures not_spent { result ≢ Err Worth.Spent }
 {
     match pool.node(id) {
-        Node::Num(n) => put_ranged(machine, Held::Int(*n)),
-        Node::Truth(b) => put_ranged(machine, Held::Logical(*b)),
-        Node::Symbol(name) => {
-            let held = value_in(definitions, sheet, &machine.scope, *name);
-            put_ranged(machine, held)
-        }
-        Node::Old(_) => put_ranged(machine, Held::Undefined),
         Node::Apply(f, args) => {
-            take_apart(machine, *f, args.as_slice())?;
+            let args = args.as_slice();
+            if is_branch(*f, args) {
+                take_apart(machine, *f, args, 0)?;
+                return Ok(());
+            }
+            let ready = put_leaves(pool, definitions, sheet, machine, args)?;
+            take_apart(machine, *f, args, ready)?;
             Ok(())
+        }
+        node => {
+            let held = leaf_value(definitions, sheet, &machine.scope, node);
+            put_ranged(machine, held)
         }
     }
 }

@@ -6,6 +6,7 @@ mod cells;
 mod combining;
 mod evaluation;
 mod held_values;
+mod leaves;
 mod machine;
 mod no_worth;
 mod numbers;
