@@ -9,5 +9,5 @@ mod works;
 
 pub use answers::{answer_of, answered};
 pub use changes::{assign, forget, place, skip_false, skip_true};
-pub use reading::{value_at, value_in};
+pub use reading::{read, value_at, value_in};
 pub use works::{does, elements_are_obeyed};

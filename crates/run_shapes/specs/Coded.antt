@@ -15,6 +15,7 @@ use Rattle.run_shapes.specs.declared.instr.Instr.TheVariants.{Place, Load, Array
 use Rattle.run_shapes.specs.declared.slots.Amount.{Amount}
 use Rattle.run_shapes.specs.declared.slots.Amount.TheVariants.{Fixed, Named}
 use Rattle.run_shapes.specs.declared.slots.Slots.{Slots}
+use Rattle.run_shapes.specs.declared.tests.Round.{Round}
 use Rattle.run_shapes.specs.declared.tests.Test.{Test}
 use Rattle.run_shapes.specs.declared.tests.Test.TheVariants as test
 use Rattle.run_shapes.specs.declared.unit_code.CallCode.{CallCode}
@@ -83,6 +84,7 @@ pub record IsUnitCodeOf (units : List Routine) (shared : List Name) (u : Routine
   pub slotted : AreSlotsOf u unit.slots
   pub commons_shared : map (slice_get shared) unit.shared ≡ map Some (commons u)
   pub fitting : HasItsSlots unit
+  pub pointed : (i : ℕ) (round : Round) → slice_get unit.tests i ≡ Some (test.Loop round) → round.at < length unit.lines
   pub calls_told : unit.calls ≡ calls_coded units 1 (sites_of_unit u)
   pub long : length unit.lines ≡ length u.lines
   pub lined : (pc : ℕ) (line : Line) (l : LineCode) → slice_get u.lines pc ≡ Some line
