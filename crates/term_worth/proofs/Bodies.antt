@@ -8,6 +8,7 @@ use Rattle.formula.specs.declared.function.Func.TheVariants.{Defined}
 use Rattle.term_worth.specs.declared.machine.Held.{Held}
 use Rattle.term_worth.specs.declared.machine.Held.TheVariants as held
 use Rattle.term_worth.specs.declared.machine.Machine.{Machine}
+use Rattle.term_worth.specs.declared.machine.Parameters.{Parameters}
 use Rattle.term_worth.specs.declared.machine.Scope.TheVariants.{Arguments}
 use Rattle.term_worth.specs.declared.machine.Task.TheVariants.{Eval, Combine, Leave}
 use Rattle.formula.specs.declared.node.Node.{Node}
@@ -16,7 +17,7 @@ use Rattle.formula.specs.declared.value.Value.{Value}
 use Rattle.formula.specs.declared.word.Word.{Word}
 use Rattle.formula.specs.Adding.{definition_at, IsBodyIn, AreBodiesIn}
 use Rattle.formula.specs.Bounded.{chosen, function_at}
-use Rattle.term_worth.specs.Machine.{newest, all_but, size, body_size, greatest, value_of, values_of, params_of, first_held, held_num, chosen_id, IsWhole, Does}
+use Rattle.term_worth.specs.Machine.{newest, all_but, size, body_size, greatest, value_of, values_of, params_in, first_held, held_num, chosen_id, IsWhole, Does}
 use Rattle.formula.specs.Pool.{Grows, IsIn, tree_of}
 use Rattle.formula.specs.Values.{num}
 use Rattle.formula.specs.Worth.{function_of, functions_of, body_of, first_of}
@@ -98,22 +99,22 @@ module _ (pool : List Node) (ds : List Definition) (sheet : List (Word × Value)
   pub used_none : definition_at ds k ≡ None → m' ≡ record m { turns = m.turns - 1; values = all_but c m.values ++ held.Undefined ∷ [] } → Does pool ds sheet (Combine (Defined k) c) m m'
   used_none e same = does-Unknown pool ds sheet m m' k c (m.turns - 1) (one_less m.turns left) (function_at-none pool ds k e) w same
 
-  pub used_some : (d : Definition) → definition_at ds k ≡ Some d → AreBodiesIn pool ds
+  pub used_some : (d : Definition) (ps : Parameters) → definition_at ds k ≡ Some d → params_in ds ps ≡ d.params → AreBodiesIn pool ds
       → m' ≡ record {
-        scope = Arguments k (newest c m.values);
+        scope = Arguments ps (newest c m.values);
         turns = m.turns - 1;
         tasks = Eval (chosen_id d.body (held_num (first_held (newest c m.values)))) ∷ Leave m.scope ∷ m.tasks;
         values = all_but c m.values;
         made = m.made;
       }
       → Does pool ds sheet (Combine (Defined k) c) m m'
-  used_some d e h same =
+  used_some d ps e is h same =
       let args = newest c m.values in
       let z = held_num (first_held args) in
       let number : num (first_of (values_of sheet m.made args)) ≡ z = ap num (first-values_of sheet m.made args) ∙ num_held sheet m.made (first_held args) in
       let s = chosen_small pool d.body z in
       let b = body_small pool ds k d e in
-      does-Use pool ds sheet m m' k c (m.turns - 1) (chosen_id d.body z) (function_of pool d) (one_less m.turns left) (function_at-some pool ds k d e) (ap params_of e)
+      does-Use pool ds sheet m m' k c (m.turns - 1) ps (chosen_id d.body z) (function_of pool d) (one_less m.turns left) (function_at-some pool ds k d e) is
       (chosen_tree pool d.body (values_of sheet m.made args) z number) (omega arith) (chosen_in pool d.body z (body_in pool ds k d e h)) w same
 
 -- ---- a pool that grows

@@ -7,6 +7,7 @@ use Rattle.formula.specs.declared.function.Func.TheVariants.{BuiltIn, Defined}
 use Rattle.formula.specs.declared.definition.Definition.{Definition}
 use Rattle.term_worth.specs.declared.machine.Held.{Held}
 use Rattle.term_worth.specs.declared.machine.Held.TheVariants as held
+use Rattle.term_worth.specs.declared.machine.Parameters.{Parameters}
 use Rattle.term_worth.specs.declared.machine.Scope.{Scope}
 use Rattle.term_worth.specs.declared.machine.Scope.TheVariants.{Arguments}
 use Rattle.term_worth.specs.declared.machine.Task.TheVariants.{Eval, Branch, Combine, Leave}
@@ -17,9 +18,8 @@ use Rattle.formula.specs.declared.value.Cell.{Cell}
 use Rattle.formula.specs.declared.value.Value.{Value}
 use Rattle.formula.specs.declared.value.Value.TheVariants.{Cells}
 use Rattle.formula.specs.declared.word.Word.{Word}
-use Rattle.formula.specs.Adding.{definition_at}
 use Rattle.formula.specs.Bounded.{Outcome, got, beyond, spent, and_then, ranged, function_bounded, bounded_by, body_bounded, chosen, function_at}
-use Rattle.term_worth.specs.Machine.{Job, eval, combine, newest, all_but, finish, calls_of, size, tree_row_size, cost, greatest, value_of, values_of, params_of, symbols_of, jobs_of, IsHeld, AreHeld, IsScope, IsWhole, meaning, meaning_with, Does}
+use Rattle.term_worth.specs.Machine.{Job, eval, combine, newest, all_but, finish, calls_of, size, tree_row_size, cost, greatest, value_of, values_of, params_in, symbols_of, jobs_of, IsHeld, AreHeld, IsScope, IsWhole, meaning, meaning_with, Does}
 use Rattle.formula.specs.Pool.{AllBelow, IsIn, tree_of, trees, row_in}
 use Rattle.formula.specs.Tree.{Tree, apply, row_count}
 use Rattle.formula.specs.Values.{holds, applied}
@@ -216,11 +216,11 @@ module _ (pool : List Node) (ds : List Definition) (sheet : List (Word × Value)
   })
 
   -- a use of a definition whose term stands at id in the pool
-  pub does-Use : (m' : Machine) (k c j : ℕ) (id : TermId) (f : Function) → m.turns ≡ suc j → function_at (functions_of pool ds) k ≡ Some f → params_of (definition_at ds k) ≡ f.params
+  pub does-Use : (m' : Machine) (k c j : ℕ) (ps : Parameters) (id : TermId) (f : Function) → m.turns ≡ suc j → function_at (functions_of pool ds) k ≡ Some f → params_in ds ps ≡ f.params
       → tree_of pool id ≡ chosen f.body (values_here c) → size (tree_of pool id) + 1 ≤ greatest (functions_of pool ds) → IsIn pool id → IsWhole pool m
-      → m' ≡ record m { scope = Arguments k (newest c m.values); turns = j; tasks = Eval id ∷ Leave m.scope ∷ m.tasks; values = all_but c m.values }
+      → m' ≡ record m { scope = Arguments ps (newest c m.values); turns = j; tasks = Eval id ∷ Leave m.scope ∷ m.tasks; values = all_but c m.values }
       → Does pool ds sheet (Combine (Defined k) c) m m'
-  does-Use m' k c j id f e at params tree small within w same = subst (Does pool ds sheet (Combine (Defined k) c) m) (sym same) (
+  does-Use m' k c j ps id f e at params tree small within w same = subst (Does pool ds sheet (Combine (Defined k) c) m) (sym same) (
       let calls = calls_of (functions_of pool ds) in
       record {
         same =

@@ -16,8 +16,7 @@ use Rattle.formula.specs.declared.value.Cell.{Cell}
 use Rattle.formula.specs.declared.value.Value.{Value}
 use Rattle.formula.specs.declared.value.Value.TheVariants.{Cells}
 use Rattle.formula.specs.declared.word.Word.{Word}
-use Rattle.formula.specs.Adding.{definition_at}
-use Rattle.term_worth.specs.Machine.{eval, leave, newest, all_but, value_of, values_of, params_of, symbols_of, job_of, jobs_of, IsHeld, AreHeld, IsScope, IsTask, AreTasks}
+use Rattle.term_worth.specs.Machine.{eval, leave, newest, all_but, value_of, values_of, params_in, symbols_of, job_of, jobs_of, IsHeld, AreHeld, IsScope, IsTask, AreTasks}
 use Rattle.formula.specs.Pool.{AllBelow, tree_of, trees, row_in}
 use Rattle.formula.specs.Worth.{bound_to}
 use Rattle.term_worth.proofs.Steps.{evals}
@@ -42,7 +41,7 @@ module _ (sheet : List (Word × Value)) (made more : List (List Cell)) where
   module _ (ds : List Definition) where
     pub symbols_of-append : (s : Scope) → IsScope (length made) s → symbols_of ds sheet (made ++ more) s ≡ symbols_of ds sheet made s
     symbols_of-append Sheet k = refl
-    symbols_of-append (Arguments d args) k = ap (bound_to (params_of (definition_at ds d))) (values_of-append args k)
+    symbols_of-append (Arguments d args) k = ap (bound_to (params_in ds d)) (values_of-append args k)
 
     module _ (pool : List Node) where
       job_of-append : (t : Task) → IsTask pool (length made) t → job_of pool ds sheet (made ++ more) t ≡ job_of pool ds sheet made t

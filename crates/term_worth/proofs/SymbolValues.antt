@@ -1,18 +1,21 @@
 -- Values of symbols, held.
-use Rattle.std.proofs.Common.{◌≡◌, ℕ, zero, suc, ◌<◌, ◌≤◌, Bool, true, false, if◌then◌else◌, List, [], ◌∷◌, length, drop, get_or, refl, sym, ap, ◌∙◌, arith, subst, Some, None}
+use Rattle.std.proofs.Common.{◌≡◌, ℕ, zero, suc, ◌+◌, ◌<◌, ◌≤◌, Bool, true, false, if◌then◌else◌, List, [], ◌∷◌, length, drop, get_or, refl, sym, ap, ◌∙◌, arith, subst, cond, Option, Some, None}
 use Rattle.std.specs.Prelude.{slice_get}
+use Rattle.std.specs.List.{position, position_from}
+use Rattle.std.proofs.lemmas.Cmp.{nat_list_eq_equiv}
+use Rattle.std.proofs.lemmas.Iterator.Adapters.{position_from-zero}
 use Rattle.formula.specs.declared.definition.Definition.{Definition}
 use Rattle.term_worth.specs.declared.machine.Held.{Held}
 use Rattle.term_worth.specs.declared.machine.Held.TheVariants as held
+use Rattle.term_worth.specs.declared.machine.Parameters.{Parameters}
 use Rattle.term_worth.specs.declared.machine.Scope.{Scope}
 use Rattle.term_worth.specs.declared.machine.Scope.TheVariants.{Arguments}
 use Rattle.formula.specs.declared.value.Cell.{Cell}
 use Rattle.formula.specs.declared.value.Value.{Value}
 use Rattle.formula.specs.declared.value.Value.TheVariants.{Int, Logical, Undefined, Cells}
 use Rattle.formula.specs.declared.word.Word.{Word}
-use Rattle.formula.specs.Adding.{definition_at}
 use Rattle.formula.specs.Atoms.{same_bytes}
-use Rattle.term_worth.specs.Machine.{argument_of, held_at, cells_of, value_of, values_of, value_of_entry, entry_at, params_of, symbols_of, IsHeld, AreHeld, IsScope}
+use Rattle.term_worth.specs.Machine.{argument_of, held_at, cells_of, value_of, values_of, value_of_entry, entry_at, params_in, symbols_of, IsHeld, AreHeld, IsScope}
 use Rattle.formula.specs.Worth.{bound_to}
 
 -- ---- parameters, one by one
@@ -80,15 +83,47 @@ entry_is_held n i (Cells cs) = tt
 
 -- ---- a scope
 
-module _ (ds : List Definition) (sheet : List (Word × Value)) (scope : Scope) (k : ℕ) (hs : List Held) (is : scope ≡ Arguments k hs) (d : Definition) (at : definition_at ds k ≡ Some d) (s : List ℕ) where
-  pub value_in_use : (made : List (List Cell)) → value_of sheet made (argument_of d.params hs s) ≡ symbols_of ds sheet made scope s
-  value_in_use made =
-      value_argument sheet made d.params hs s ∙ ap (λ o. bound_to (params_of o) (values_of sheet made hs) s) (sym at) ∙ ap (λ c. symbols_of ds sheet made c s) (sym is)
+-- a symbol that is a parameter
+pub value_in_use : (ds : List Definition) (sheet : List (Word × Value)) (made : List (List Cell)) (scope : Scope) (ps : Parameters) (hs : List Held) (s : List ℕ) → scope ≡ Arguments ps hs
+    → value_of sheet made (argument_of (params_in ds ps) hs s) ≡ symbols_of ds sheet made scope s
+value_in_use ds sheet made scope ps hs s is = value_argument sheet made (params_in ds ps) hs s ∙ ap (λ c. symbols_of ds sheet made c s) (sym is)
 
-  pub held_in_use : (n : ℕ) → IsScope n scope → IsHeld n (argument_of d.params hs s)
-  held_in_use n p = argument_held n d.params hs s (subst (IsScope n) is p)
+pub held_in_use : (ds : List Definition) (scope : Scope) (ps : Parameters) (hs : List Held) (s : List ℕ) (n : ℕ) → scope ≡ Arguments ps hs → IsScope n scope
+    → IsHeld n (argument_of (params_in ds ps) hs s)
+held_in_use ds scope ps hs s n is p = argument_held n (params_in ds ps) hs s (subst (IsScope n) is p)
 
--- no definition has that number
-pub value_in_none : (ds : List Definition) (sheet : List (Word × Value)) (made : List (List Cell)) (scope : Scope) (k : ℕ) (hs : List Held) (s : List ℕ) → scope ≡ Arguments k hs → definition_at ds k ≡ None
-    → Undefined ≡ symbols_of ds sheet made scope s
-value_in_none ds sheet made scope k hs s is at = ap (λ o. bound_to (params_of o) (values_of sheet made hs) s) (sym at) ∙ ap (λ c. symbols_of ds sheet made c s) (sym is)
+-- ---- parameters by a table
+
+-- the value at a place, counted from i, is that of the parameter; with no place it has none
+abbrev pub IsAt : List (List ℕ) → List Held → List ℕ → ℕ → Option ℕ → Type 0
+IsAt ps hs s i None = argument_of ps hs s ≡ held.Undefined
+IsAt ps hs s i (Some k) = (j : ℕ) × (k ≡ i + j) × (get_or hs j held.Undefined ≡ argument_of ps hs s)
+
+at_later : (p : List ℕ) (ps : List (List ℕ)) (hs : List Held) (s : List ℕ) (i : ℕ) (r : Option ℕ) → same_bytes p s ≡ false → IsAt ps (drop 1 hs) s (i + 1) r → IsAt (p ∷ ps) hs s i r
+at_later p ps [] s i None other h = refl
+at_later p ps [] s i (Some k) other h = let place : k ≡ i + 1 + h.0 = h.1 in (suc h.0, omega arith, refl)
+at_later p ps (x ∷ hs) s i None other h = ap (λ b. if b then x else argument_of ps hs s) other ∙ h
+at_later p ps (x ∷ hs) s i (Some k) other h =
+    let place : k ≡ i + 1 + h.0 = h.1 in
+    (suc h.0, omega arith, h.2 ∙ sym (ap (λ b. if b then x else argument_of ps hs s) other))
+
+at_here : (p : List ℕ) (ps : List (List ℕ)) (hs : List Held) (s : List ℕ) (i : ℕ) (rest : Option ℕ) (b : Bool) → same_bytes p s ≡ b → IsAt ps (drop 1 hs) s (i + 1) rest
+    → IsAt (p ∷ ps) hs s i (cond b (Some i) rest)
+at_here p ps [] s i rest true same h = (0, omega arith, refl)
+at_here p ps (x ∷ hs) s i rest true same h = (0, omega arith, sym (ap (λ b. if b then x else argument_of ps hs s) same))
+at_here p ps hs s i rest false other h = at_later p ps hs s i rest other h
+
+at_from : (ps : List (List ℕ)) (hs : List Held) (s : List ℕ) (i : ℕ) → IsAt ps hs s i (position_from (same_bytes s) i ps)
+at_from [] hs s i = refl
+at_from (p ∷ ps) hs s i = at_here p ps hs s i (position_from (same_bytes s) (i + 1) ps) (same_bytes s p) (nat_list_eq_equiv.symm p s) (at_from ps (drop 1 hs) s (i + 1))
+
+pub found_at : (ps : List (List ℕ)) (hs : List Held) (s : List ℕ) (k : ℕ) → Some k ≡ position (same_bytes s) ps → get_or hs k held.Undefined ≡ argument_of ps hs s
+found_at ps hs s k is =
+    let h : IsAt ps hs s 0 (Some k) = subst (IsAt ps hs s 0) (sym (is ∙ position_from-zero (same_bytes s) ps)) (at_from ps hs s 0) in
+    let same : h.0 ≡ k = omega (arith, h.1) in
+    ap (λ j. get_or hs j held.Undefined) (sym same) ∙ h.2
+
+pub found_nowhere : (ps : List (List ℕ)) (hs : List Held) (s : List ℕ) → None ≡ position (same_bytes s) ps → held.Undefined ≡ argument_of ps hs s
+found_nowhere ps hs s is =
+    let h : IsAt ps hs s 0 None = subst (IsAt ps hs s 0) (sym (is ∙ position_from-zero (same_bytes s) ps)) (at_from ps hs s 0) in
+    sym h

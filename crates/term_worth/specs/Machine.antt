@@ -9,6 +9,8 @@ use Rattle.formula.specs.declared.definition.Body.TheVariants.{Plain, Counting}
 use Rattle.formula.specs.declared.definition.Definition.{Definition}
 use Rattle.term_worth.specs.declared.machine.Held.{Held}
 use Rattle.term_worth.specs.declared.machine.Held.TheVariants as held
+use Rattle.term_worth.specs.declared.machine.Parameters.{Parameters}
+use Rattle.term_worth.specs.declared.machine.Parameters.TheVariants.{Of, Table}
 use Rattle.term_worth.specs.declared.machine.Scope.{Scope}
 use Rattle.term_worth.specs.declared.machine.Scope.TheVariants.{Sheet, Arguments}
 use Rattle.term_worth.specs.declared.machine.Task.{Task}
@@ -128,9 +130,13 @@ abbrev pub params_of : Option Definition → List (List ℕ)
 params_of None = []
 params_of (Some d) = d.params
 
+abbrev pub params_in : List Definition → Parameters → List (List ℕ)
+params_in ds (Of k) = params_of (definition_at ds k)
+params_in ds (Table names) = names
+
 abbrev pub symbols_of : List Definition → List (Word × Value) → List (List Cell) → Scope → Valuation
 symbols_of ds sheet made Sheet = assigned sheet
-symbols_of ds sheet made (Arguments k args) = bound_to (params_of (definition_at ds k)) (values_of sheet made args)
+symbols_of ds sheet made (Arguments ps args) = bound_to (params_in ds ps) (values_of sheet made args)
 
 abbrev pub job_of : List Node → List Definition → List (Word × Value) → List (List Cell) → Task → Job
 job_of pool ds sheet made (Eval id) = eval (tree_of pool id)
@@ -254,7 +260,7 @@ AreHeld n (h ∷ rest) = IsHeld n h × AreHeld n rest
 
 abbrev pub IsScope : ℕ → Scope → Type 0
 IsScope n Sheet = Unit {0}
-IsScope n (Arguments k args) = AreHeld n args
+IsScope n (Arguments ps args) = AreHeld n args
 
 abbrev pub IsTask : List Node → ℕ → Task → Type 0
 IsTask pool n (Eval id) = IsIn pool id

@@ -88,7 +88,9 @@ fn perform(
         }
         Task::Combine(f, count) => match f {
             Func::BuiltIn(f) => combine_newest(alloc, sheet.entries(), machine, f, count),
-            Func::Defined(k) => use_definition(alloc, definitions, machine, k, count),
+            Func::Defined(k) => {
+                use_definition(alloc, pool.keys(), definitions, machine, k, count)
+            },
         },
         Task::Leave(scope) => {
             machine.scope = scope;

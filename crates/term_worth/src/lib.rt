@@ -10,6 +10,7 @@ mod leaves;
 mod machine;
 mod no_worth;
 mod numbers;
+mod parameters;
 mod pile;
 mod scopes;
 mod sheet;

@@ -4,7 +4,7 @@ ghost use Rattle.term_worth.specs.Machine.{newest, all_but, first_held};
 
 use crate::pile::Pile;
 use edge_io::{List, NoMemory, Stack};
-use formula::{Cell, Func, TermId};
+use formula::{Cell, Func, NameTable, TermId};
 
 /// A value that is held: one cell, or the place of a list of cells.
 #[derive(Clone, Copy, Debug)]
@@ -18,13 +18,22 @@ pub enum Held {
     Made(usize),
 }
 
+/// The parameters of a definition.
+#[derive(Drop)]
+pub enum Parameters {
+    /// Those of the definition of that number.
+    Of(usize),
+    /// These, with a table of their places.
+    Table(NameTable),
+}
+
 /// Where symbols have their values.
 #[derive(Drop)]
 pub enum Scope {
     /// The sheet.
     Sheet,
-    /// The parameters of the definition of that number, for these arguments.
-    Arguments(usize, List<Held>),
+    /// Parameters, for these arguments.
+    Arguments(Parameters, List<Held>),
 }
 
 /// Work still to do.

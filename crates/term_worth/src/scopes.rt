@@ -1,12 +1,12 @@
 // The values of symbols.
 ghost use Rattle.std.specs.Prelude.{◌≡◌, ℕ, List};
-ghost use Rattle.term_worth.specs.Machine.{argument_of, entry_at, held_at, value_of, symbols_of, IsHeld, IsScope};
+ghost use Rattle.term_worth.specs.Machine.{entry_at, held_at, value_of, symbols_of, IsHeld, IsScope};
 ghost use Rattle.formula.specs.Worth.{assigned};
 ghost use Rattle.formula.specs.declared.value.Cell.{Cell};
 
 use crate::Sheet;
 use crate::machine::{Held, Scope};
-use crate::uses::definition_at;
+use crate::parameters::parameter;
 use formula::{Definitions, Value, Word};
 
 /// The value of a symbol.
@@ -17,25 +17,8 @@ pub fn value_in(definitions: &Definitions, sheet: &Sheet, scope: &Scope, name: W
 {
     match scope {
         Scope::Sheet => on_sheet(sheet, name),
-        Scope::Arguments(k, args) => match definition_at(definitions, *k) {
-            Some(definition) => argument(definition.params.as_slice(), args.as_slice(), name),
-            None => Held::Undefined,
-        },
+        Scope::Arguments(params, args) => parameter(definitions, params, args.as_slice(), name),
     }
-}
-
-/// The value of a parameter, by its place among the arguments.
-fn argument(params: &[Word], args: &[Held], name: Word) -> Held
-    ensures { result ≡ argument_of params.now args.now name }
-{
-    let mut place = 0;
-    while place < params.len() && place < args.len() {
-        if params[place] == name {
-            return args[place];
-        }
-        place += 1;
-    }
-    Held::Undefined
 }
 
 /// The value of a symbol on the sheet.

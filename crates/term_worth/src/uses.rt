@@ -12,8 +12,11 @@ ghost use Rattle.formula.specs.declared.value.Value.{Value};
 ghost use Rattle.formula.specs.declared.word.Word.{Word};
 
 use crate::Worth;
-use crate::machine::{Held, Machine, Scope, Task, first, newest, replace_newest, take_newest};
-use edge_io::NoMemory;
+use crate::machine::{
+    Held, Machine, Parameters, Scope, Task, first, newest, replace_newest, take_newest,
+};
+use crate::parameters::parameters_of;
+use edge_io::{Keys, NoMemory};
 use formula::{Body, Definition, Definitions, TermId};
 use std::alloc::Global;
 use std::mem::replace;
@@ -42,17 +45,17 @@ fn chosen(body: Body, first: Held) -> TermId
     }
 }
 
-/// Uses the definition of number k: a turn is taken, and its body comes next, with the newest so
-/// many values as the arguments.
+/// Uses a definition with these parameters and this body: a turn is taken, and the body comes next,
+/// with the newest so many values as the arguments.
 fn enter(
     alloc: Global,
     machine: &mut Machine,
-    k: usize,
+    params: Parameters,
     body: Body,
     count: usize,
 ) -> Result<(), NoMemory>
     requires { 0 < machine.old.turns }
-    ensures { OnOk result (machine.new ≡ record { scope = scope.Arguments k
+    ensures { OnOk result (machine.new ≡ record { scope = scope.Arguments params
         (newest count machine.old.values); turns = machine.old.turns - 1; tasks = task.Eval
         (chosen_id body (held_num (first_held (newest count machine.old.values)))) ∷ task.Leave
         machine.old.scope ∷ machine.old.tasks; values = all_but count machine.old.values;
@@ -64,7 +67,7 @@ fn enter(
         return Err(NoMemory);
     };
     take_newest(machine, count);
-    let inner = Scope::Arguments(k, edge_io::List::from_vec(held));
+    let inner = Scope::Arguments(params, edge_io::List::from_vec(held));
     let outer = replace(&mut machine.scope, inner);
     machine.tasks.push(Task::Leave(outer))?;
     machine.tasks.push(Task::Eval(id))?;
@@ -76,6 +79,7 @@ fn enter(
 /// turn.
 pub fn use_definition(
     alloc: Global,
+    keys: Keys,
     definitions: &Definitions,
     machine: &mut Machine,
     k: usize,
@@ -98,7 +102,10 @@ pub fn use_definition(
             machine.turns -= 1;
             replace_newest(machine, count, Held::Undefined)?;
         }
-        Some(definition) => enter(alloc, machine, k, definition.body, count)?,
+        Some(definition) => {
+            let params = parameters_of(alloc, keys, k, definition.params.as_slice())?;
+            enter(alloc, machine, params, definition.body, count)?;
+        }
     }
     Ok(())
 }

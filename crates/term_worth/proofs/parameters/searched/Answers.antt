@@ -2,7 +2,7 @@ use Rattle.std.proofs.Common.{◌≡◌, ◌+◌, suc, ap, ◌∙◌, sym, arith
 use Rattle.formula.specs.Atoms.{same_bytes}
 use Rattle.term_worth.specs.Machine.{argument_of}
 use Rattle.term_worth.proofs.SymbolValues.{argument_step, argument_end}
-use Rattle.term_worth.proofs.scopes.argument.Goals as goal
+use Rattle.term_worth.proofs.parameters.searched.Goals as goal
 
 pub loop-place-preserved : goal.loop-place-preserved
 loop-place-preserved c =

@@ -1,6 +1,6 @@
 use Rattle.std.proofs.Common.{◌≡◌, ◌≤◌, ◌-◌, length, drop}
 use Rattle.term_worth.specs.Machine.{argument_of}
-use Rattle.term_worth.proofs.scopes.argument.Given as goal
+use Rattle.term_worth.proofs.parameters.searched.Given as goal
 
 -- the parameters from here on decide
 abbrev pub invariant-loop-place : goal.invariant-loop-place
