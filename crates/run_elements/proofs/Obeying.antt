@@ -45,15 +45,15 @@ use Rattle.run_state.proofs.Slots.{slot_shown}
 use Rattle.run_elements.specs.Elements.{read_to, value_to, value_below, answered, decided, assigned_to, did, is_element, IsReady}
 
 -- a check before a value
-checked : (kind : Kind) (card : ℕ) (t : Bool) (c : Cell) (st : Storage) → (check kind card t >> give c) st 0 ≡ came_to (cond t (Ok c) (Err kind)) card st
+pub checked : (kind : Kind) (card : ℕ) (t : Bool) (c : Cell) (st : Storage) → (check kind card t >> give c) st 0 ≡ came_to (cond t (Ok c) (Err kind)) card st
 checked kind card true c st = refl
 checked kind card false c st = refl
 
-reads : (card i : ℕ) (st : Storage) → model.read card i st 0 ≡ came_to (read_to st i) card st
+pub reads : (card i : ℕ) (st : Storage) → model.read card i st 0 ≡ came_to (read_to st i) card st
 reads card i st = checked DefinedCheck card (is_defined (load st i)) (load st i) st
 
 -- a place that is near or far
-reads_far : (st : Storage) (a : ℕ) → length st < 2 ^ 64 → read_to st (far a) ≡ read_to st a
+pub reads_far : (st : Storage) (a : ℕ) → length st < 2 ^ 64 → read_to st (far a) ≡ read_to st a
 reads_far st a small = ap (λ c. cond (is_defined c) (Ok c) (Err DefinedCheck)) (load_far st a small)
 
 values : (card : ℕ) (x : Taken) (st : Storage) → length st < 2 ^ 64 → model.value_of card x st 0 ≡ came_to (value_to st (item_of x)) card st

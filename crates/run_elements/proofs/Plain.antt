@@ -20,19 +20,19 @@ use Rattle.run_state.specs.declared.machine.Stage.TheVariants as stage
 use Rattle.run_state.specs.declared.machine.State.{State}
 use Rattle.run_elements.specs.Elements.{answered, answer_to, depth_of, decided, assigned_to, did, value_below, IsReady}
 
-behind_within : (most : ℕ) (items : List Item) → AreWithin most items → AreWithin most (behind items)
+pub behind_within : (most : ℕ) (items : List Item) → AreWithin most items → AreWithin most (behind items)
 behind_within most [] h = h
 behind_within most (x ∷ items) h = h.1
 
-under_within : (most n : ℕ) (items : List Item) → AreWithin most items → AreWithin most (under_in n items)
+pub under_within : (most n : ℕ) (items : List Item) → AreWithin most items → AreWithin most (under_in n items)
 under_within most zero items h = h
 under_within most (suc n) items h = under_within most n (behind items) (behind_within most items h)
 
-behind_short : (items : List Item) → length (behind items) ≤ length items
+pub behind_short : (items : List Item) → length (behind items) ≤ length items
 behind_short [] = omega arith
 behind_short (x ∷ items) = omega arith
 
-under_short : (n : ℕ) (items : List Item) → length (under_in n items) ≤ length items
+pub under_short : (n : ℕ) (items : List Item) → length (under_in n items) ≤ length items
 under_short zero items = omega arith
 under_short (suc n) items =
     let one : length (behind items) ≤ length items = behind_short items in
@@ -44,35 +44,15 @@ extent_within most [] i h = omega arith
 extent_within most (e ∷ es) zero h = h.0
 extent_within most (e ∷ es) (suc i) h = extent_within most es i h.1
 
-stored_long : (st : Storage) (i : ℕ) (c : Cell) → length (store st i c) ≡ length st
+pub stored_long : (st : Storage) (i : ℕ) (c : Cell) → length (store st i c) ≡ length st
 stored_long [] i c = refl
 stored_long (x ∷ st) zero c = refl
 stored_long (x ∷ st) (suc i) c = ap suc (stored_long st i c)
 
-far_later : (a k : ℕ) → a < 2 ^ 64 → a ≤ far (a + k)
+pub far_later : (a k : ℕ) → a < 2 ^ 64 → a ≤ far (a + k)
 far_later a k h = grind arith
 
-module _ (m : State) (inside : m.stage ≡ stage.Inside) where
-  -- another place, stack and storage in the same statement
-  on_plain : (place : ℕ) (vs : List Item) (cs : Storage) → m.frame.place ≤ place → length vs ≤ suc (length m.values.items) → length cs ≡ length m.cells.items
-      → ((most : ℕ) → 1 ≤ most → ExtentsWithin most m.extents.items → AreWithin most m.values.items → AreWithin most vs)
-      → IsPlain m (record m { frame = record m.frame { place = place }; values = record m.values { items = vs }; cells = record m.cells { items = cs } })
-  on_plain place vs cs later short same within = record {
-    callers = refl;
-    extents = refl;
-    cells_room = refl;
-    cells = same;
-    values_room = refl;
-    frame = record { unit = refl; stop = refl; extents = refl; before = refl; floor = refl };
-    values = subst (λ s. IsNoHigher s m (record m { frame = record m.frame { place = place }; values = record m.values { items = vs }; cells = record m.cells { items = cs } })) (sym inside) (later, short);
-    within = within;
-  }
-
-  values_plain : (vs : List Item) → length vs ≤ suc (length m.values.items)
-      → ((most : ℕ) → 1 ≤ most → ExtentsWithin most m.extents.items → AreWithin most m.values.items → AreWithin most vs)
-      → IsPlain m (record m { values = record m.values { items = vs } })
-  values_plain vs short within = on_plain m.frame.place vs m.cells.items (omega arith) short refl within
-
+module _ (m : State) where
   pub failed_plain : (kind : Kind) → IsPlain m (failed kind m)
   failed_plain kind = record {
     callers = refl;
@@ -97,11 +77,32 @@ module _ (m : State) (inside : m.stage ≡ stage.Inside) where
     within = λ most one es vs. vs;
   }
 
+module _ (m : State) (inside : m.stage ≡ stage.Inside) where
+  -- another place, stack and storage in the same statement
+  pub on_plain : (place : ℕ) (vs : List Item) (cs : Storage) → m.frame.place ≤ place → length vs ≤ suc (length m.values.items) → length cs ≡ length m.cells.items
+      → ((most : ℕ) → 1 ≤ most → ExtentsWithin most m.extents.items → AreWithin most m.values.items → AreWithin most vs)
+      → IsPlain m (record m { frame = record m.frame { place = place }; values = record m.values { items = vs }; cells = record m.cells { items = cs } })
+  on_plain place vs cs later short same within = record {
+    callers = refl;
+    extents = refl;
+    cells_room = refl;
+    cells = same;
+    values_room = refl;
+    frame = record { unit = refl; stop = refl; extents = refl; before = refl; floor = refl };
+    values = subst (λ s. IsNoHigher s m (record m { frame = record m.frame { place = place }; values = record m.values { items = vs }; cells = record m.cells { items = cs } })) (sym inside) (later, short);
+    within = within;
+  }
+
+  values_plain : (vs : List Item) → length vs ≤ suc (length m.values.items)
+      → ((most : ℕ) → 1 ≤ most → ExtentsWithin most m.extents.items → AreWithin most m.values.items → AreWithin most vs)
+      → IsPlain m (record m { values = record m.values { items = vs } })
+  values_plain vs short within = on_plain m.frame.place vs m.cells.items (omega arith) short refl within
+
   pub answered_plain : (d : ℕ) (r : Result Cell Kind) → IsPlain m (answered d r m)
   answered_plain d (Ok c) =
       let short : length (under_in d m.values.items) ≤ length m.values.items = under_short d m.values.items in
       values_plain (Fresh c ∷ under_in d m.values.items) (omega arith) (λ most one es vs. (one, under_within most d m.values.items vs))
-  answered_plain d (Err kind) = failed_plain kind
+  answered_plain d (Err kind) = failed_plain m kind
 
   decided_plain : (b t : Bool) (k : ℕ) → m.frame.place < 2 ^ 64 → IsPlain m (cond t (decided b k m) m)
   decided_plain b true k near =
@@ -115,7 +116,7 @@ module _ (m : State) (inside : m.stage ≡ stage.Inside) where
       let short : length (under_in 2 m.values.items) ≤ length m.values.items = under_short 2 m.values.items in
       on_plain m.frame.place (behind (behind m.values.items)) (store m.cells.items e.first (value_below 1 m)) (omega arith) (omega arith) (stored_long m.cells.items e.first (value_below 1 m))
       (λ most one es vs. under_within most 2 m.values.items vs)
-  assigned_plain (Fresh c) = lost_plain
+  assigned_plain (Fresh c) = lost_plain m
 
   placed_plain : (slot : ℕ) → IsPlain m (record m { values = record m.values { items = Cells (extent_at m slot) ∷ m.values.items } })
   placed_plain slot = values_plain (Cells (extent_at m slot) ∷ m.values.items) (omega arith) (λ most one es vs. (extent_within most m.extents.items (m.frame.extents + slot) es, vs))

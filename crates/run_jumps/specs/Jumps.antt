@@ -1,36 +1,40 @@
--- What instructions do to a state that lead elsewhere, and what one test of a DO does.
-use Rattle.std.specs.Prelude.{ℕ, suc, ◌+◌, Bool, true, false, cond, ℤ, pos, ◌+ℤ◌, int_le, int_lt, List, take, drop, length, Result, Ok, Err, Option, Some, None, get_or}
-use Rattle.formula.specs.Values.{count, is_between}
+-- What instructions do to a state that lead elsewhere.
+use Rattle.std.specs.Prelude.{◌≡◌, ◌<◌, ℕ, suc, ◌+◌, Bool, true, false, cond, ℤ, pos, int_lt, List, take, drop, Result, Ok, Err, Option, Some, None, get_or, slice_get}
+use Rattle.formula.specs.Values.{count}
 use Rattle.formula.specs.declared.value.Cell.{Cell}
-use Rattle.formula.specs.declared.value.Cell.TheVariants.{Int, Undefined}
+use Rattle.formula.specs.declared.value.Cell.TheVariants.{Int}
 use Rattle.fort_syntax.specs.declared.condition.Kind.{Kind}
 use Rattle.fort_syntax.specs.declared.condition.Kind.TheVariants.{ChoiceCheck, ResultCheck}
 use Rattle.fort_syntax.specs.declared.dialect.Dialect.{Dialect}
 use Rattle.fort_syntax.specs.declared.dialect.Dialect.TheVariants.{Common, SeventySeven}
 use Rattle.fort_model.specs.Cells.{num, holds, is_defined, same}
 use Rattle.fort_model.specs.Flow.{chosen}
-use Rattle.fort_model.specs.Perform.{left_with}
 use Rattle.fort_model.specs.Storage.{load, store}
-use Rattle.run_held.specs.Sums.{constant_to, ranged_to}
 use Rattle.run_intrinsics.specs.Loops.{begun_to}
-use Rattle.run_shapes.specs.declared.slots.Amount.{Amount}
-use Rattle.run_shapes.specs.declared.slots.Amount.TheVariants.{Fixed, Named}
-use Rattle.run_shapes.specs.declared.tests.Round.{Round}
+use Rattle.run_shapes.specs.declared.instr.Instr.{Instr}
+use Rattle.run_shapes.specs.declared.instr.Instr.TheVariants as instr
+use Rattle.run_shapes.specs.declared.unit_code.Code.{Code}
 use Rattle.run_shapes.specs.declared.unit_code.UnitCode.{UnitCode}
-use Rattle.run_rooms.specs.Roomy.{behind}
-use Rattle.run_state.specs.Deeds.{under_in, extent_at, with_stage, with_values, with_cells, skipped, gone_to, put_to_test, failed, lost}
+use Rattle.run_state.specs.Deeds.{under_in, extent_at, with_stage, with_values, with_cells, advanced, skipped, gone_to, put_to_test, failed, lost}
+use Rattle.run_state.specs.Obeyed.{Obeys, IsPlain}
+use Rattle.run_state.specs.Rests.{Same}
+use Rattle.run_state.specs.Shows.{unit_code}
 use Rattle.run_state.specs.declared.machine.Setting.{Setting}
 use Rattle.run_state.specs.declared.machine.Stage.TheVariants as stage
 use Rattle.run_state.specs.declared.machine.State.{State}
-use Rattle.run_elements.specs.Elements.{read_to, value_below, did_forget}
+use Rattle.run_elements.specs.Elements.{IsReady, value_below, did_forget}
 
 -- on to a point, with so many values let go
 abbrev pub left_for : ℕ → ℕ → State → State
 left_for depth q m = gone_to q (with_values (under_in depth m.values.items) m)
 
 -- the carried statement where the newest value is true; it is let go
+abbrev pub turned : Bool → State → State
+turned true m = with_stage stage.Carried (skipped 1 (did_forget m))
+turned false m = did_forget m
+
 abbrev pub did_turn : State → State
-did_turn m = cond (holds (value_below 0 m)) (with_stage stage.Carried (skipped 1 (did_forget m))) (did_forget m)
+did_turn m = turned (holds (value_below 0 m)) m
 
 -- on to one of three points by the sign of the newest value
 abbrev pub point_by_sign : Cell → ℕ → ℕ → ℕ → ℕ
@@ -45,18 +49,18 @@ did_signs unit place m =
 abbrev pub did_ways : ℕ → ℕ → State → State
 did_ways q r m = left_for 1 (cond (holds (value_below 0 m)) q r) m
 
--- on to one of several points, where there is one
-abbrev pub led_for : Option ℕ → State → State
-led_for None m = lost m
-led_for (Some q) m = left_for 1 q m
+-- a computed GO TO goes on to a point; where its number counts none that is an error, but under 77 the flow goes on behind
+abbrev pub chose : Dialect → Option ℕ → State → State
+chose d (Some q) m = left_for 1 q m
+chose Common None m = failed ChoiceCheck m
+chose SeventySeven None m = did_forget m
 
--- a computed GO TO by the newest value; without 77 it must count a point
-abbrev pub chose : Dialect → List ℕ → ℤ → State → State
-chose Common qs i m = cond (is_between (pos 1) (pos (length qs)) i) (led_for (chosen qs (count i)) m) (failed ChoiceCheck m)
-chose SeventySeven qs i m = cond (is_between (pos 1) (pos (length qs)) i) (led_for (chosen qs (count i)) m) (did_forget m)
+-- the point that a number counts, among so many from a place of a table on
+abbrev pub point_at : List ℕ → ℕ → ℕ → ℤ → Option ℕ
+point_at targets place n i = chosen (take n (drop place targets)) (count i)
 
 abbrev pub did_choose : Dialect → UnitCode → ℕ → ℕ → State → State
-did_choose d unit place n m = chose d (take n (drop place unit.targets)) (num (value_below 0 m)) m
+did_choose d unit place n m = chose d (point_at unit.targets place n (num (value_below 0 m))) m
 
 -- a cell of a name gets a content
 abbrev pub with_content : ℕ → Cell → State → State
@@ -77,33 +81,46 @@ abbrev pub did_result : UnitCode → State → State
 did_result unit m = cond unit.is_function (cond (is_defined (load m.cells.items (extent_at m unit.value).first)) m
     (failed ResultCheck m)) m
 
--- ---- one test of a DO
+-- ---- each instruction
 
--- a last value or a step
-abbrev pub amount_to : Setting → State → Amount → Result Cell Kind
-amount_to s m (Fixed c) = constant_to s.bounds c
-amount_to s m (Named slot) = read_to m.cells.items (extent_at m slot).first
+-- what an instruction does; there is none of other forms
+abbrev pub led : Dialect → UnitCode → Setting → Instr → State → State
+led d unit s (instr.Go card q) m = gone_to q m
+led d unit s (instr.Tests card place) m = put_to_test card place m
+led d unit s (instr.Jump q) m = gone_to q m
+led d unit s instr.Turn m = did_turn m
+led d unit s (instr.Signs place) m = did_signs unit place m
+led d unit s (instr.Ways q r) m = did_ways q r m
+led d unit s (instr.Choose place n) m = did_choose d unit place n m
+led d unit s (instr.BeginDo slot q) m = did_begin d s slot q m
+led d unit s instr.ResultOf m = did_result unit m
+led d unit s _ m = lost m
 
-abbrev pub step_to : Setting → State → Option Amount → Result Cell Kind
-step_to s m None = Ok (Int (pos 1))
-step_to s m (Some amount) = amount_to s m amount
+-- the same by the code of the unit that is run
+abbrev pub led_by : Code → Setting → Instr → State → State
+led_by code s i m = led code.dialect (unit_code code m.frame.unit) s i m
 
--- a DO goes round again, or is left for the next test
-abbrev pub went_round : Dialect → Round → Bool → Cell → State → State
-went_round d round true sum m = gone_to (suc round.at) (with_content round.variable sum m)
-went_round d round false sum m = put_to_test m.frame.card (m.frame.place + 1) (with_content round.variable (left_with d sum) m)
+-- the instructions that take one piece of work in the model too
+abbrev pub is_jump : Instr → Bool
+is_jump (instr.Tests card place) = true
+is_jump (instr.Jump q) = true
+is_jump instr.Turn = true
+is_jump (instr.Signs place) = true
+is_jump (instr.Ways q r) = true
+is_jump (instr.Choose place n) = true
+is_jump (instr.BeginDo slot q) = true
+is_jump instr.ResultOf = true
+is_jump instr.Stop = true
+is_jump _ = false
 
--- on with a value, or an error
-abbrev pub then_so : Result Cell Kind → (Cell → State → State) → State → State
-then_so (Ok c) next m = next c m
-then_so (Err kind) next m = failed kind m
+-- the instructions do what the model says, and need no room
+abbrev pub JumpsAreObeyed : Type 0
+JumpsAreObeyed = (code : Code) (setting : Setting) (i : Instr) (m : State) → is_jump i ≡ true → IsReady code i m
+    → Obeys code setting i m (led_by code setting i m) × IsPlain m (led_by code setting i m)
 
-abbrev pub did_test : Dialect → Setting → Round → State → State
-did_test d s round m =
-    then_so (read_to m.cells.items (extent_at m round.variable).first)
-    (λ i.
-    then_so (step_to s m round.step)
-    (λ by.
-    then_so (ranged_to s.bounds (num i +ℤ num by)) (λ sum. then_so (amount_to s m round.last)
-        (λ last. went_round d round (int_le (num sum) (num last)) sum))))
-    m
+-- where no DO is tested the model puts none to the test first, and the state goes to the point at once
+abbrev pub PointsAreReached : Type 0
+PointsAreReached = (code : Code) (setting : Setting) (card q : ℕ) (m : State) → m.stage ≡ stage.Inside
+    → m.frame.place < m.frame.stop
+    → slice_get (unit_code code m.frame.unit).instrs m.frame.place ≡ Some (instr.Go card q)
+    → Same code setting m (gone_to q (advanced m)) × IsPlain (advanced m) (gone_to q (advanced m))

@@ -1,0 +1,4 @@
+pub mod Led
+pub mod Plain
+pub mod Taken
+mod Cells
