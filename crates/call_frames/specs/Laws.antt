@@ -26,14 +26,14 @@ pub record TellsNotes (nodes : List Node) (names : Names) (entry : List TermId) 
 abbrev pub FramesTellNotes : Type 0
 FramesTellNotes =
     (nodes : List Node) (names : Names) (entry : List TermId) (g : Routine) (before now : Named Tree)
-        (is : Role → Bool) (entries : Name → Bool) (ts : List Tree)
+    (is : Role → Bool) (entries : Name → Bool) (ts : List Tree)
     → IsFrame nodes names g now → HasEntry nodes names.table entry g before
     → ((role : Role) → is role ≡ true → is_shared_role role ≡ true) → ((x : Name) → entries x ≡ true
-        → is_shared g x ≡ true) → terms_fit g is entries ts
+    → is_shared g x ≡ true) → terms_fit g is entries ts
     → TellsNotes nodes names entry before now ts
 
 -- what names of a called unit stand for in each program
 abbrev pub ToldByCalls : Type 0
 ToldByCalls =
     (p : Program) (i : ℕ) (u g : Routine) (actuals : List Tree) (now : Named Tree) (value : Tree)
-        → told_by g actuals now value ≡ seen_by (sight of_terms p i u) g actuals now value
+    → told_by g actuals now value ≡ seen_by (sight of_terms p i u) g actuals now value

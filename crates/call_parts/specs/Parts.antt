@@ -40,4 +40,4 @@ TakesFacts w g smashed answer old new =
 abbrev pub TakesOutput : Sight Tree → ℕ → Routine → List (Operand Tree) → Named Tree → Tree → Moment → Moment → Type 0
 TakesOutput w i g xs before value old new =
     Did old (meet (takes (notes_told w before (seen_by w g (map (after_call old.now) xs) old.now value)
-        (notes_of w.program i).output))) new tt
+    (notes_of w.program i).output))) new tt

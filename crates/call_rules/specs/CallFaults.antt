@@ -53,7 +53,7 @@ some_lack units u sites = list_any (λ site. of_unit (program_of units) (callee_
 abbrev pub sites_rule : List Routine → Routine → List CallSite → Option Rule
 sites_rule units u sites =
     first_of_three UnknownUnit BadArguments BlockMissing (some_unknown units sites) (some_mismatch units u sites)
-        (some_lack units u sites)
+    (some_lack units u sites)
 
 -- the rule that is broken at a statement of a unit
 abbrev pub stmt_rule : List Routine → Routine → Stmt → Option Rule

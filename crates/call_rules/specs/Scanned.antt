@@ -14,10 +14,10 @@ use Rattle.call_rules.specs.Taken.{is_taken}
 abbrev pub unit_scan : List Routine → (earlier blocks : List Name) → Option ℕ → ℕ → Routine → Option Fault
 unit_scan units earlier blocks recursive i u =
     first_in_unit (first_of_two UnitTwice Recursion (is_taken earlier blocks u.name) (is_number recursive i))
-        (stmt_rule units u) u
+    (stmt_rule units u) u
 
 abbrev pub scan : List Routine → List Name → Option ℕ → List Name → ℕ → List Routine → Option Fault
 scan units blocks recursive earlier i [] = None
 scan units blocks recursive earlier i (u ∷ us) =
     fault_before (unit_scan units earlier blocks recursive i u) (scan units blocks recursive
-        (with_name earlier u.name) (i + 1) us)
+    (with_name earlier u.name) (i + 1) us)

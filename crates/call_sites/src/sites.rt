@@ -16,8 +16,11 @@ fn push<'a>(
     callee: Name,
     actuals: &'a [Expr],
 ) -> Result<(), NoMemory>
-    ensures { OnOk result (all.new.items ≡ all.old.items ++ record { reference = reference;
-        callee = callee; actuals = actuals.now } ∷ []) }
+    ensures { OnOk result (all.new.items ≡ all.old.items ++ record {
+      reference = reference;
+      callee = callee;
+      actuals = actuals.now;
+    } ∷ []) }
 {
     match all.push(Site::new(reference, callee, actuals)) {
         Ok(()) => Ok(()),

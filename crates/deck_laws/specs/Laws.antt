@@ -25,4 +25,4 @@ DecksWithoutFaultAreWellFormed =
 abbrev pub FirstUnitFaultIsLeast : Type 0
 FirstUnitFaultIsLeast =
     (d : Dialect) (pieces : List Piece) → do_ascend pieces ≡ true
-        → TellsFirst (IsUnitRuleBroken d (statements pieces)) (unit_fault d pieces)
+    → TellsFirst (IsUnitRuleBroken d (statements pieces)) (unit_fault d pieces)

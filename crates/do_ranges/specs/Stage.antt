@@ -15,4 +15,4 @@ use Rattle.unit_faults.specs.Breaking.{BreaksOneOf}
 abbrev pub TellsRanges : Routine → UnitSpec → Option Fault → Type 0
 TellsRanges u spec told =
     (p : Program) (i : ℕ) (pool : List Node) → notes_of p i ≡ notes_tree pool spec
-        → TellsLeast (BreaksOneOf p rules_of_ranges i u) told
+    → TellsLeast (BreaksOneOf p rules_of_ranges i u) told

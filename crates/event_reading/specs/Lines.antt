@@ -162,8 +162,21 @@ condition_at hs t = do
   parts ← implication_at hs behind
   second ← after (codes ") ; ") parts.1
   note ← note_at second
-  Some ((record { unit = name.0.0; path = name.0.1; check = name.0.2; kind = note.0.0; card = note.0.1;
-      hyps = parts.0.0; goal = parts.0.1 }, note.0.2), note.1)
+  Some (
+    (
+      record {
+        unit = name.0.0;
+        path = name.0.1;
+        check = name.0.2;
+        kind = note.0.0;
+        card = note.0.1;
+        hyps = parts.0.0;
+        goal = parts.0.1;
+      },
+      note.0.2,
+    ),
+    note.1,
+  )
 
 -- ---- provers
 

@@ -10,4 +10,4 @@ use Rattle.event_text.specs.Readable.{AreAlike, IsReadable}
 abbrev pub OneTextIsOneList : Type 0
 OneTextIsOneList =
     (ds es : List Function) (bs cs : List ConditionTree) (l m : Marks) → IsReadable ds bs l → IsReadable es cs m
-        → event_text ds bs l ≡ event_text es cs m → AreAlike ds es bs cs l m
+    → event_text ds bs l ≡ event_text es cs m → AreAlike ds es bs cs l m

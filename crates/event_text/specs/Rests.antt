@@ -27,4 +27,4 @@ abbrev pub IsNested : List Node → List Bracket → Type 0
 IsNested pool [] = Unit {0}
 IsNested pool (b ∷ outer) =
     IsIn pool b.id × (row_depth (row_in (trees pool) (rest_of pool b)) + length (b ∷ outer) ≤ deepest (trees pool))
-        × IsNested pool outer
+    × IsNested pool outer

@@ -51,4 +51,4 @@ IsGraphIn p i u (Uncut fault) = Unit {0}
 abbrev pub TellsRoutes : Dialect → Routine → List ℕ → Routes → Type 0
 TellsRoutes dialect u cuts routes =
     (p : Program) (i : ℕ) → p.dialect ≡ dialect → StandAt cuts (notes_of p i)
-        → TellsLeast (IsUncutAt p i u) (fault_in routes) × IsGraphIn p i u routes
+    → TellsLeast (IsUncutAt p i u) (fault_in routes) × IsGraphIn p i u routes

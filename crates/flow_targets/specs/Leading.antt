@@ -46,7 +46,7 @@ IsForkOn u forks pc targets t = (on : Target) × IsForkTo forks t None (targets 
 abbrev pub IsLogicalTarget : Dialect → Routine → List Fork → ℕ → Stmt → Target → Type 0
 IsLogicalTarget dialect u forks pc s t =
     (then : Target) × (on : Target) × IsForkTo forks t None (then ∷ on ∷ []) × IsTargetOf dialect u forks pc s then
-        × IsBehind u forks pc on
+    × IsBehind u forks pc on
 
 -- a target is that of a DO of a label at a point
 abbrev pub IsEntered : Dialect → Routine → List Fork → ℕ → Option ℕ → Target → Type 0

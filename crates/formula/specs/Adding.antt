@@ -97,7 +97,7 @@ abbrev pub AreAddedTo : List Node → List Heading → List Definition → Type 
 AreAddedTo pool earlier [] = Unit {0}
 AreAddedTo pool earlier (d ∷ rest) =
     (IsBodyIn pool d.body × (adding_fault earlier d.name d.params (body_of pool d.body) ≡ None))
-        × AreAddedTo pool (earlier ++ heading_of d ∷ []) rest
+    × AreAddedTo pool (earlier ++ heading_of d ∷ []) rest
 
 -- definitions were added, one after another, with this pool
 abbrev pub AreAdded : List Node → List Definition → Type 0
@@ -108,7 +108,7 @@ abbrev pub AreUsesKnownTo : List Node → List Heading → List Definition → T
 AreUsesKnownTo pool earlier [] = Unit {0}
 AreUsesKnownTo pool earlier (d ∷ rest) =
     (body_passes (uses_pass (is_headed (earlier ++ heading_of d ∷ []))) (body_of pool d.body) ≡ true)
-        × AreUsesKnownTo pool (earlier ++ heading_of d ∷ []) rest
+    × AreUsesKnownTo pool (earlier ++ heading_of d ∷ []) rest
 
 abbrev pub AreUsesKnown : List Node → List Definition → Type 0
 AreUsesKnown pool ds = AreUsesKnownTo pool [] ds

@@ -47,7 +47,7 @@ abbrev mutual
   bounded_by calls symbols entries (old s) n = ranged (entries s) n
   bounded_by calls symbols entries (apply (BuiltIn If) (more c (more a (more b none)))) n =
       and_then (bounded_by calls symbols entries c n) (λ v m. if holds v then bounded_by calls symbols
-          entries a m else bounded_by calls symbols entries b m)
+      entries a m else bounded_by calls symbols entries b m)
   bounded_by calls symbols entries (apply f row) n = and_then (arguments_bounded_by calls symbols entries row n)
       (function_bounded calls f)
 
@@ -55,7 +55,7 @@ abbrev mutual
   arguments_bounded_by calls symbols entries none n = got [] n
   arguments_bounded_by calls symbols entries (more t rest) n =
       and_then (bounded_by calls symbols entries t n) (λ v m.
-          and_then (arguments_bounded_by calls symbols entries rest m) (λ vs k. got (v ∷ vs) k))
+      and_then (arguments_bounded_by calls symbols entries rest m) (λ vs k. got (v ∷ vs) k))
 
 -- the term that a use of a function comes to for its arguments
 abbrev pub chosen : FunctionBody → List Value → Tree

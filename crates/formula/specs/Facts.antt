@@ -71,20 +71,34 @@ capped n = min n 4294967295
 -- ---- how it is computed
 
 abbrev pub facts_of : Tree → Facts
-facts_of t = record { has_symbol = has_symbol t; uses_definition = uses_definition t; depth = depth t; size = capped
-    (tree_size t) }
+facts_of t = record {
+  has_symbol = has_symbol t;
+  uses_definition = uses_definition t;
+  depth = depth t;
+  size = capped
+      (tree_size t);
+}
 
 abbrev pub facts_of_row : Row → Facts
-facts_of_row row = record { has_symbol = row_has_symbol row; uses_definition = row_uses_definition row;
-    depth = row_depth row; size = capped (tree_row_size row) }
+facts_of_row row = record {
+  has_symbol = row_has_symbol row;
+  uses_definition = row_uses_definition row;
+  depth = row_depth row;
+  size = capped (tree_row_size row);
+}
 
 abbrev pub no_facts : Facts
 no_facts = record { has_symbol = false; uses_definition = false; depth = 0; size = 0 }
 
 -- of terms that stand side by side
 abbrev pub beside : Facts → Facts → Facts
-beside a b = record { has_symbol = a.has_symbol || b.has_symbol; uses_definition = a.uses_definition
-    || b.uses_definition; depth = max a.depth b.depth; size = capped (a.size + b.size) }
+beside a b = record {
+  has_symbol = a.has_symbol || b.has_symbol;
+  uses_definition = a.uses_definition
+      || b.uses_definition;
+  depth = max a.depth b.depth;
+  size = capped (a.size + b.size);
+}
 
 abbrev pub facts_at : List Facts → ℕ → Facts
 facts_at facts place = slice_index_or facts place no_facts
@@ -95,8 +109,13 @@ row_facts_in facts (id ∷ rest) = beside (facts_at facts id.place) (row_facts_i
 
 -- of a function, from what its arguments are side by side
 abbrev pub function_facts : Func → Facts → Facts
-function_facts f row = record { has_symbol = row.has_symbol; uses_definition = is_defined f
-    || row.uses_definition; depth = row.depth + 1; size = capped (row.size + 1) }
+function_facts f row = record {
+  has_symbol = row.has_symbol;
+  uses_definition = is_defined f
+      || row.uses_definition;
+  depth = row.depth + 1;
+  size = capped (row.size + 1);
+}
 
 -- of a node, from what is told of its arguments
 abbrev pub facts_in : List Facts → Node → Facts

@@ -30,7 +30,7 @@ abbrev mutual
   Spells named (old s) ts = IsCall named EntryValue (atom s ∷ []) ts × (is_symbol s ≡ true)
   Spells named (apply f row) ts =
       (arity : Arity) × (args : List Token) × IsCall named (Function f arity) args ts
-          × (fits_count arity (row_count row) ≡ true) × (takes f row ≡ true) × SpellsRow named row args
+      × (fits_count arity (row_count row) ≡ true) × (takes f row ≡ true) × SpellsRow named row args
 
   -- the tokens spell the arguments, one behind the other
   pub SpellsRow : (List ℕ → Option Head) → Row → List Token → Type 0

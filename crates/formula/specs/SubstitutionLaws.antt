@@ -15,7 +15,7 @@ SubstitutionIsAssignmentBy =
     (uses : Uses) (symbols entries : Valuation) (for_symbols for_entries : List ℕ → Tree) (t : Tree)
     → worth_by uses symbols entries (substituted for_symbols for_entries t)
     ≡ worth_by uses (worths_put (worth_by uses symbols entries) for_symbols)
-        (worths_put (worth_by uses symbols entries) for_entries) t
+    (worths_put (worth_by uses symbols entries) for_entries) t
 
 -- the same under definitions
 abbrev pub SubstitutionIsAssignment : Type 0
@@ -55,5 +55,5 @@ abbrev pub SubstitutionsAgree : Type 0
 SubstitutionsAgree =
     (symbols others entries other_entries : List ℕ → Tree) (t : Tree)
     → ((name : List ℕ) → IsSymbolOf name t → symbols name ≡ others name) → ((name : List ℕ) → IsEntryOf name t
-        → entries name ≡ other_entries name)
+    → entries name ≡ other_entries name)
     → substituted symbols entries t ≡ substituted others other_entries t

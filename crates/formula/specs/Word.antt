@@ -19,9 +19,11 @@ word_of bs = record { len = length bs; bytes = bs ++ replicate (24 - length bs) 
 padded : (cap len : ℕ) (bytes : List ℕ) → len ≤ cap → length bytes ≡ cap → drop len bytes ≡ replicate (cap - len) 0
     → (length (take len bytes) ≡ len) × (take len bytes ++ replicate (cap - length (take len bytes)) 0 ≡ bytes)
 padded cap len bytes le same rest =
-    let short : length (take len bytes) ≡ len = simp length-take (omega arith) in
-    (short, ap (λ n. take len bytes ++ replicate (cap - n) 0) short ∙ ap (λ r. take len bytes ++ r) (sym rest)
-        ∙ take-append-drop len bytes)
+    let short : length (take len bytes) ≡ len = simp length-take (omega arith) in (
+      short,
+      ap (λ n. take len bytes ++ replicate (cap - n) 0) short ∙ ap (λ r. take len bytes ++ r) (sym rest)
+          ∙ take-append-drop len bytes,
+    )
 
 -- the bytes of a word give the word back
 pub word_of_bytes : (a : Inside) → IsWord a → word_of (word_bytes a) ≡ a

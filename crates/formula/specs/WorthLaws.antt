@@ -25,23 +25,23 @@ UsesMeanTheirTerms =
     (pool : List Node) (ds : List Definition) → AreAdded pool ds
     → IsMeaning (functions_of pool ds) (used (functions_of pool ds))
     × ((other : Uses) → IsMeaning (functions_of pool ds) other → (k : ℕ) (vs : List Value)
-        → other k vs ≡ used (functions_of pool ds) k vs)
+    → other k vs ≡ used (functions_of pool ds) k vs)
 
 -- a value that an evaluation with turns gives is the worth
 abbrev pub BoundedWorthIsWorth : Type 0
 BoundedWorthIsWorth =
     (pool : List Node) (ds : List Definition) → AreAdded pool ds → (symbols entries : Valuation) (t : Tree)
-        (n m : ℕ) (v : Value) → bounded (functions_of pool ds) symbols entries t n ≡ got v m
+    (n m : ℕ) (v : Value) → bounded (functions_of pool ds) symbols entries t n ≡ got v m
     → worth (functions_of pool ds) symbols entries t ≡ v
 
 -- a condition that no assignment makes false is false for no values of symbols at all
 abbrev pub AssignmentsSuffice : Type 0
 AssignmentsSuffice =
     (fs : List Function) (hyps : List Tree) (goal : Tree) → IsValid fs hyps goal → (symbols : Valuation)
-        → IsTrue (not (is_false_under fs symbols nothing_known hyps goal))
+    → IsTrue (not (is_false_under fs symbols nothing_known hyps goal))
 
 -- only the turns decide: how deep uses may stand one in another changes nothing where it is not less than the turns
 abbrev pub TurnsAloneDecide : Type 0
 TurnsAloneDecide =
     (fs : List Function) (symbols entries : Valuation) (t : Tree) (n depth : ℕ) → n ≤ depth
-        → bounded_by (calls_within fs depth) symbols entries t n ≡ bounded fs symbols entries t n
+    → bounded_by (calls_within fs depth) symbols entries t n ≡ bounded fs symbols entries t n

@@ -64,7 +64,7 @@ ErringRunsAreBlamed =
     → ((env : Environment) → LieApart program.units i u env → AreGood program i u env)
     → (env : Environment) (st : Storage) → IsApart program.units i u env → Fits p u env st
     → IsMet program.functions p (names_hold u env st cell.Undefined) (names_hold u env st cell.Undefined)
-        (notes_of program i).input
+    (notes_of program i).input
     → (n : ℕ) (kind : Kind) (card : ℕ) (after : Storage) → run p program.units u env st n ≡ Erred kind card after
     → Blamed p program i u env st kind card
 
@@ -84,7 +84,7 @@ pub record FalseCondition (fs : List Function) (list : List ConditionTree) (unit
 abbrev pub FailingPathsHaveFalseConditions : Type 0
 FailingPathsHaveFalseConditions =
     (program : Program) (list : List ConditionTree) → IsExact program list → (i : ℕ) (u : Routine)
-        → slice_get program.units i ≡ Some u
+    → slice_get program.units i ≡ Some u
     → (values : Symbol → Value) (path : Path) → IsPath program.dialect u (notes_of program i) path → (kind : Kind) (card : ℕ)
     → FirstFails kind card (walk (sight (of_values program.functions values) program i u) path)
     → FalseCondition program.functions list u.name values kind card

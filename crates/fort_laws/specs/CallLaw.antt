@@ -82,7 +82,7 @@ abbrev pub IsRight : Processor → Program → ℕ → Routine → Type 0
 IsRight p program j g =
     (env : Environment) (st : Storage) → IsApart program.units j g env → Fits p g env st
     → IsMet program.functions p (names_hold g env st cell.Undefined) (names_hold g env st cell.Undefined)
-        (notes_of program j).input
+    (notes_of program j).input
     → EndsRight p program j g env st
 
 -- ---- the law
@@ -95,7 +95,7 @@ at_home p program u env = record { processor = p; units = program.units; unit = 
 abbrev pub LieApart : List Routine → ℕ → Routine → Environment → Type 0
 LieApart units i u env =
     (d e : DataName) → IsAmong d u.names → IsAmong e u.names → Smashes units i d.name → d.name ≢ e.name
-        → (k : ℕ) → IsIn k (env d.name) → IsIn k (env e.name) → ⊥
+    → (k : ℕ) → IsIn k (env d.name) → IsIn k (env e.name) → ⊥
 
 -- What a call leaves: named values stand for cells; the walk's value of a function is that of the run, of its type; and where the
 -- called unit smashes no name that the caller sees, the storage is as it was.
@@ -113,14 +113,14 @@ CallsAreMatched =
     (values : Symbol → Value) (program : Program) (p : Processor) (i j : ℕ) (c : Calls program.units i j) (env : Environment)
     → values LeastInteger ≡ Int p.least → values GreatestInteger ≡ Int p.greatest
     → AreSound program.units → HoldsSmashed program → SharesBlocks program.units → Agrees c → HasNames c.callee
-        → IsRight p program j c.callee → LieApart program.units i c.caller env
+    → IsRight p program j c.callee → LieApart program.units i c.caller env
     → (st : Storage) (now : Named Value) → Stood p c.caller env now st
     → (card k : ℕ) (os : List (Operand Value)) (ts : List Taken)
-        → ArePassed (at_home p program c.caller env) st now c.site.actuals os ts
+    → ArePassed (at_home p program c.caller env) st now c.site.actuals os ts
     → Matches (Leaves program c p env st) (walk.call (sight (of_values program.functions values) program i c.caller)
-        card (callee_of program.units c.site) now os)
+    card (callee_of program.units c.site) now os)
     (call (run p program.units) env (unit_at program.units (callee_of program.units c.site))
-        (passed (p.copies c.caller.name k) 1 ts)) st
+    (passed (p.copies c.caller.name k) 1 ts)) st
 
 -- ---- the calls of a unit
 
@@ -136,8 +136,8 @@ UnitCallsMatch =
     (values : Symbol → Value) (program : Program) (p : Processor) (i : ℕ) (u : Routine) (env : Environment)
     → values LeastInteger ≡ Int p.least → values GreatestInteger ≡ Int p.greatest
     → AreSound program.units → HoldsSmashed program → SharesBlocks program.units
-        → FunctionsSmashNothing program.units → CallsAreRight p program i → LieApart program.units i u env
+    → FunctionsSmashNothing program.units → CallsAreRight p program i → LieApart program.units i u env
     → ReferencesMatch program.functions values program i (at_home p program u env) (run p program.units)
-        (IsReferenceTo program i u)
+    (IsReferenceTo program i u)
     × CallStatementsMatch program.functions values program i (at_home p program u env) (run p program.units)
-        (IsCallTo program i u)
+    (IsCallTo program i u)

@@ -16,7 +16,7 @@ use Rattle.fort_laws.specs.StrictPrograms.{CallIsDeclared, IsReady}
 abbrev pub ProgramsAreCorrect : Type 0
 ProgramsAreCorrect =
     (program : Program) → KeepsRules program → HoldsSmashed program → AreDeclared program.units
-        → ((i j : ℕ) (c : Calls program.units i j) → CallIsDeclared c)
+    → ((i j : ℕ) (c : Calls program.units i j) → CallIsDeclared c)
     → ((i : ℕ) (u : Routine) → slice_get program.units i ≡ Some u → IsReady program i u)
-        → (list : List ConditionTree) → IsExact program list → AreValid program.functions list
+    → (list : List ConditionTree) → IsExact program list → AreValid program.functions list
     → IsTotallyCorrect program

@@ -45,7 +45,7 @@ pub record ErrsAsWalksDo (p : Processor) (program : Program) (i : ℕ) (u : Rout
   pub errs : (values : Symbol → Value) → StandAtEntry values p u env st → (way : List (List ℕ))
       → IsWayIn program.dialect u (notes_of program i) way
       → (kind : Kind) (card : ℕ) → IsRunError kind → FirstFails kind card
-          (from_entry (sight (of_values program.functions values) program i u) answers way)
+      (from_entry (sight (of_values program.functions values) program i u) answers way)
       → UnitErrs p program u env st kind card
 
 -- a unit that is in order, with notes that fit it and good statements, errs as walks do, from each storage that
@@ -56,7 +56,7 @@ UnitsErrAsWalksDo =
     → ((env : Environment) → LieApart program.units i u env → AreGood program i u env)
     → (env : Environment) (st : Storage) → IsApart program.units i u env → Fits p u env st
     → IsMet program.functions p (names_hold u env st cell.Undefined) (names_hold u env st cell.Undefined)
-        (notes_of program i).input
+    (notes_of program i).input
     → ErrsAsWalksDo p program i u env st
 
 -- For such a unit, let walks along a path from the entry have a check of a run error as their first false event, whatever calls
@@ -67,8 +67,8 @@ FailingPathsErr =
     → ((env : Environment) → LieApart program.units i u env → AreGood program i u env)
     → (env : Environment) (st : Storage) → IsApart program.units i u env → Fits p u env st
     → IsMet program.functions p (names_hold u env st cell.Undefined) (names_hold u env st cell.Undefined)
-        (notes_of program i).input
+    (notes_of program i).input
     → (way : List (List ℕ)) → IsWayIn program.dialect u (notes_of program i) way → (kind : Kind) (card : ℕ) → IsRunError kind
     → ((values : Symbol → Value) → StandAtEntry values p u env st → FirstFails kind card
-        (walk (sight (of_values program.functions values) program i u) (record { start = 0; choices = way })))
+    (walk (sight (of_values program.functions values) program i u) (record { start = 0; choices = way })))
     → UnitErrs p program u env st kind card

@@ -93,7 +93,7 @@ module _ (fs : List Function) (values : Symbol → Value) (program : Program) (i
         → RunsAs clock pc now st answers way
     fails_there : Comes clock pc now st answers way → (kind : Kind) (card : ℕ) → IsOnArrival kind
         → FirstFails kind card (walk_from (seen fs values program i s) clock pc now answers way)
-            → RunsAs clock pc now st answers way
+        → RunsAs clock pc now st answers way
     errs_on_way : (kind : Kind) (card : ℕ) → FirstFails kind card (walk_from (seen fs values program i s)
         clock pc now answers way)
         → Errs kind card (run_from s.processor s.units s.unit s.environment pc) st → RunsAs clock pc now st answers way
@@ -148,7 +148,7 @@ pub record IsUnderWay (values : Symbol → Value) (program : Program) (p : Proce
 abbrev pub ChoicesAreDecided : Type 0
 ChoicesAreDecided =
     (fs : List Function) (values : Symbol → Value) (program : Program) (i : ℕ) (u : Routine) (stmt : Stmt)
-        (card pc : ℕ) (now : Named Value) (answers : Answers Value) (cs ks : List ℕ) (q p : ℕ)
+    (card pc : ℕ) (now : Named Value) (answers : Answers Value) (cs ks : List ℕ) (q p : ℕ)
     → leads program.dialect u pc stmt cs ≡ Some q → leads program.dialect u pc stmt ks ≡ Some p
     → AllTrue (performed (sight (of_values fs values) program i u) card pc now stmt cs answers).events
     → AllTrue (performed (sight (of_values fs values) program i u) card pc now stmt ks answers).events → cs ≡ ks
@@ -157,7 +157,7 @@ ChoicesAreDecided =
 abbrev pub RunsArriveOrErr : Type 0
 RunsArriveOrErr =
     (values : Symbol → Value) (program : Program) (p : Processor) (i : ℕ) (u : Routine) (env : Environment)
-        (clock : Option (List Value)) (pc : ℕ) (now : Named Value) (st : Storage)
+    (clock : Option (List Value)) (pc : ℕ) (now : Named Value) (st : Storage)
     → IsUnderWay values program p i u env pc now st
     → GoesAWay program.functions values program i (at_home p program u env) clock pc now st
 
@@ -167,20 +167,20 @@ RunsArriveOrErr =
 abbrev pub ErrorsAreThoseOfWalks : Type 0
 ErrorsAreThoseOfWalks =
     (fs : List Function) (values : Symbol → Value) (program : Program) (i : ℕ) (s : Scene)
-        (clock : Option (List Value)) (pc : ℕ) (now : Named Value) (st : Storage)
+    (clock : Option (List Value)) (pc : ℕ) (now : Named Value) (st : Storage)
     → (own : GoesAWay fs values program i s clock pc now st) → (way : List (List ℕ))
-        → IsWay program.dialect s.unit (notes_of program i) pc way
+    → IsWay program.dialect s.unit (notes_of program i) pc way
     → (kind : Kind) (card : ℕ) → IsRunError kind → FirstFails kind card
-        (walk_from (seen fs values program i s) clock pc now own.answers way)
+    (walk_from (seen fs values program i s) clock pc now own.answers way)
     → RunErrs fs values program i s kind card pc st
 
 -- if along a way, whatever calls answer, a check of a run error is the first false event, then it is the error of the run
 abbrev pub RunsErrWhateverCallsAnswer : Type 0
 RunsErrWhateverCallsAnswer =
     (values : Symbol → Value) (program : Program) (p : Processor) (i : ℕ) (u : Routine) (env : Environment)
-        (clock : Option (List Value)) (pc : ℕ) (now : Named Value) (st : Storage)
+    (clock : Option (List Value)) (pc : ℕ) (now : Named Value) (st : Storage)
     → IsUnderWay values program p i u env pc now st
     → (way : List (List ℕ)) → IsWay program.dialect u (notes_of program i) pc way → (kind : Kind) (card : ℕ) → IsRunError kind
     → ((answers : Answers Value) → FirstFails kind card (walk_from (seen program.functions values program i
-        (at_home p program u env)) clock pc now answers way))
+    (at_home p program u env)) clock pc now answers way))
     → RunErrs program.functions values program i (at_home p program u env) kind card pc st

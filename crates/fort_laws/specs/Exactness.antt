@@ -16,4 +16,4 @@ ConditionsAreExact = (p : Program) (paths : List (List Path)) → AreAllPaths p 
 abbrev pub ChecksDoNotDependOnValues : Type 0
 ChecksDoNotDependOnValues =
     (p : Program) (i : ℕ) (u : Routine) (values : Symbol → Value) (path : Path)
-        → labels (walked_by p i u values path) ≡ checks_of p i u path
+    → labels (walked_by p i u values path) ≡ checks_of p i u path

@@ -32,23 +32,23 @@ abbrev pub WalksReadFewSymbols : Type 0
 WalksReadFewSymbols =
     (fs : List Function) (values others : Symbol → Value) (program : Program) (i : ℕ) (u : Routine)
     → values LeastInteger ≡ others LeastInteger → values GreatestInteger ≡ others GreatestInteger
-        → ((x : Name) → values (AtEntry x) ≡ others (AtEntry x))
+    → ((x : Name) → values (AtEntry x) ≡ others (AtEntry x))
     → (clock : Option (List Value)) (pc : ℕ) (now : Named Value) (answers : Answers Value) (way : List (List ℕ))
     → walk_from (sight (of_values fs values) program i u) clock pc now answers way ≡ walk_from
-        (sight (of_values fs others) program i u) clock pc now answers way
+    (sight (of_values fs others) program i u) clock pc now answers way
 
 -- no walk along a path of a unit has a check as its first false event, whatever its symbols stand for
 abbrev pub PathsAreSafe : List Function → Program → ℕ → Routine → Type 0
 PathsAreSafe fs program i u =
     (values : Symbol → Value) (path : Path) → IsPath program.dialect u (notes_of program i) path
-        → NoCheckFails (walk (sight (of_values fs values) program i u) path)
+    → NoCheckFails (walk (sight (of_values fs values) program i u) path)
 
 -- then no way from the entry fails at a check either, whatever calls answer, where what is taken at the entry is true
 abbrev pub PathsMakeEntriesSafe : Type 0
 PathsMakeEntriesSafe =
     (fs : List Function) (values : Symbol → Value) (program : Program) (i : ℕ) (s : Scene) → PathsAreSafe fs program i s.unit
     → AllTrue (takes (entry_facts (seen fs values program i s))) → IsSafeIn fs values program i s 0
-        (at_entry (seen fs values program i s))
+    (at_entry (seen fs values program i s))
 
 -- what a walk takes of smashed names at an ASSERT is true where names stand for cells: each has its type
 abbrev pub SortsHold : List Function → (Symbol → Value) → Program → ℕ → Scene → Type 0
@@ -61,7 +61,7 @@ abbrev pub PathsMakeAssertsSafe : Type 0
 PathsMakeAssertsSafe =
     (fs : List Function) (values : Symbol → Value) (program : Program) (i : ℕ) (s : Scene) → PathsAreSafe fs program i s.unit
     → AllTrue (takes (entry_facts (seen fs values program i s))) → SortsHold fs values program i s
-        → AssertsAreSafe fs values program i s
+    → AssertsAreSafe fs values program i s
 
 -- A unit whose paths are safe: a strict run from its first statement comes to the end, where all of OUTPUT is
 -- true. Calls are taken to match, statements to be good, and what is taken at the entry to be true.
@@ -72,13 +72,13 @@ SafePathsEnd =
     → MeetsBound s.processor program.bound
     → s.processor.dialect ≡ program.dialect → HasScalarDims s.unit s.environment
     → ReferencesMatch fs values program i s (run s.processor s.units) (IsReferenceTo program i s.unit)
-        → CallStatementsMatch fs values program i s (run s.processor s.units) (IsCallTo program i s.unit)
+    → CallStatementsMatch fs values program i s (run s.processor s.units) (IsCallTo program i s.unit)
     → ((pc : ℕ) (line : Line) → slice_get s.unit.lines pc ≡ Some line → IsGood s.unit s.environment
-        (IsReferenceTo program i s.unit) (IsCallTo program i s.unit) pc line.stmt)
+    (IsReferenceTo program i s.unit) (IsCallTo program i s.unit) pc line.stmt)
     → IsCutUp program.dialect s.unit (notes_of program i)
     → HoldsSmashed program → slice_get program.units i ≡ Some s.unit → BlocksAreCommon s.unit
     → (parts : ℕ) → ClocksHave fs values program i s parts
     → PathsAreSafe fs program i s.unit → SortsHold fs values program i s
     → (st : Storage) → AllTrue (takes (entry_facts (seen fs values program i s)))
-        → Stood s.processor s.unit s.environment (at_entry (seen fs values program i s)) st
+    → Stood s.processor s.unit s.environment (at_entry (seen fs values program i s)) st
     → ComesToEnd fs values program i s 0 st

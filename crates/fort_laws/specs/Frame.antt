@@ -155,12 +155,12 @@ abbrev pub EvaluationChangesNothing : Type 0
 EvaluationChangesNothing =
     (units : List Routine) → AreSound units → FunctionsSmashNothing units
     → (p : Processor) (i : ℕ) (u : Routine) (env : Environment) (st : Storage) → slice_get units i ≡ Some u
-        → IsPlaced units i u env st
+    → IsPlaced units i u env st
     → (line : Line) (e : Expr) → IsAmong line u.lines → ((site : CallSite) → IsAmong site (sites_in u e)
-        → IsAmong site (sites_of u line.stmt))
+    → IsAmong site (sites_of u line.stmt))
     → (depth card k n : ℕ) (v : Cell) (after : Storage) (left : ℕ)
     → evaluate (record { processor = p; units = units; unit = u; environment = env })
-        (run_within p units depth) card k e st n ≡ Ended v after left → after ≡ st
+    (run_within p units depth) card k e st n ≡ Ended v after left → after ≡ st
 
 -- ---- what the rules on smashed names give
 

@@ -31,7 +31,7 @@ BlocksHoldCommons = (dialect : Dialect) (u : Routine) → IsWellFormedUnit diale
 abbrev pub WellFormedIsDeclared : Type 0
 WellFormedIsDeclared =
     (dialect : Dialect) (deck : Deck) (p : Program) → IsWellFormed dialect deck → deck.units ≡ p.units
-        → KeepsRule p BlockMissing → AreDeclared p.units
+    → KeepsRule p BlockMissing → AreDeclared p.units
 
 -- the calls of a well-formed deck that keeps the rules agree with the units that they are of
 abbrev pub CallsAgree : Type 0
@@ -46,15 +46,15 @@ CallsAgree =
 abbrev pub StatementsAreTyped : Type 0
 StatementsAreTyped =
     (dialect : Dialect) (p : Program) (i : ℕ) (u : Routine) → slice_get p.units i ≡ Some u
-        → IsWellFormedUnit dialect u → KeepsRules p
+    → IsWellFormedUnit dialect u → KeepsRules p
     → (pc : ℕ) (line : Line) → slice_get u.lines pc ≡ Some line → IsTypedStatement u (IsReferenceTo p i u)
-        (IsCallTo p i u) pc line.stmt
+    (IsCallTo p i u) pc line.stmt
 
 -- RETURNs alone lead to the end of a well-formed unit of a program that keeps the rules
 abbrev pub EndsAreReturns : Type 0
 EndsAreReturns =
     (dialect : Dialect) (p : Program) (i : ℕ) (u : Routine) → slice_get p.units i ≡ Some u
-        → IsWellFormedUnit dialect u → KeepsRules p → EndsByReturn p.dialect u
+    → IsWellFormedUnit dialect u → KeepsRules p → EndsByReturn p.dialect u
 
 -- ---- decks
 
@@ -63,5 +63,5 @@ EndsAreReturns =
 abbrev pub DecksAreCorrect : Type 0
 DecksAreCorrect =
     (dialect : Dialect) (deck : Deck) (p : Program) → IsWellFormed dialect deck → deck.units ≡ p.units
-        → KeepsRules p → HoldsSmashed p → HasFittingNotes p
+    → KeepsRules p → HoldsSmashed p → HasFittingNotes p
     → (list : List ConditionTree) → IsExact p list → AreValid p.functions list → IsTotallyCorrect p

@@ -137,7 +137,7 @@ module _ (u : Routine) (env : Environment) (IsReference : Sort → Name → List
   IsGood pc (LogicalIf' e _ (carried b)) = IsTyped u IsReference Logical e × HasGoodLoops pc × IsExecutable b × IsGood pc b
   IsGood pc (Do l x first last by) =
       IsScalar u Integer x × MayBeWritten u env x × IsParameter u first × IsParameter u last × IsStep u by
-          × AreGoodLoops u env (loops_around u (target u.lines l) pc)
+      × AreGoodLoops u env (loops_around u (target u.lines l) pc)
   IsGood pc Continue = HasGoodLoops pc
   IsGood pc (Call g args) = IsCall g args × AreActual u IsReference (row_of args) × HasGoodLoops pc
   IsGood pc Return = HasResult (is_function u)
@@ -155,9 +155,9 @@ module _ (fs : List Function) (values : Symbol → Value) (program : Program) (i
   CallStatementsMatch IsCall =
       (st : Storage) (now : Named Value) → Stood s.processor s.unit s.environment now st
       → (card k : ℕ) (g : Name) (args : List Expr) (xs : List (Operand Value)) (ts : List Taken) → IsCall g args
-          → ArePassed s st now args xs ts
+      → ArePassed s st now args xs ts
       → Matches (λ r c after. Stood s.processor s.unit s.environment (r.0) after)
-          (walk.call (sight (of_values fs values) program i s.unit) card (subroutine program.units g) now xs)
+      (walk.call (sight (of_values fs values) program i s.unit) card (subroutine program.units g) now xs)
       (call caller s.environment (unit_at s.units (subroutine s.units g)) (passed (s.processor.copies s.unit.name k) 1 ts)) st
 
   abbrev pub ReferencesMatch : (Sort → Name → List Expr → Type 0) → Type 0
@@ -170,7 +170,7 @@ module _ (fs : List Function) (values : Symbol → Value) (program : Program) (i
       (st : Storage) (now : Named Value) → Stood s.processor s.unit s.environment now st
       → (stmt : Stmt) (card pc k : ℕ) → IsGood s.unit s.environment IsReference IsCall pc stmt
       → StepMatches (λ (cs : List ℕ). cs) (leads s.processor.dialect s.unit pc stmt)
-          (λ cs. performed (sight (of_values fs values) program i s.unit) card pc now stmt cs)
+      (λ cs. performed (sight (of_values fs values) program i s.unit) card pc now stmt cs)
       (perform s caller card pc k stmt) (Stood s.processor s.unit s.environment) st
 
 -- On a strict processor of the program's dialect that has all integers up to the bound, where named values
@@ -182,5 +182,5 @@ StatementsMatch =
     → MeetsBound s.processor program.bound
     → s.processor.dialect ≡ program.dialect → HasScalarDims s.unit s.environment
     → ReferencesMatch fs values program i s caller (IsReferenceTo program i s.unit)
-        → CallStatementsMatch fs values program i s caller (IsCallTo program i s.unit)
+    → CallStatementsMatch fs values program i s caller (IsCallTo program i s.unit)
     → StatementsStep fs values program i s caller (IsReferenceTo program i s.unit) (IsCallTo program i s.unit)

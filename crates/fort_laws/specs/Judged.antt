@@ -11,4 +11,4 @@ use Rattle.fort_model.specs.Stages.{rules_of_calls}
 abbrev pub CallsAreJudgedByUnits : Type 0
 CallsAreJudgedByUnits =
     (p q : Program) → p.units ≡ q.units → (rule : Rule) → IsAmong rule rules_of_calls → (i card : ℕ)
-        → IsBroken p rule i card → IsBroken q rule i card
+    → IsBroken p rule i card → IsBroken q rule i card

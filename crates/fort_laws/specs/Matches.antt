@@ -34,9 +34,9 @@ pub data Errs {B : Type 0} (kind : Kind) (card : ℕ) (act : Act B) (st : Storag
 pub data Matches {A B : Type 0} (Q : A → B → Storage → Type 0) (part : See Value A) (act : Act B) (st : Storage) : Type 0 where
   moves : (pre : Answers Value → Answers Value) (a : A) (b : B) (after : Storage) (cost : ℕ)
       → ((answers : Answers Value) → AllTrue (part (pre answers)).events) → ((answers : Answers Value)
-          → (part (pre answers)).value ≡ a)
+      → (part (pre answers)).value ≡ a)
       → ((answers : Answers Value) → (part (pre answers)).rest ≡ answers)
-          → ((n : ℕ) → act st (cost + n) ≡ Ended b after n) → Q a b after
+      → ((n : ℕ) → act st (cost + n) ≡ Ended b after n) → Q a b after
       → Matches Q part act st
   fails : (pre : Answers Value → Answers Value) (kind : Kind) (card : ℕ) → ((answers : Answers Value)
       → FirstFails kind card (part (pre answers)).events) → Errs kind card act st

@@ -63,13 +63,13 @@ module _ (fs : List Function) (values : Symbol → Value) (program : Program) (i
     at_end : (now : Named Value) (after : Storage) (cost card : ℕ)
         → ((n : ℕ) → run_from s.processor s.units s.unit s.environment pc st (cost + n) ≡ Ended tt after n)
         → Stood s.processor s.unit s.environment now after → KeepsUnsmashed now
-            → AllTrue (arrive seen clock card AtEnd now []) → HasValue now → Arrives clock pc st
+        → AllTrue (arrive seen clock card AtEnd now []) → HasValue now → Arrives clock pc st
     at_assert : (a : Assertion) (q : ℕ) (now : Named Value) (after : Storage) (cost card : ℕ)
         → cut_at s.unit (notes_of program i) q ≡ AtAssert a
         → ((n : ℕ) → run_from s.processor s.units s.unit s.environment pc st (cost + n)
-            ≡ run_from s.processor s.units s.unit s.environment q after n)
+        ≡ run_from s.processor s.units s.unit s.environment q after n)
         → Stood s.processor s.unit s.environment now after → KeepsUnsmashed now
-            → AllTrue (arrive seen clock card (AtAssert a) now []) → Arrives clock pc st
+        → AllTrue (arrive seen clock card (AtAssert a) now []) → Arrives clock pc st
 
 -- On a strict processor of the program's dialect that has all integers up to the bound: where the unit has no uncut cycle, its
 -- statements are good and calls match, a run from a statement from which no walk fails arrives at a cut point.
@@ -80,11 +80,11 @@ SafeRunsArrive =
     → MeetsBound s.processor program.bound
     → s.processor.dialect ≡ program.dialect → HasScalarDims s.unit s.environment
     → ReferencesMatch fs values program i s (run s.processor s.units) (IsReferenceTo program i s.unit)
-        → CallStatementsMatch fs values program i s (run s.processor s.units) (IsCallTo program i s.unit)
+    → CallStatementsMatch fs values program i s (run s.processor s.units) (IsCallTo program i s.unit)
     → ((pc : ℕ) (line : Line) → slice_get s.unit.lines pc ≡ Some line → IsGood s.unit s.environment
-        (IsReferenceTo program i s.unit) (IsCallTo program i s.unit) pc line.stmt)
+    (IsReferenceTo program i s.unit) (IsCallTo program i s.unit) pc line.stmt)
     → IsCutUp program.dialect s.unit (notes_of program i) → StatementsKeep fs values program i s
     → (clock : Option (List Value)) (pc : ℕ) (line : Line) (now : Named Value) (st : Storage)
-        → slice_get s.unit.lines pc ≡ Some line → Stood s.processor s.unit s.environment now st
-        → KeepsUnsmashed fs values program i s now
+    → slice_get s.unit.lines pc ≡ Some line → Stood s.processor s.unit s.environment now st
+    → KeepsUnsmashed fs values program i s now
     → IsSafe fs values program i s clock pc now → Arrives fs values program i s clock pc st

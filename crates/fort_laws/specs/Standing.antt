@@ -82,9 +82,9 @@ module _ (fs : List Function) (values : Symbol → Value) (program : Program) (i
   abbrev pub CallsMatch : Type 0
   CallsMatch =
       (card k : ℕ) (q : Sort) (a : Name) (es : List Expr) (xs : List (Operand Value)) (ts : List Taken)
-          → IsReference q a es → ArePassed s st now es xs ts
+      → IsReference q a es → ArePassed s st now es xs ts
       → Matches (Same st (λ r c. Of s.processor q (r.1) c))
-          (walk_call.call (sight (of_values fs values) program i s.unit) card (function program.units a) now xs)
+      (walk_call.call (sight (of_values fs values) program i s.unit) card (function program.units a) now xs)
       (call caller s.environment (unit_at s.units (function s.units a)) (passed (s.processor.copies s.unit.name k) 1 ts)) st
 
   -- an expression of a type comes to values that belong together, in the storage as it was; or its first check that is false is
@@ -93,16 +93,16 @@ module _ (fs : List Function) (values : Symbol → Value) (program : Program) (i
   ExpressionMatches =
       (e : Expr) (q : Sort) (card k : ℕ) → IsTyped s.unit IsReference q e
       → Matches (Same st (Of s.processor q)) (walk.value (sight (of_values fs values) program i s.unit) card now e)
-          (run.evaluate s caller card k e) st
+      (run.evaluate s caller card k e) st
 
 -- On a strict processor that has all integers up to the bound, where named values stand for cells and references to functions
 -- match, all expressions do.
 abbrev pub ExpressionsMatch : Type 0
 ExpressionsMatch =
     (fs : List Function) (values : Symbol → Value) (program : Program) (i : ℕ) (s : Scene) (caller : Caller)
-        (st : Storage) (now : Named Value)
+    (st : Storage) (now : Named Value)
     → values LeastInteger ≡ Int s.processor.least → values GreatestInteger ≡ Int s.processor.greatest → s.processor.lazy ≡ false
     → MeetsBound s.processor program.bound
     → Standing s.processor s.unit s.environment st now
     → CallsMatch fs values program i s caller st now (IsReferenceTo program i s.unit)
-        → ExpressionMatches fs values program i s caller st now (IsReferenceTo program i s.unit)
+    → ExpressionMatches fs values program i s caller st now (IsReferenceTo program i s.unit)

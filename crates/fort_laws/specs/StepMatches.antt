@@ -16,9 +16,9 @@ pub data StepMatches {C : Type 0} (list : C → List ℕ) (leads : List ℕ → 
   goes : (c : C) (q : ℕ) → leads (list c) ≡ Some q → (pre : Answers Value → Answers Value) (now : Named Value)
       (after : Storage) (cost : ℕ)
       → ((answers : Answers Value) → AllTrue (part c (pre answers)).events) → ((answers : Answers Value)
-          → (part c (pre answers)).value ≡ now)
+      → (part c (pre answers)).value ≡ now)
       → ((answers : Answers Value) → (part c (pre answers)).rest ≡ answers)
-          → ((n : ℕ) → act st (cost + n) ≡ Ended (list c) after n) → Q now after
+      → ((n : ℕ) → act st (cost + n) ≡ Ended (list c) after n) → Q now after
       → StepMatches list leads part act Q st
   stops : (c : C) (q : ℕ) → leads (list c) ≡ Some q → (pre : Answers Value → Answers Value) (kind : Kind) (card : ℕ)
       → ((answers : Answers Value) → FirstFails kind card (part c (pre answers)).events) → Errs kind card act st

@@ -33,6 +33,6 @@ MoreStepsChangeNothing =
 abbrev pub FewerStepsAreNotEnough : Type 0
 FewerStepsAreNotEnough =
     (p : Processor) (units : List Routine) (u : Routine) (env : Environment) (st : Storage) (n : ℕ) (v : Cell)
-        (after : Storage) (left : ℕ)
+    (after : Storage) (left : ℕ)
     → run p units u env st n ≡ Ended v after left
     → (left ≤ n) × ((fewer : ℕ) → fewer + left < n → IsRunning (run p units u env st fewer))

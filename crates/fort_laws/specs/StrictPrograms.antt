@@ -47,12 +47,12 @@ pub record IsReady (program : Program) (i : ℕ) (u : Routine) : Type 0 where
 abbrev pub StrictProgramsAreCorrect : Type 0
 StrictProgramsAreCorrect =
     (program : Program) → KeepsRules program → HoldsSmashed program → AreDeclared program.units
-        → ((i j : ℕ) (c : Calls program.units i j) → CallIsDeclared c)
+    → ((i j : ℕ) (c : Calls program.units i j) → CallIsDeclared c)
     → ((i : ℕ) (u : Routine) → slice_get program.units i ≡ Some u → IsReady program i u)
-        → (list : List ConditionTree) → IsExact program list → AreValid program.functions list
+    → (list : List ConditionTree) → IsExact program list → AreValid program.functions list
     → (p : Processor) (i : ℕ) (u : Routine) (env : Environment) (st : Storage)
     → p.lazy ≡ false → p.dialect ≡ program.dialect → MeetsBound p program.bound → slice_get program.units i ≡ Some u
     → IsApart program.units i u env → Fits p u env st
     → IsMet program.functions p (names_hold u env st cell.Undefined) (names_hold u env st cell.Undefined)
-        (notes_of program i).input
+    (notes_of program i).input
     → EndsWell p program i u env st

@@ -41,7 +41,7 @@ PathsLeadThrough =
     × (slice_get (points_of dialect u notes path) 0 ≡ start_point notes path.start)
     × GoToCut u notes (points_of dialect u notes path)
     × ((ps : List ℕ) → LeadThrough dialect u path.choices ps → slice_get ps 0 ≡ start_point notes path.start
-        → ps ≡ points_of dialect u notes path)
+    → ps ≡ points_of dialect u notes path)
 
 -- choices under which a statement leads on are no front of others under which it does
 abbrev pub ChoicesEnd : Type 0

@@ -64,7 +64,7 @@ module _ (u : Routine) (IsReference : Sort → Name → List Expr → Type 0) (I
       (loops_at u pc) × IsExecutable b × IsTypedStatement pc b
   IsTypedStatement pc (Do l x first last by) =
       IsScalar u Integer x × IsParameter u first × IsParameter u last × IsStep u by × AreTypedLoops u
-          (loops_around u (target u.lines l) pc)
+      (loops_around u (target u.lines l) pc)
   IsTypedStatement pc Continue = AreTypedLoops u (loops_at u pc)
   IsTypedStatement pc (Call g args) = IsCall g args × AreActual u IsReference (row_of args) × AreTypedLoops u (loops_at u pc)
   IsTypedStatement pc Return = HasOwnValue u (is_function u)

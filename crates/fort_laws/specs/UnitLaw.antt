@@ -29,7 +29,7 @@ abbrev pub SmashedHaveTypes : Type 0
 SmashedHaveTypes =
     (values : Symbol → Value) (program : Program) (p : Processor) (i : ℕ) (u : Routine) (env : Environment)
     → values LeastInteger ≡ Int p.least → values GreatestInteger ≡ Int p.greatest → AreSound program.units
-        → slice_get program.units i ≡ Some u
+    → slice_get program.units i ≡ Some u
     → SortsHold program.functions values program i (at_home p program u env)
 
 -- A unit of a sound program whose paths are safe, which no cycle goes uncut in, all clocks of which have
@@ -40,14 +40,14 @@ abbrev pub SafeUnitsEnd : Type 0
 SafeUnitsEnd =
     (values : Symbol → Value) (program : Program) (p : Processor) (i : ℕ) (u : Routine) (env : Environment)
     → values LeastInteger ≡ Int p.least → values GreatestInteger ≡ Int p.greatest → p.lazy ≡ false
-        → MeetsBound p program.bound → p.dialect ≡ program.dialect
+    → MeetsBound p program.bound → p.dialect ≡ program.dialect
     → slice_get program.units i ≡ Some u → AreSound program.units → HoldsSmashed program
-        → SharesBlocks program.units → FunctionsSmashNothing program.units
+    → SharesBlocks program.units → FunctionsSmashNothing program.units
     → BlocksAreCommon u → CallsAreRight p program i → LieApart program.units i u env
     → ((pc : ℕ) (line : Line) → slice_get u.lines pc ≡ Some line → IsGood u env (IsReferenceTo program i u)
-        (IsCallTo program i u) pc line.stmt)
+    (IsCallTo program i u) pc line.stmt)
     → IsCutUp program.dialect u (notes_of program i) → (parts : ℕ) → ClocksHave program.functions values program i
-        (at_home p program u env) parts → PathsAreSafe program.functions program i u
+    (at_home p program u env) parts → PathsAreSafe program.functions program i u
     → (st : Storage) → AllTrue (takes (entry_facts (seen program.functions values program i (at_home p program u env))))
     → Stood p u env (at_entry (seen program.functions values program i (at_home p program u env))) st
     → ComesToEnd program.functions values program i (at_home p program u env) 0 st
@@ -61,13 +61,13 @@ SafeUnitsAreRight =
     (program : Program) (p : Processor) (i : ℕ) (u : Routine)
     → p.lazy ≡ false → MeetsBound p program.bound → p.dialect ≡ program.dialect
     → slice_get program.units i ≡ Some u → AreSound program.units → HoldsSmashed program
-        → SharesBlocks program.units → FunctionsSmashNothing program.units
+    → SharesBlocks program.units → FunctionsSmashNothing program.units
     → HasNames u → BlocksAreCommon u → FitsUnit u (notes_of program i) → EndsByReturn program.dialect u
-        → (slice_get u.lines 0 ≡ None → ⊥) → CallsAreRight p program i
+    → (slice_get u.lines 0 ≡ None → ⊥) → CallsAreRight p program i
     → ((env : Environment) → LieApart program.units i u env → (pc : ℕ) (line : Line)
-        → slice_get u.lines pc ≡ Some line → IsGood u env (IsReferenceTo program i u) (IsCallTo program i u)
-        pc line.stmt)
+    → slice_get u.lines pc ≡ Some line → IsGood u env (IsReferenceTo program i u) (IsCallTo program i u)
+    pc line.stmt)
     → IsCutUp program.dialect u (notes_of program i) → (parts : ℕ)
     → ((a : Assertion) (q : ℕ) → cut_at u (notes_of program i) q ≡ AtAssert a → length a.clock ≡ parts)
-        → PathsAreSafe program.functions program i u
+    → PathsAreSafe program.functions program i u
     → IsRight p program i u

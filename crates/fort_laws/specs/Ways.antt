@@ -42,7 +42,7 @@ IsReturn _ _ = ⊥
 abbrev pub EndsByReturn : Dialect → Routine → Type 0
 EndsByReturn dialect u =
     (pc : ℕ) (line : Line) (cs : List ℕ) (q : ℕ) → slice_get u.lines pc ≡ Some line
-        → leads dialect u pc line.stmt cs ≡ Some q → slice_get u.lines q ≡ None → IsReturn line.stmt cs
+    → leads dialect u pc line.stmt cs ≡ Some q → slice_get u.lines q ≡ None → IsReturn line.stmt cs
 
 -- no statement lies on an uncut cycle
 abbrev pub IsCutUp : Dialect → Routine → Notes → Type 0
@@ -66,5 +66,5 @@ abbrev pub WaysCanBeCompleted : Type 0
 WaysCanBeCompleted =
     (dialect : Dialect) (u : Routine) (notes : Notes) → IsCutUp dialect u notes → AreExecutable u
     → (pc : ℕ) (line : Line) (choices : List ℕ) (q : ℕ) → slice_get u.lines pc ≡ Some line
-        → leads dialect u pc line.stmt choices ≡ Some q
+    → leads dialect u pc line.stmt choices ≡ Some q
     → Completed dialect u notes pc choices

@@ -42,7 +42,7 @@ module _ (fs : List Function) (values : Symbol → Value) (program : Program) (i
   AssertsAreSafe =
       (a : Assertion) (q : ℕ) (now : Named Value) (st : Storage) → cut_at s.unit (notes_of program i) q ≡ AtAssert a
       → Stood s.processor s.unit s.environment now st → KeepsUnsmashed fs values program i s now → IsTrueAt a now
-          → IsSafe fs values program i s (Some (clock_of a now)) q now
+      → IsSafe fs values program i s (Some (clock_of a now)) q now
 
   -- the clocks of all ASSERTs have so many parts
   abbrev pub ClocksHave : ℕ → Type 0
@@ -52,9 +52,9 @@ module _ (fs : List Function) (values : Symbol → Value) (program : Program) (i
   abbrev pub IsSafeIn : ℕ → Named Value → Type 0
   IsSafeIn pc now =
       (way : List (List ℕ)) (answers : Answers Value) → over_or program.dialect s.unit (notes_of program i)
-          (cut_at s.unit (notes_of program i) pc) way (IsWay program.dialect s.unit (notes_of program i) pc way)
+      (cut_at s.unit (notes_of program i) pc) way (IsWay program.dialect s.unit (notes_of program i) pc way)
       → NoCheckFails (arrive (seen fs values program i s) None 0 (cut_at s.unit (notes_of program i) pc) now
-          (walk_from (seen fs values program i s) None pc now answers way))
+      (walk_from (seen fs values program i s) None pc now answers way))
 
   -- a run from a point comes to the end of the unit, where all of OUTPUT is true
   pub record ComesToEnd (pc : ℕ) (st : Storage) : Type 0 where
@@ -77,13 +77,13 @@ SafeRunsEnd =
     → MeetsBound s.processor program.bound
     → s.processor.dialect ≡ program.dialect → HasScalarDims s.unit s.environment
     → ReferencesMatch fs values program i s (run s.processor s.units) (IsReferenceTo program i s.unit)
-        → CallStatementsMatch fs values program i s (run s.processor s.units) (IsCallTo program i s.unit)
+    → CallStatementsMatch fs values program i s (run s.processor s.units) (IsCallTo program i s.unit)
     → ((pc : ℕ) (line : Line) → slice_get s.unit.lines pc ≡ Some line → IsGood s.unit s.environment
-        (IsReferenceTo program i s.unit) (IsCallTo program i s.unit) pc line.stmt)
+    (IsReferenceTo program i s.unit) (IsCallTo program i s.unit) pc line.stmt)
     → IsCutUp program.dialect s.unit (notes_of program i) → StatementsKeep fs values program i s
     → (parts : ℕ) → ClocksHave fs values program i s parts → AssertsAreSafe fs values program i s
     → (pc : ℕ) (now : Named Value) (st : Storage) → Stood s.processor s.unit s.environment now st
-        → KeepsUnsmashed fs values program i s now
+    → KeepsUnsmashed fs values program i s now
     → IsSafeIn fs values program i s pc now → ComesToEnd fs values program i s pc st
 
 -- what is wanted of a unit: what stands in its COMMON blocks are COMMON entities
@@ -94,5 +94,5 @@ BlocksAreCommon u = (x : Name) → IsAmong x (commons u) → has_common u x ≡ 
 abbrev pub StatementsKeepUnsmashed : Type 0
 StatementsKeepUnsmashed =
     (fs : List Function) (values : Symbol → Value) (program : Program) (i : ℕ) (s : Scene) → HoldsSmashed program
-        → slice_get program.units i ≡ Some s.unit → BlocksAreCommon s.unit
+    → slice_get program.units i ≡ Some s.unit → BlocksAreCommon s.unit
     → StatementsKeep fs values program i s

@@ -25,7 +25,7 @@ pub record MayRun (program : Program) (i : ℕ) : Type 0 where
   pub fits : Fits processor unit environment storage
   pub met :
       IsMet program.functions processor (names_hold unit environment storage Undefined)
-          (names_hold unit environment storage Undefined) (notes_of program i).input
+      (names_hold unit environment storage Undefined) (notes_of program i).input
 
 abbrev pub LoopMayRun : Type 0
 LoopMayRun = MayRun down_program 0

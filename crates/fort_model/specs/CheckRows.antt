@@ -172,7 +172,7 @@ ChecksOfSign =
     × (checks_along (alone SeventySeven sign (plain_notes []) (J ∷ [])) sign (the_path ((2 ∷ []) ∷ (1 ∷ []) ∷ [] ∷ [] ∷ [] ∷ []))
     ≡ (DefinedCheck, 4) ∷ (DefinedCheck, 6) ∷ (OutputCheck, 11) ∷ [])
     × (checks_along (alone SeventySeven sign (plain_notes []) (J ∷ [])) sign
-        (the_path ((2 ∷ []) ∷ (2 ∷ []) ∷ [] ∷ [] ∷ [] ∷ [] ∷ []))
+    (the_path ((2 ∷ []) ∷ (2 ∷ []) ∷ [] ∷ [] ∷ [] ∷ [] ∷ []))
     ≡ (DefinedCheck, 4) ∷ (DefinedCheck, 6) ∷ (OutputCheck, 11) ∷ [])
 
 abbrev pub pick_program : Dialect → Program
@@ -193,8 +193,13 @@ abbrev pub up_to_program : Program
 up_to_program =
     alone SeventySeven up_to
     (plain_notes
-    (record { point = 1; card = 5; terms = defined I ∷ true_term ∷ true_term ∷ []; clock = difference
-        (symbol N) (symbol I) ∷ [] } ∷ []))
+    (record {
+      point = 1;
+      card = 5;
+      terms = defined I ∷ true_term ∷ true_term ∷ [];
+      clock = difference
+          (symbol N) (symbol I) ∷ [];
+    } ∷ []))
     (M ∷ I ∷ [])
 
 -- N is read; then the step and the two numbers that tell how often the range is performed
@@ -209,6 +214,6 @@ ChecksOfUpTo =
     ≡ begins_up_to ((DefinedCheck, 7) ∷ (OutputCheck, 8) ∷ []))
     × (checks_along up_to_program up_to (from_assert 1 ((1 ∷ []) ∷ []))
     ≡ (DefinedCheck, 6) ∷ (RangeCheck, 6) ∷ (DefinedCheck, 6) ∷ replicate 3 (AssertCheck, 5) ++ (ClockCheck, 5) ∷
-        (FallCheck, 5) ∷ [])
+    (FallCheck, 5) ∷ [])
     × (checks_along up_to_program up_to (from_assert 1 ((2 ∷ []) ∷ [] ∷ [] ∷ []))
     ≡ (DefinedCheck, 6) ∷ (RangeCheck, 6) ∷ (DefinedCheck, 6) ∷ (DefinedCheck, 7) ∷ (OutputCheck, 8) ∷ [])

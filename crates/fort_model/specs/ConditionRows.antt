@@ -66,8 +66,12 @@ GoalsOfSubscripts =
 abbrev pub adjustable_program : Program
 adjustable_program =
     alone Common adjustable
-    (record { input = true_term ∷ []; output = is_equal (term f.Element (symbol A ∷ number 4 ∷ []))
-        (term f.Size (old A ∷ [])) ∷ []; asserts = [] })
+    (record {
+      input = true_term ∷ [];
+      output = is_equal (term f.Element (symbol A ∷ number 4 ∷ []))
+          (term f.Size (old A ∷ [])) ∷ [];
+      asserts = [];
+    })
     (A ∷ [])
 
 abbrev pub adjustable_conditions : List ConditionTree
@@ -77,7 +81,7 @@ adjustable_conditions = conditions_of adjustable_program ((the_path ([] ∷ [] �
 abbrev pub adjustable_start : List Tree
 adjustable_start =
     bounds ++ term f.IntegerCells (entry A ∷ times (entry M) (entry N) ∷ LEAST ∷ GREATEST ∷ []) ∷ is_integer
-        (entry M) ∷ is_integer (entry N)
+    (entry M) ∷ is_integer (entry N)
     ∷ is_defined (entry M) ∷ at_most (number 1) (entry M) ∷ is_defined (entry N) ∷ at_most (number 1) (entry N)
     ∷ true_term ∷ []
 
@@ -91,7 +95,7 @@ ConditionsOfAdjustable =
     ≡ adjustable_goals
     ++ is_equal
     (term f.Element (term f.Put (entry A ∷ plus (number 1) (times (entry M) (difference (entry N) (number 1)))
-        ∷ number 7 ∷ []) ∷ number 4 ∷ []))
+    ∷ number 7 ∷ []) ∷ number 4 ∷ []))
     (term f.Size (entry A ∷ []))
     ∷ [])
     × (hyps_behind 3 adjustable_conditions ≡ (adjustable_start ++ adjustable_goals) ∷ [])
@@ -116,7 +120,7 @@ round_start =
 abbrev pub round_goals : List Tree
 round_goals =
     is_defined (start I) ∷ term f.And (at_most LEAST next_i ∷ at_most next_i GREATEST ∷ []) ∷ is_defined
-        next_i ∷ is_defined (entry N) ∷ []
+    next_i ∷ is_defined (entry N) ∷ []
 
 abbrev pub arrival_goals : List Tree
 arrival_goals =

@@ -40,7 +40,7 @@ abbrev pub conditions_from : Name → ℕ → ℕ → List Tree → List (Event 
 conditions_from unit path k hyps [] = []
 conditions_from unit path k hyps (Check kind card t ∷ es) =
     record { unit = unit; path = path; check = k; kind = kind; card = card; hyps = hyps; goal = t } ∷
-        conditions_from unit path (suc k) (hyps ++ t ∷ []) es
+    conditions_from unit path (suc k) (hyps ++ t ∷ []) es
 conditions_from unit path k hyps (Take t ∷ es) = conditions_from unit path k (hyps ++ t ∷ []) es
 
 -- the conditions of a unit along some paths, the first of which has the number n

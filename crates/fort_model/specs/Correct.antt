@@ -75,5 +75,5 @@ IsTotallyCorrect program =
     → p.dialect ≡ program.dialect → MeetsBound p program.bound → slice_get program.units i ≡ Some u
     → IsApart program.units i u env → Fits p u env st
     → IsMet program.functions p (names_hold u env st cell.Undefined) (names_hold u env st cell.Undefined)
-        (notes_of program i).input
+    (notes_of program i).input
     → EndsWell p program i u env st

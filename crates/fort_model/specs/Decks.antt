@@ -52,19 +52,44 @@ card_of_end lines = card_of_last 0 lines + 1
 -- a SUBROUTINE without COMMON: its name, its dummies, its data names and its statements
 abbrev pub routine : Name → List Name → List DataName → List Line → Routine
 routine name dummies names lines =
-    record { name = name; sort = None; head = card_of_head names lines; dummies = dummies; names = names;
-        functions = []; blocks = []; lines = lines; «end» = card_of_end lines }
+    record {
+      name = name;
+      sort = None;
+      head = card_of_head names lines;
+      dummies = dummies;
+      names = names;
+      functions = [];
+      blocks = [];
+      lines = lines;
+      «end» = card_of_end lines;
+    }
 
 -- an integer FUNCTION without COMMON; its value is the first of its data names
 abbrev pub function_of : Name → List Name → List DataName → List Line → Routine
 function_of name dummies names lines =
-    record { name = name; sort = Some Integer; head = card_of_head names lines; dummies = dummies; names =
-        scalar OwnValue name ∷ names; functions = []; blocks = []; lines = lines; «end» = card_of_end lines }
+    record {
+      name = name;
+      sort = Some Integer;
+      head = card_of_head names lines;
+      dummies = dummies;
+      names =
+          scalar OwnValue name ∷ names;
+      functions = [];
+      blocks = [];
+      lines = lines;
+      «end» = card_of_end lines;
+    }
 
 -- the numbers of 16 bits
 abbrev pub processor : Dialect → Bool → (Name → ℕ → ℕ → Bool) → Processor
-processor dialect lazy copies = record { dialect = dialect; least = neg_ℤ (pos 32768); greatest = pos
-    32767; lazy = lazy; copies = copies }
+processor dialect lazy copies = record {
+  dialect = dialect;
+  least = neg_ℤ (pos 32768);
+  greatest = pos
+      32767;
+  lazy = lazy;
+  copies = copies;
+}
 
 abbrev pub by_reference : Name → ℕ → ℕ → Bool
 by_reference unit call argument = false

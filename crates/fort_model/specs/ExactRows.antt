@@ -38,9 +38,12 @@ is_false values c = is_false_under [] values nothing_known c.hyps c.goal
 -- walk comes to
 abbrev pub compared : Program → Routine → Path → List (List ℕ × Value) → List ℕ × List ℕ × Verdict
 compared p u path values =
-    let cs = conditions_of p ((path ∷ []) ∷ []) in
-    (numbers_of (is_reached (words values)) 1 cs, numbers_of (is_false (words values)) 1 cs, verdict
-        (walked p 0 u (words values) path))
+    let cs = conditions_of p ((path ∷ []) ∷ []) in (
+      numbers_of (is_reached (words values)) 1 cs,
+      numbers_of (is_false (words values)) 1 cs,
+      verdict
+          (walked p 0 u (words values) path),
+    )
 
 -- ---- one is added to I
 

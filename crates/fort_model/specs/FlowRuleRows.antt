@@ -42,25 +42,25 @@ LastStatementsOfLoops =
 abbrev pub RangesNest : Type 0
 RangesNest =
     (cards_alone CrossedDo Common locals (counts 4 10 I ∷ counts 5 20 J ∷ labelled 6 10 Continue ∷ labelled
-        7 20 Continue ∷ line 8 Return ∷ []) ≡ 5 ∷ [])
+    7 20 Continue ∷ line 8 Return ∷ []) ≡ 5 ∷ [])
     × (cards_alone CrossedDo Common locals (counts 4 10 I ∷ counts 5 10 J ∷ labelled 6 10 Continue ∷ line 8 Return ∷ []) ≡ [])
     × (cards_alone CrossedDo SeventySeven locals
     (counts 4 10 I ∷ line 5 (BlockIf (rel Lt (Var I) (Const 2))) ∷ labelled 6 10 Continue ∷ line 7 EndIf
-        ∷ line 8 Return ∷ []) ≡ 5 ∷ [])
+    ∷ line 8 Return ∷ []) ≡ 5 ∷ [])
     × (cards_alone CrossedDo SeventySeven locals
     (line 4 (BlockIf (rel Lt (Var M) (Const 2))) ∷ counts 5 10 I ∷ line 6 Else ∷ labelled 7 10 Continue
-        ∷ line 8 EndIf ∷ line 9 Return ∷ []) ≡ 5 ∷ [])
+    ∷ line 8 EndIf ∷ line 9 Return ∷ []) ≡ 5 ∷ [])
 
 -- into a DO from outside, out of it, and inside; to an ELSE, and into a block from the other branch
 abbrev pub JumpsStayOutside : Type 0
 JumpsStayOutside =
     (cards_alone JumpIntoDo Common locals (line 4 (GoTo 20) ∷ counts 5 10 I ∷ labelled 6 20 Continue
-        ∷ labelled 7 10 Continue ∷ line 8 Return ∷ []) ≡ 4 ∷ [])
+    ∷ labelled 7 10 Continue ∷ line 8 Return ∷ []) ≡ 4 ∷ [])
     × (cards_alone JumpIntoDo Common locals (counts 5 10 I ∷ line 6 (GoTo 10) ∷ line 7
-        (GoTo 20) ∷ labelled 8 10 Continue ∷ labelled 9 20 Return ∷ []) ≡ [])
+    (GoTo 20) ∷ labelled 8 10 Continue ∷ labelled 9 20 Return ∷ []) ≡ [])
     × (cards_alone JumpIntoDo SeventySeven locals
     (line 4 (BlockIf (rel Lt (Var M) (Const 2))) ∷ labelled 5 10 Continue ∷ labelled 6 20 Else ∷ line 7
-        (GoTo 10) ∷ line 8 (GoTo 20) ∷ labelled 9 30 EndIf ∷ line 10 (GoTo 30) ∷ [])
+    (GoTo 10) ∷ line 8 (GoTo 20) ∷ labelled 9 30 EndIf ∷ line 10 (GoTo 30) ∷ [])
     ≡ 7 ∷ 8 ∷ [])
 
 -- the variable or the last value of a DO is set in its range; a DO counts up to its own variable
@@ -68,7 +68,7 @@ abbrev pub LoopsKeepTheirNames : Type 0
 LoopsKeepTheirNames =
     (cards_alone DoSmashed Common locals
     (counts 4 10 I ∷ line 5 (Assign (Var I) (Const 1)) ∷ line 6 (Assign (Var J) (Const 1)) ∷ labelled 7 10
-        (Assign (Var M) (Const 1)) ∷ line 8 (Assign (Var I) (Const 1)) ∷ line 9 Return ∷ [])
+    (Assign (Var M) (Const 1)) ∷ line 8 (Assign (Var I) (Const 1)) ∷ line 9 Return ∷ [])
     ≡ 5 ∷ 7 ∷ [])
     × (cards_alone DoSmashed Common locals (counts 4 10 M ∷ labelled 5 10 Continue ∷ line 6 Return ∷ []) ≡ 4 ∷ [])
     × (cards_alone DoSmashed Common locals (counts 4 10 I ∷ counts 5 10 I ∷ labelled 6 10 Continue ∷ line 7 Return ∷ []) ≡ 5 ∷ [])

@@ -43,7 +43,7 @@ successor_program = alone Common successor (plain_notes []) (F ∷ [])
 abbrev pub ChecksOfResults : Type 0
 ChecksOfResults =
     (checks_of successor_program 0 successor (the_path ((1 ∷ []) ∷ [])) ≡ (DefinedCheck, 4) ∷ (ResultCheck, 4) ∷
-        (OutputCheck, 4) ∷ [])
+    (OutputCheck, 4) ∷ [])
     × (checks_of successor_program 0 successor (the_path ((2 ∷ []) ∷ [] ∷ [] ∷ []))
     ≡ (DefinedCheck, 4) ∷ (DefinedCheck, 5) ∷ (RangeCheck, 5) ∷ (ResultCheck, 6) ∷ (OutputCheck, 6) ∷ [])
 
@@ -52,9 +52,9 @@ ChecksOfResults =
 abbrev pub ConditionOfZero : Type 0
 ConditionOfZero =
     hyps_behind 1 (conditions_of (alone Common compare (plain_notes []) (J ∷ []))
-        ((the_path ((2 ∷ []) ∷ [] ∷ [] ∷ []) ∷ []) ∷ []))
+    ((the_path ((2 ∷ []) ∷ [] ∷ [] ∷ []) ∷ []) ∷ []))
     ≡ (bounds ++ is_integer (entry I) ∷ is_integer (entry J) ∷ true_term ∷ is_defined (entry I) ∷ is_equal
-        (entry I) (number 0) ∷ []) ∷ []
+    (entry I) (number 0) ∷ []) ∷ []
 
 -- ---- an element is an actual at card 10: its subscript is read, and it is not
 
@@ -77,12 +77,12 @@ checks_of_part e = checks_of (part_program e) 1 (passes_part e) (the_path ([] �
 abbrev pub ChecksOfActuals : Type 0
 ChecksOfActuals =
     (checks_of_part (applied_to A (Var I ∷ [])) ≡ (DefinedCheck, 10) ∷ (SubscriptCheck, 10) ∷ (InputCheck, 10) ∷
-        (OutputCheck, 11) ∷ [])
+    (OutputCheck, 11) ∷ [])
     × (checks_of_part (bracket (applied_to A (Var I ∷ []))) ≡ (DefinedCheck, 10) ∷ (SubscriptCheck, 10) ∷
-        (DefinedCheck, 10) ∷ (InputCheck, 10) ∷ (OutputCheck, 11) ∷ [])
+    (DefinedCheck, 10) ∷ (InputCheck, 10) ∷ (OutputCheck, 11) ∷ [])
     × (checks_of_part (Var I) ≡ (InputCheck, 10) ∷ (OutputCheck, 11) ∷ [])
     × (checks_of_part (bin Add (Var I) (Const 1)) ≡ (DefinedCheck, 10) ∷ (RangeCheck, 10) ∷ (InputCheck, 10) ∷
-        (OutputCheck, 11) ∷ [])
+    (OutputCheck, 11) ∷ [])
 
 -- INPUT of the called unit is told by the actual
 abbrev pub GoalOfInput : Type 0

@@ -127,7 +127,7 @@ passing_over = routine (codes "P") (M ∷ N ∷ []) (scalar Dummy M ∷ scalar D
 abbrev pub PassedOverLoops : Type 0
 PassedOverLoops =
     run (processor SeventySeven false by_reference) (passing_over ∷ []) passing_over
-        (laid_out (M ∷ N ∷ []) (1 ∷ 1 ∷ [])) (Undefined ∷ int 0 ∷ []) 8
+    (laid_out (M ∷ N ∷ []) (1 ∷ 1 ∷ [])) (Undefined ∷ int 0 ∷ []) 8
     ≡ Ended Undefined (int 3 ∷ int 0 ∷ []) 0
 
 -- ---- a whole array is passed
@@ -178,7 +178,7 @@ two_calls left right = routine (codes "P") [] (scalar InCommon K ∷ scalar Loca
 abbrev pub called : Expr → Expr → (Name → ℕ → ℕ → Bool) → Outcome Cell
 called left right copies =
     run (processor SeventySeven false copies) (changing G (bin Mul (Var K) (Const 10)) ∷ changing H
-        (bin Add (Var K) (Const 1)) ∷ two_calls left right ∷ [])
+    (bin Add (Var K) (Const 1)) ∷ two_calls left right ∷ [])
     (two_calls left right) (laid_out (K ∷ []) (1 ∷ [])) (int 1 ∷ []) 11
 
 abbrev pub copied_at : ℕ → Name → ℕ → ℕ → Bool

@@ -11,8 +11,11 @@ use Rattle.fort_model.specs.CheckRows.{twice_notes}
 abbrev pub twice_graph : Graph
 twice_graph = record {
   starts = Point 1 ∷ Point 2 ∷ Fork 1 ∷ Point 4 ∷ Point 5 ∷ [];
-  forks = record { tested = Some 0; targets = Point 1 ∷ Point 3 ∷ [] } ∷ record { tested = Some 1; targets =
-      Point 2 ∷ Fork 0 ∷ [] } ∷ [];
+  forks = record { tested = Some 0; targets = Point 1 ∷ Point 3 ∷ [] } ∷ record {
+    tested = Some 1;
+    targets =
+        Point 2 ∷ Fork 0 ∷ [];
+  } ∷ [];
   cuts = 2 ∷ [];
   ranks = 0 ∷ 1 ∷ 0 ∷ 1 ∷ 2 ∷ [];
   size = 5;

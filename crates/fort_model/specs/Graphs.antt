@@ -64,7 +64,7 @@ abbrev pub IsDoTarget : Dialect → Routine → List Fork → ℕ → ℕ → Ta
 IsDoTarget Common u forks last pc t = t ≡ Point (suc pc)
 IsDoTarget SeventySeven u forks last pc t =
     (over : Target) × IsForkTo forks t None (Point (suc pc) ∷ over ∷ []) × AreTests forks (next_point u last)
-        (loops_around u last pc) over
+    (loops_around u last pc) over
 
 -- a computed GO TO goes to its labels; under 77 the choice behind the last of them goes on behind the statement
 abbrev pub IsComputedTarget : Dialect → Routine → List Fork → ℕ → List ℕ → Target → Type 0
@@ -80,7 +80,7 @@ IsTargetOf dialect u forks pc (Computed labels x) t = IsComputedTarget dialect u
 IsTargetOf dialect u forks pc (ArithIf e l m n) t = IsForkTo forks t None (points_of_labels u (l ∷ m ∷ n ∷ []))
 IsTargetOf dialect u forks pc (LogicalIf' e _ (carried s)) t =
     (then : Target) × (on : Target) × IsForkTo forks t None (then ∷ on ∷ []) × IsTargetOf dialect u forks pc s then
-        × IsBehind u forks pc on
+    × IsBehind u forks pc on
 IsTargetOf dialect u forks pc (Do label x first last step) t = IsDoTarget dialect u forks (target u.lines label) pc t
 IsTargetOf dialect u forks pc Continue t = IsBehind u forks pc t
 IsTargetOf dialect u forks pc (Call f args) t = IsBehind u forks pc t

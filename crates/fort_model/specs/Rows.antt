@@ -48,7 +48,7 @@ quotients = routine (codes "Q") (I ∷ J ∷ K ∷ []) (scalar Dummy I ∷ scala
 abbrev pub quotients_of : Cell → Outcome Cell
 quotients_of i =
     run (processor Common false by_reference) (quotients ∷ []) quotients (laid_out (I ∷ J ∷ K ∷ [])
-        (1 ∷ 1 ∷ 1 ∷ [])) (i ∷ Undefined ∷ Undefined ∷ []) 100
+    (1 ∷ 1 ∷ 1 ∷ [])) (i ∷ Undefined ∷ Undefined ∷ []) 100
 
 abbrev pub QuotientsAreCut : Type 0
 QuotientsAreCut =
@@ -79,7 +79,7 @@ adjustable = routine (codes "ADJ") (A ∷ M ∷ N ∷ []) (array Dummy A (Named 
 abbrev pub FirstSubscriptVariesFastest : Type 0
 FirstSubscriptVariesFastest =
     run (processor Common false by_reference) (adjustable ∷ []) adjustable (laid_out (A ∷ M ∷ N ∷ [])
-        (6 ∷ 1 ∷ 1 ∷ [])) (replicate 6 Undefined ++ int 3 ∷ int 2 ∷ []) 100
+    (6 ∷ 1 ∷ 1 ∷ [])) (replicate 6 Undefined ++ int 3 ∷ int 2 ∷ []) 100
     ≡ Ended Undefined (replicate 3 Undefined ++ int 7 ∷ Undefined ∷ Undefined ∷ int 3 ∷ int 2 ∷ []) 97
 
 abbrev pub quad : Routine
@@ -91,7 +91,7 @@ quad = routine (codes "QUAD") (A ∷ I ∷ []) (array Dummy A (replicate 4 (Fixe
 abbrev pub NinthPlaceOfFourDimensions : Type 0
 NinthPlaceOfFourDimensions =
     run (processor SeventySeven false by_reference) (quad ∷ []) quad (laid_out (A ∷ I ∷ []) (16 ∷ 1 ∷ []))
-        (replicate 16 Undefined ++ int 1 ∷ []) 100
+    (replicate 16 Undefined ++ int 1 ∷ []) 100
     ≡ Ended Undefined (replicate 8 Undefined ++ int 5 ∷ replicate 7 Undefined ++ int 1 ∷ []) 97
 
 -- ---- two DOs with one last statement, behind which I is read
@@ -134,7 +134,7 @@ rotate = routine (codes "ROT") (I ∷ J ∷ K ∷ []) (scalar Dummy I ∷ scalar
 abbrev pub rotated : Bool → (Name → ℕ → ℕ → Bool) → Outcome Cell
 rotated lazy copies =
     run (processor Common lazy copies) (swap ∷ rotate ∷ []) rotate (laid_out (I ∷ J ∷ K ∷ []) (1 ∷ 1 ∷ 1 ∷ []))
-        (int 1 ∷ int 2 ∷ int 3 ∷ []) 100
+    (int 1 ∷ int 2 ∷ int 3 ∷ []) 100
 
 -- the second argument of the first call and the first one of the second
 abbrev pub crosswise : Name → ℕ → ℕ → Bool
@@ -212,7 +212,7 @@ ask_twice = routine (codes "P") (J ∷ []) (scalar Dummy J ∷ [])
 abbrev pub LocalsForget : Type 0
 LocalsForget =
     run (processor Common false by_reference) (remember ∷ ask_twice ∷ []) ask_twice (laid_out (J ∷ []) (1 ∷ []))
-        (Undefined ∷ []) 100
+    (Undefined ∷ []) 100
     ≡ Erred DefinedCheck 4 (Undefined ∷ int 2 ∷ Undefined ∷ [])
 
 -- ---- FUNCTIONs: an actual is evaluated before the call; a RETURN needs the value

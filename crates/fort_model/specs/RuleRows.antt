@@ -78,8 +78,17 @@ box x = record { block = Block (codes "BOX"); items = record { name = x; dims = 
 -- a SUBROUTINE whose COMMON entity is K; the COMMON statement, INPUT and OUTPUT stand behind its head
 abbrev pub with_box : Name → List Name → List DataName → List Line → Routine
 with_box name dummies names lines =
-    record { name = name; sort = None; head = card_of_first lines - 4; dummies = dummies; names = names;
-        functions = []; blocks = box K ∷ []; lines = lines; «end» = card_of_end lines }
+    record {
+      name = name;
+      sort = None;
+      head = card_of_first lines - 4;
+      dummies = dummies;
+      names = names;
+      functions = [];
+      blocks = box K ∷ [];
+      lines = lines;
+      «end» = card_of_end lines;
+    }
 
 -- it sets K at card 5, or its dummy J
 abbrev pub sets : Name → Routine

@@ -49,8 +49,18 @@ AdjustableDimensionsAgree =
 -- ---- names of units
 
 abbrev pub does_nothing : Name → Routine
-does_nothing name = record { name = name; sort = None; head = 8; dummies = []; names = []; functions =
-    []; blocks = []; lines = line 9 Return ∷ []; «end» = 10 }
+does_nothing name = record {
+  name = name;
+  sort = None;
+  head = 8;
+  dummies = [];
+  names = [];
+  functions =
+      [];
+  blocks = [];
+  lines = line 9 Return ∷ [];
+  «end» = 10;
+}
 
 -- a name that stands already, that of an intrinsic function, that of a block, and another one
 abbrev pub NamesOfUnits : Type 0

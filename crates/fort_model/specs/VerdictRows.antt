@@ -86,8 +86,15 @@ ClocksFallByTheirFirstPart =
 
 abbrev pub two_units : Routine → Notes → Routine → Notes → List Name → List Name → Program
 two_units g its_notes u notes its_names names =
-    record { dialect = Common; units = g ∷ u ∷ []; notes = its_notes ∷ notes ∷ []; functions = []; bound =
-        32767; smashes = its_names ∷ names ∷ [] }
+    record {
+      dialect = Common;
+      units = g ∷ u ∷ [];
+      notes = its_notes ∷ notes ∷ [];
+      functions = [];
+      bound =
+          32767;
+      smashes = its_names ∷ names ∷ [];
+    }
 
 abbrev pub idle : Routine
 idle = routine (codes "S") (J ∷ []) (scalar Dummy J ∷ scalar Local M ∷ [])
@@ -114,7 +121,7 @@ idle_program =
 abbrev pub walk_of_idle : Value → Verdict
 walk_of_idle i =
     verdict (walked_by idle_program 1 calls_idle (given ((AtEntry I, i) ∷ (ByCall I 1, int_value 7) ∷ []))
-        (the_path ([] ∷ [] ∷ [])))
+    (the_path ([] ∷ [] ∷ [])))
 
 -- what is not smashed keeps its value, whatever its symbol after the call has; INPUT is a check
 abbrev pub CallsKeepWhatIsNotSmashed : Type 0

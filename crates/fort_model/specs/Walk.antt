@@ -128,7 +128,7 @@ module _ {V : Type 0} (w : Sight V) where
   perform_line clock (Some line) pc now answers cs on =
       let done = performed w line.card pc now line.stmt cs answers in
       done.events ++ go_on clock line.card (leads w.program.dialect w.unit pc line.stmt cs) done.value
-          (λ q. on q done.value done.rest)
+      (λ q. on q done.value done.rest)
 
   -- the statements from a point on, where names stand for `now`, under the choices of each
   abbrev pub walk_from : Option (List V) → ℕ → Named V → Answers V → List (List ℕ) → List (Event V)

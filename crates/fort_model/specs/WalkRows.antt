@@ -92,5 +92,5 @@ ConditionsOfInc =
     ≡ inc_condition 1 DefinedCheck 4 (given_and []) (term f.Defined (I-IN ∷ []))
     ∷ inc_condition 2 RangeCheck 4 (given_and (term f.Defined (I-IN ∷ []) ∷ [])) range_of_inc
     ∷ inc_condition 3 OutputCheck 5 (given_and (term f.Defined (I-IN ∷ []) ∷ range_of_inc ∷ []))
-        (term f.Equal (sum_of_inc ∷ sum_of_inc ∷ []))
+    (term f.Equal (sum_of_inc ∷ sum_of_inc ∷ []))
     ∷ []

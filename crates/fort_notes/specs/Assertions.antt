@@ -25,10 +25,19 @@ no_notes = record { input = []; output = []; asserts = [] }
 
 -- the ASSERT that ids of a pool stand for
 abbrev pub assertion_tree : List Node → AssertSpec → Assertion
-assertion_tree pool a = record { point = a.line; card = a.card; terms = map (tree_of pool) a.terms; clock = map
-    (tree_of pool) a.clock }
+assertion_tree pool a = record {
+  point = a.line;
+  card = a.card;
+  terms = map (tree_of pool) a.terms;
+  clock = map
+      (tree_of pool) a.clock;
+}
 
 -- the notes of a unit that ids of a pool stand for
 abbrev pub notes_tree : List Node → UnitSpec → Notes
-notes_tree pool s = record { input = map (tree_of pool) s.input; output = map (tree_of pool) s.output; asserts = map
-    (assertion_tree pool) s.asserts }
+notes_tree pool s = record {
+  input = map (tree_of pool) s.input;
+  output = map (tree_of pool) s.output;
+  asserts = map
+      (assertion_tree pool) s.asserts;
+}

@@ -117,7 +117,7 @@ is_entity a = is_symbol a && not (is_among a (codes "LEAST" ∷ codes "GREATEST"
 abbrev pub given_parts : List ℕ → Parsed Given
 given_parts text =
     word_of is_entity text >>= λ name left. some (inside cell left) >>= λ cells rest.
-        parsed (record { name = name; cells = cells }) rest
+    parsed (record { name = name; cells = cells }) rest
 
 -- a unit, the least and the greatest integer, STRICT or LAZY, how arguments pass, the steps, and what is given
 abbrev pub run_form : List ℕ → Parsed Form
@@ -125,8 +125,15 @@ run_form text =
     word_of is_name text >>= λ unit a. number a >>= λ least b. number b >>= λ greatest c.
     either (codes "LAZY") (codes "STRICT") c >>= λ lazy d. passing_form d >>= λ way e.
     number_between (pos 0) (pos 1000000000) e >>= λ steps f. rest_of (bracket given_parts) f >>= λ start rest.
-    parsed (run (record { unit = unit; least = least; greatest = greatest; lazy = lazy; passing = way;
-        steps = unsigned_abs steps; start = start })) rest
+    parsed (run (record {
+      unit = unit;
+      least = least;
+      greatest = greatest;
+      lazy = lazy;
+      passing = way;
+      steps = unsigned_abs steps;
+      start = start;
+    })) rest
 
 -- ---- TRY
 
@@ -185,4 +192,4 @@ abbrev pub proof_form : List Heading → List (List ℕ) → List ℕ → Parsed
 proof_form headings earlier text =
     (word_of is_symbol text >>= λ lemma left. passing (not (is_among lemma earlier)) lemma left) >>= λ lemma left.
     some (rest_of (bracket (step_parts headings)) left) >>= λ steps rest.
-        parsed (proof (record { lemma = lemma; steps = steps })) rest
+    parsed (proof (record { lemma = lemma; steps = steps })) rest

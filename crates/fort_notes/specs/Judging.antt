@@ -244,7 +244,7 @@ step_terms _ = []
 abbrev pub definition_broken : List Judged → Function → Option Rule
 definition_broken done d =
     or_else (first_failing ((list_all has_no_old (body_terms d.body), BadNote) ∷ []))
-        (rule_if (adding_fault (headings done) d.name d.params d.body))
+    (rule_if (adding_fault (headings done) d.name d.params d.body))
 
 -- the rule that a form breaks by the names in it
 abbrev pub names_broken : List Judged → Option Routine → Form → Option Rule
@@ -257,8 +257,11 @@ names_broken done u (output ts) =
     first_failing ((list_all (has_good_old u) ts, BadNote) ∷ (list_all (has_known_names u) ts, UnknownNoteName)
     ∷ (list_all (has_none_of u is_local) ts, OutputNamesLocal) ∷ [])
 names_broken done u (assertion ts clock_stands clock) =
-    first_failing ((list_all (has_good_old u) (ts ++ clock), BadNote) ∷ (list_all (has_known_names u)
-        (ts ++ clock), UnknownNoteName) ∷ [])
+    first_failing ((list_all (has_good_old u) (ts ++ clock), BadNote) ∷ (
+      list_all (has_known_names u)
+          (ts ++ clock),
+      UnknownNoteName,
+    ) ∷ [])
 names_broken done u (run card) = None
 names_broken done u (try card) = None
 names_broken done u (proof p) = first_failing ((list_all has_no_old (flat_map step_terms p.steps), BadNote) ∷ [])
@@ -273,7 +276,7 @@ abbrev pub judged_form : List Judged → Option Routine → Placed → Parsed Fo
 judged_form done u n (refused rule) = Err rule
 judged_form done u n (parsed f rest) =
     judged_unless (or_else (first_failing ((nat_le (clocks n.text) (may_have_clocks f), BadNote) ∷ []))
-        (names_broken done u f)) n f
+    (names_broken done u f)) n f
 
 -- a note behind others: what it says, or the rule of the first step that fails
 abbrev pub judged_as : Deck → List Judged → Placed → Option Word → Result Judged Rule

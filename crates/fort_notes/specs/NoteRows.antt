@@ -61,8 +61,13 @@ abbrev pub small_notes : Notes
 small_notes = record {
   input = call (BuiltIn IsDefined) (n_symbol ∷ []) ∷ [];
   output = truth true ∷ [];
-  asserts = record { point = 0; card = 6; terms = call (BuiltIn AtMost) (num (pos 0) ∷ n_symbol ∷ [])
-      ∷ []; clock = n_symbol ∷ [] } ∷ [];
+  asserts = record {
+    point = 0;
+    card = 6;
+    terms = call (BuiltIn AtMost) (num (pos 0) ∷ n_symbol ∷ [])
+        ∷ [];
+    clock = n_symbol ∷ [];
+  } ∷ [];
 }
 
 -- INPUT, OUTPUT, and an ASSERT with a clock

@@ -48,8 +48,10 @@ IllFormedUnits =
     ≡ true ∷ false ∷ true ∷ true ∷ true ∷ true ∷ true ∷ true ∷ true ∷ true ∷ true ∷ [])
     × (tests (record good { dummies = I ∷ J ∷ [] })
     ≡ true ∷ true ∷ false ∷ true ∷ true ∷ true ∷ true ∷ true ∷ true ∷ true ∷ true ∷ [])
-    × (tests (record good { names = variable OwnValue Integer F [] ∷ variable Dummy Integer I [] ∷ variable
-        Local Integer K [] ∷ [] })
+    × (tests (record good {
+      names = variable OwnValue Integer F [] ∷ variable Dummy Integer I [] ∷ variable
+          Local Integer K [] ∷ [];
+    })
     ≡ true ∷ true ∷ true ∷ false ∷ true ∷ true ∷ true ∷ true ∷ true ∷ true ∷ true ∷ [])
     × (tests (record good { functions = record { name = codes "G"; sort = Integer } ∷ record { name = codes "G"; sort = Integer } ∷ [] })
     ≡ true ∷ true ∷ true ∷ true ∷ false ∷ true ∷ true ∷ true ∷ true ∷ true ∷ true ∷ [])

@@ -40,9 +40,9 @@ NamesAreDeclaredTwice =
     × Refused [] (Declare Integer (plain P ∷ []) ∷ []) NameTwice 2
     × Refused [] (common Bare (plain P ∷ []) ∷ []) NameTwice 2
     × IsRefused dialect.Common (on_cards 1 (Function (Some Integer) F (I ∷ []) ∷ Declare Integer
-        (plain F ∷ []) ∷ Assign (Var F) (Const 1) ∷ Return ∷ End ∷ [])) NameTwice 2
+    (plain F ∷ []) ∷ Assign (Var F) (Const 1) ∷ Return ∷ End ∷ [])) NameTwice 2
     × IsKept dialect.Common (unit (I ∷ []) (Declare Integer (plain I ∷ plain K ∷ []) ∷ Dimension
-        (array I (3 ∷ []) ∷ []) ∷ common Bare (plain K ∷ []) ∷ []))
+    (array I (3 ∷ []) ∷ []) ∷ common Bare (plain K ∷ []) ∷ []))
 
 -- 16: at the first statement with the name; the name of a SUBROUTINE or of a block needs no type
 abbrev pub NamesWithoutType : Type 0
@@ -52,9 +52,9 @@ NamesWithoutType =
     × Refused (A ∷ []) (Dimension (adjustable K A ∷ []) ∷ []) ImplicitReal 1
     × Refused [] (Assign (Var I) (Const 1) ∷ Do 10 A (parameter.Fixed 1) (parameter.Fixed 2) None ∷ []) ImplicitReal 3
     × IsRefused dialect.Common (on_cards 1 (Function None F (I ∷ []) ∷ Assign (Var F)
-        (Const 1) ∷ Return ∷ End ∷ [])) ImplicitReal 1
+    (Const 1) ∷ Return ∷ End ∷ [])) ImplicitReal 1
     × IsKept dialect.Common (unit (A ∷ []) (Declare Logical (plain A ∷ []) ∷ common (Named F)
-        (plain K ∷ []) ∷ Call Q (Var A ∷ []) ∷ []))
+    (plain K ∷ []) ∷ Call Q (Var A ∷ []) ∷ []))
     × IsKept dialect.Common (on_cards 1 (Function (Some Integer) F (I ∷ []) ∷ Assign (Var F) (Const 1) ∷ Return ∷ End ∷ []))
 
 -- 17: too many dimensions in each dialect, one of 0, too many elements
@@ -65,14 +65,14 @@ DimensionsAreBad =
     × Refused [] (Dimension (array K (1000 ∷ 1001 ∷ []) ∷ []) ∷ []) BadDimension 2
     × IsKept dialect.Common (unit [] (Dimension (array K (1000 ∷ 1000 ∷ []) ∷ []) ∷ []))
     × IsRefused dialect.SeventySeven (unit [] (Declare Integer (array K (1 ∷ 1 ∷ 1 ∷ 1 ∷ 1 ∷ 1 ∷ 1 ∷ 1 ∷ []) ∷ [])
-        ∷ [])) BadDimension 2
+    ∷ [])) BadDimension 2
     × IsKept dialect.SeventySeven (unit [] (Declare Integer (array K (1 ∷ 1 ∷ 1 ∷ 1 ∷ 1 ∷ 1 ∷ 1 ∷ []) ∷ []) ∷ []))
 
 -- a unit P that declares blank COMMON K, L, and a unit Q behind it
 abbrev pub two_units : List Stmt → List Line
 two_units inner =
     on_cards 1 (Subroutine P [] ∷ common Bare (plain K ∷ plain L ∷ []) ∷ Return ∷ End ∷ Subroutine Q [] ∷ inner ++
-        (Return ∷ End ∷ []))
+    (Return ∷ End ∷ []))
 
 -- 24: another order, dimensions, or types of the members; an adjustable dimension. A block is joined from its groups
 abbrev pub BlocksOfUnitsDiffer : Type 0
@@ -80,11 +80,11 @@ BlocksOfUnitsDiffer =
     IsRefused dialect.Common (two_units (common Bare (plain L ∷ plain K ∷ []) ∷ [])) BlocksDiffer 6
     × IsRefused dialect.Common (two_units (common Bare (plain K ∷ array L (2 ∷ []) ∷ []) ∷ [])) BlocksDiffer 6
     × IsRefused dialect.Common (two_units (Declare Logical (plain L ∷ []) ∷ common Slashes
-        (plain K ∷ []) ∷ common Bare (plain L ∷ []) ∷ [])) BlocksDiffer 7
+    (plain K ∷ []) ∷ common Bare (plain L ∷ []) ∷ [])) BlocksDiffer 7
     × IsRefused dialect.Common (two_units (common Bare (plain K ∷ []) ∷ [])) BlocksDiffer 6
     × Refused (N ∷ []) (common Bare (adjustable K N ∷ []) ∷ []) BlocksDiffer 2
     × IsKept dialect.Common (two_units (common Slashes (plain K ∷ []) ∷ common (Named F)
-        (plain J ∷ []) ∷ common Bare (plain L ∷ []) ∷ []))
+    (plain J ∷ []) ∷ common Bare (plain L ∷ []) ∷ []))
 
 -- 25: the array, or its dimension, is no dummy, or the dimension is logical or an array
 abbrev pub DimensionsThatAreNames : Type 0

@@ -16,7 +16,7 @@ head = Subroutine P (I ∷ [])
 abbrev pub StatementsOutOfOrder : Type 0
 StatementsOutOfOrder =
     IsRefused Common (on_cards 1 (head ∷ Assign (Var I) (Const 1) ∷ Declare Integer (plain J ∷ []) ∷
-        Return ∷ End ∷ [])) StatementOrder 3
+    Return ∷ End ∷ [])) StatementOrder 3
     × IsRefused Common (on_cards 1 (head ∷ Subroutine Q [] ∷ Return ∷ End ∷ [])) StatementOrder 2
 
 -- a statement before the first head, an END behind an END, and a deck of nothing
@@ -45,4 +45,4 @@ BlocksOutOfOrder =
     × IsRefused SeventySeven (blocks (BlockIf (Truth true) ∷ Else ∷ ElseIf (Truth true) ∷ EndIf ∷ [])) BadBlockIf 4
     × IsRefused SeventySeven (blocks (BlockIf (Truth true) ∷ BlockIf (Truth true) ∷ EndIf ∷ [])) BadBlockIf 2
     × IsKept SeventySeven (blocks (BlockIf (Truth true) ∷ BlockIf (Truth true) ∷ Else ∷ EndIf ∷ ElseIf
-        (Truth true) ∷ Else ∷ EndIf ∷ []))
+    (Truth true) ∷ Else ∷ EndIf ∷ []))

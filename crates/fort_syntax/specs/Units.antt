@@ -316,8 +316,13 @@ line_outside (line ∷ lines) = 1
 abbrev pub placed : List Line → ℕ → List ℕ → Placed
 placed before card text =
     cond (is_inside false before)
-    (record { card = card; text = text; unit = length (segments before); line = length
-        (executables (last_segment [] (segments before))) })
+    (record {
+      card = card;
+      text = text;
+      unit = length (segments before);
+      line = length
+          (executables (last_segment [] (segments before)));
+    })
     (record { card = card; text = text; unit = 0; line = line_outside before })
 
 abbrev pub notes_behind : List Line → List Piece → List Placed

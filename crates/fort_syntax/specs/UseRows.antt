@@ -61,10 +61,10 @@ NamesAreMisused =
     × Refused [] (Assign (Var J) (applied_to (codes "MAX0") (Const 1 ∷ [])) ∷ []) BadUse 2
     × IsRefused dialect.Common (on_cards 1 (Subroutine L [] ∷ Assign (Var J) (Var L) ∷ Return ∷ End ∷ [])) BadUse 2
     × IsRefused dialect.Common (on_cards 1 (Subroutine L [] ∷ Assign (Var J) (applied_to L (Const 1 ∷ []))
-        ∷ Return ∷ End ∷ [])) BadUse 2
+    ∷ Return ∷ End ∷ [])) BadUse 2
     × IsKept dialect.Common (on_cards 1 (Subroutine L [] ∷ Call L [] ∷ Return ∷ End ∷ []))
     × IsKept dialect.Common (unit [] (Declare Integer (array MOD (3 ∷ []) ∷ []) ∷ Assign (Var J)
-        (applied_to MOD (Const 1 ∷ [])) ∷ []))
+    (applied_to MOD (Const 1 ∷ [])) ∷ []))
 
 -- 20: without 77 subscripts have seven forms
 abbrev pub SubscriptsAreBad : Type 0
@@ -75,10 +75,10 @@ SubscriptsAreBad =
     × Misused (Assign (applied_to K (bin Add (bin Mul (Const 2) (Var I)) (Var J) ∷ [])) (Const 1)) BadSubscript
     × Misused (Assign (Var I) (bin Add (Const 1) (applied_to K (bin Mul (Const 2) (Const 3) ∷ [])))) BadSubscript
     × Allowed (Assign (applied_to K (bin Sub (bin Mul (Const 2) (Var I)) (Const 3) ∷ []))
-        (applied_to K (bin Add (Var I) (Const 1) ∷ [])))
+    (applied_to K (bin Add (Var I) (Const 1) ∷ [])))
     × Allowed (Assign (applied_to K (bin Mul (Const 2) (Var I) ∷ [])) (applied_to K (Var I ∷ [])))
     × IsKept dialect.SeventySeven (unit (K ∷ []) (Declare Integer (array K (2 ∷ []) ∷ []) ∷ Assign
-        (applied_to K (bin Mul (Var I) (Var I) ∷ [])) (Const 1) ∷ []))
+    (applied_to K (bin Mul (Var I) (Var I) ∷ [])) (Const 1) ∷ []))
 
 abbrev pub body : List Line → List Line
 body inner = on_cards 1 (Subroutine P (I ∷ []) ∷ []) ++ inner ++ on_cards 8 (Return ∷ End ∷ [])
@@ -90,7 +90,7 @@ LabelsAreBad =
     × IsRefused dialect.Common (body (labelled 2 0 (GoTo 10) ∷ [])) NoLabel 2
     × IsRefused dialect.Common (body (labelled 2 0 (Do 10 J (parameter.Fixed 1) (parameter.Fixed 2) None) ∷ [])) NoLabel 2
     × IsRefused dialect.Common (labelled 1 10 (Subroutine P (I ∷ [])) ∷ on_cards 2
-        (if (Truth true) (GoTo 10) ∷ Return ∷ End ∷ [])) NoLabel 2
+    (if (Truth true) (GoTo 10) ∷ Return ∷ End ∷ [])) NoLabel 2
     × IsRefused dialect.Common (body (labelled 2 0 (ArithIf (Var I) 10 20 10) ∷ labelled 3 10 Continue ∷ [])) NoLabel 2
     × IsKept dialect.Common (body (labelled 2 0 (Computed (10 ∷ 10 ∷ []) I) ∷ labelled 3 10 Continue ∷ []))
 
@@ -99,15 +99,15 @@ abbrev pub ResultsAreMissed : Type 0
 ResultsAreMissed =
     IsRefused dialect.Common (on_cards 1 (Function None L (I ∷ []) ∷ Return ∷ End ∷ [])) BadResult 1
     × IsRefused dialect.Common (on_cards 1 (Function None L (I ∷ []) ∷ Do 10 L (parameter.Fixed 1)
-        (parameter.Fixed 2) None ∷ []) ++ labelled 3 10 Continue ∷ on_cards 4 (Return ∷ End ∷ [])) BadResult 1
+    (parameter.Fixed 2) None ∷ []) ++ labelled 3 10 Continue ∷ on_cards 4 (Return ∷ End ∷ [])) BadResult 1
     × IsKept dialect.Common (on_cards 1 (Function None L (I ∷ []) ∷ if (rel Eq (Var I) (Const 1))
-        (Assign (Var L) (Const 2)) ∷ Return ∷ End ∷ []))
+    (Assign (Var L) (Const 2)) ∷ Return ∷ End ∷ []))
 
 -- L is logical: what stands behind its declaration is on card 3
 abbrev pub Mistyped : Stmt → Type 0
 Mistyped s =
     IsRefused dialect.Common (on_cards 1 (Subroutine P (L ∷ []) ∷ Declare Logical (plain L ∷ []) ∷ s ∷ [])
-        ++ labelled 4 10 Continue ∷ on_cards 5 (Return ∷ End ∷ [])) BadType 3
+    ++ labelled 4 10 Continue ∷ on_cards 5 (Return ∷ End ∷ [])) BadType 3
 
 -- 19: sides, operands, conditions, variables and parameters of a DO, selectors, and arguments
 abbrev pub TypesAreBad : Type 0
@@ -124,9 +124,9 @@ TypesAreBad =
     × Mistyped (Computed (10 ∷ []) L)
     × Mistyped (Assign (Var I) (applied_to IABS (Var L ∷ [])))
     × IsKept dialect.Common (unit (L ∷ []) (Declare Logical (plain L ∷ []) ∷ Assign (Var L)
-        (rel Eq (applied_to I (Var L ∷ [])) (Const 1)) ∷ []))
+    (rel Eq (applied_to I (Var L ∷ [])) (Const 1)) ∷ []))
     × IsRefused dialect.Common (unit (L ∷ []) (Declare Logical (plain L ∷ array K (3 ∷ []) ∷ []) ∷ Assign
-        (Var L) (applied_to K (Var L ∷ [])) ∷ [])) BadType 3
+    (Var L) (applied_to K (Var L ∷ [])) ∷ [])) BadType 3
 
 -- the stage comes before the card, the card before the number
 abbrev pub FirstFaults : Type 0
@@ -137,7 +137,7 @@ FirstFaults =
     × Refused [] (GoTo 10 ∷ Assign (applied_to J (Const 1 ∷ [])) (Const 2) ∷ []) NoLabel 2
     × Refused [] (Assign (applied_to J (Const 1 ∷ [])) (Const 2) ∷ GoTo 10 ∷ []) BadUse 2
     × IsRefused dialect.Common (on_cards 1 (Subroutine P (I ∷ I ∷ []) ∷ Return ∷ Declare Integer
-        (plain J ∷ []) ∷ End ∷ [])) StatementOrder 3
+    (plain J ∷ []) ∷ End ∷ [])) StatementOrder 3
     × IsRefused dialect.Common (on_cards 1 (Subroutine P [] ∷ Return ∷ Declare Integer (plain J ∷ []) ∷ [])) StatementOrder 3
     × IsRefused dialect.SeventySeven (on_cards 1 (Subroutine P (I ∷ I ∷ []) ∷ Else ∷ Return ∷ End ∷ [])) BadBlockIf 2
     × IsRefused dialect.SeventySeven (on_cards 1 (Subroutine P [] ∷ Else ∷ Return ∷ [])) NoEnd 3

@@ -113,7 +113,7 @@ abbrev pub has_right_dims : Dialect → Routine → DataName → Bool
 has_right_dims dialect u d =
     not (is_bad_shape dialect d.dims)
     && list_all (λ x. same_role d.role Dummy && is_among x u.dummies && is_integer_scalar (scope_of_unit u) x)
-        (names_in_dims d.dims)
+    (names_in_dims d.dims)
 
 -- ---- blocks
 
@@ -193,7 +193,7 @@ is_known u x actual = is_among x (names_of_unit u)
 is_known u x (assigned_element n) = is_array (scope_of_unit u) x
 is_known u x (applied n) =
     is_array (scope_of_unit u) x || (is_intrinsic_name x && not (is_among x (names_of_unit u)))
-        || is_among x (functions_of_unit u)
+    || is_among x (functions_of_unit u)
 is_known u x called = is_name x && not (is_among x (names_of_unit u))
 
 -- each name is known, arrays have as many subscripts as dimensions or are whole actuals, and intrinsic

@@ -37,7 +37,7 @@ KeptAreOne =
 abbrev pub AcceptedInAreOne : Type 0
 AcceptedInAreOne =
     (d : Dialect) (bytes : List ℕ) (a b : Deck) (r s : Remarks) (p q : Program) (paths others : List (List Path))
-        → IsAcceptedIn d bytes a r p paths → IsAcceptedIn d bytes b s q others
+    → IsAcceptedIn d bytes a r p paths → IsAcceptedIn d bytes b s q others
     → (a ≡ b) × (r ≡ s) × (p ≡ q) × (paths ≡ others) × (conditions_of p paths ≡ conditions_of q others)
 
 -- bytes that keep all rules but those on sizes have no fault of such a rule
@@ -49,7 +49,7 @@ KeptHaveNoFault = (d : Dialect) (bytes : List ℕ) (deck : Deck) (r : Remarks) (
 abbrev pub AcceptedInHaveNoFault : Type 0
 AcceptedInHaveNoFault =
     (d : Dialect) (bytes : List ℕ) (deck : Deck) (r : Remarks) (p : Program) (paths : List (List Path)) (f : Fault)
-        → IsAcceptedIn d bytes deck r p paths → IsFirstFaultIn d bytes f → ⊥
+    → IsAcceptedIn d bytes deck r p paths → IsFirstFaultIn d bytes f → ⊥
 
 -- bytes have at most one first fault
 abbrev pub FaultsInAreOne : Type 0
@@ -67,5 +67,5 @@ KeptAreAccepted =
 abbrev pub AcceptedInAreSound : Type 0
 AcceptedInAreSound =
     (d : Dialect) (bytes : List ℕ) (deck : Deck) (r : Remarks) (p : Program) (paths : List (List Path))
-        → IsAcceptedIn d bytes deck r p paths
+    → IsAcceptedIn d bytes deck r p paths
     → IsExact p (conditions_of p paths) × (AreValid p.functions (conditions_of p paths) → IsTotallyCorrect p)

@@ -35,10 +35,10 @@ abbrev pub PassesBy : Program → ℕ → Routine → Graph → Sizes → Fault 
 PassesBy p i u graph told f =
     ((f ≡ PathFault u) × (4096 < told.paths + length (ways_of graph)))
     ⊎ (((f ≡ ConditionFault u) × (told.paths + length (ways_of graph) ≤ 4096)
-        × (100000 < (with_ways p i u told (ways_of graph)).conditions))
+    × (100000 < (with_ways p i u told (ways_of graph)).conditions))
     ⊎ ((f ≡ WeightFault u) × (told.paths + length (ways_of graph) ≤ 4096)
-        × ((with_ways p i u told (ways_of graph)).conditions ≤ 100000)
-        × (2000000 < (with_ways p i u told (ways_of graph)).weight)))
+    × ((with_ways p i u told (ways_of graph)).conditions ≤ 100000)
+    × (2000000 < (with_ways p i u told (ways_of graph)).weight)))
 
 -- sizes are those of the units before the one of the number i: with those of the others along the paths that are left, they are
 -- the sizes of the program
@@ -46,7 +46,7 @@ abbrev pub AreSizesBefore : Program → ℕ → Sizes → List Routine → Type 
 AreSizesBefore p i before us =
     (paths : List (List Path)) → AreAllPaths p paths
     → (left : List (List Path)) × are_all_paths p i us left × (with_units p i before us left
-        ≡ with_units p 0 nothing p.units paths)
+    ≡ with_units p 0 nothing p.units paths)
 
 -- the units before the one of the number i are within the limits, and their sizes are told as far as the cap
 pub record IsSoFar (p : Program) (i : ℕ) (told : Sizes) : Type 0 where

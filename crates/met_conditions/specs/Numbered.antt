@@ -8,8 +8,16 @@ use Rattle.walk_state.specs.declared.walk.Met.{Met}
 use Rattle.walk_state.specs.declared.walk.Met.TheVariants.{Check, Take}
 
 abbrev pub condition_of : Name → ℕ → ℕ → List TermId → Kind → ℕ → TermId → Condition
-condition_of unit path k hyps kind card goal = record { unit = unit; path = path; check = k; kind =
-    kind; card = card; hyps = hyps; goal = goal }
+condition_of unit path k hyps kind card goal = record {
+  unit = unit;
+  path = path;
+  check = k;
+  kind =
+      kind;
+  card = card;
+  hyps = hyps;
+  goal = goal;
+}
 
 -- The conditions of what is met behind some hypotheses and so many checks: of each check the goal, whose hypotheses are all
 -- terms met before it.

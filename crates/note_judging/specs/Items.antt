@@ -65,7 +65,7 @@ abbrev pub Learns : Taken → Taken → ℕ → NoteForm → Type 0
 Learns old new unit form =
     (pool : List Node) (ds : List Definition) (done : List Judged) (line card : ℕ) → Knows old ds done
     → Knows new (ds ++ definitions_in form)
-        (done ++ (record { unit = unit; line = line; card = card; form = form_tree pool form }) ∷ [])
+    (done ++ (record { unit = unit; line = line; card = card; form = form_tree pool form }) ∷ [])
 
 -- a note was judged behind others, with the pool that grew: it stands behind them and the rest decides, or it is at fault
 abbrev pub Steps : Deck → List Judged → Placed → List Judged → Result (Unit {0}) Refused → Type 0

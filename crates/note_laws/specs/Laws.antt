@@ -26,7 +26,7 @@ use Rattle.note_laws.specs.Readable.{AreReadableNotes, IsReadableProof}
 abbrev pub NotesFitUnits : Type 0
 NotesFitUnits =
     (dialect : Dialect) (deck : Deck) (r : Remarks) (table : List (List Name)) → IsWellFormed dialect deck
-        → remarks_of deck ≡ Ok r
+    → remarks_of deck ≡ Ok r
     → HasFittingNotes (program_of dialect deck r table)
 
 -- the ASSERTs of each unit of a well-formed deck stand on cards that increase
@@ -39,7 +39,7 @@ AssertCardsIncrease =
 abbrev pub AssertPointsIncrease : Type 0
 AssertPointsIncrease =
     (dialect : Dialect) (pieces : List Piece) (r : Remarks) → IsWellFormed dialect (deck_of pieces)
-        → remarks_of (deck_of pieces) ≡ Ok r
+    → remarks_of (deck_of pieces) ≡ Ok r
     → (i : ℕ) (notes : Notes) → slice_get r.units i ≡ Some notes → Increase (map (λ a. a.point) notes.asserts)
 
 -- ---- definitions, terms and the bound

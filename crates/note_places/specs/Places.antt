@@ -47,7 +47,7 @@ abbrev pub marks_from : Option Marks → ℕ → ℕ → List Placed → Option 
 marks_from known unit line [] = known
 marks_from known unit line (n ∷ rest) =
     marks_from (if begins_with judging.Assert n && is_at unit line n then Some (more_marks known n.card) else known)
-        unit line rest
+    unit line rest
 
 -- an ASSERT at the place has another card
 abbrev pub has_other : ℕ → Option Marks → Bool

@@ -55,8 +55,10 @@ fn most_clocks(asserted: &Asserted) -> usize
 // The rule that entry values in a definition break.
 fn body_rule(pool: &TermPool, roles: &Roles, body: Body) -> Option<Rule>
     requires { IsBodyIn pool.now body }
-    ensures { result ≡ first_failing ((list_all has_no_old (body_terms (body_of pool.now body)),
-        Rule.BadNote) ∷ []) }
+    ensures { result ≡ first_failing ((
+      list_all has_no_old (body_terms (body_of pool.now body)),
+      Rule.BadNote,
+    ) ∷ []) }
 {
     if body_has_no_old(pool, roles, body) {
         None

@@ -30,7 +30,7 @@ abbrev pub FittingTermsAreKnown : Type 0
 FittingTermsAreKnown =
     (u : Routine) (is : Role → Bool) (entries : List ℕ → Bool) (table : List (List ℕ)) (entry : List TermId) (ts : List Tree)
     → HasDataNames u table → HasEntryTerms u table entry → ((x : List ℕ) → entries x ≡ true
-        → may_have_entry u x ≡ true) → terms_fit u is entries ts
+    → may_have_entry u x ≡ true) → terms_fit u is entries ts
     → are_known_terms table entry ts ≡ true
 
 -- names that stand for the same make the same terms
@@ -38,7 +38,7 @@ abbrev pub StatedByNames : Type 0
 StatedByNames =
     (nodes : List Node) (names : Names) (entry : List TermId) (before now : Named Tree) (ts : List Tree)
     → named_by nodes names.table entry ≡ before → named nodes names ≡ now → map (stated nodes names entry) ts
-        ≡ map (note of_terms before now) ts
+    ≡ map (note of_terms before now) ts
 
 -- what is made is what walks in the sense of terms meet
 pub record AreOfWalk (p : Program) (i : ℕ) (u : Routine) : Type 0 where

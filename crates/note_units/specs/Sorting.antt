@@ -34,8 +34,11 @@ remarks_tree pool ds s = record {
 
 -- the notes of a unit with one more
 abbrev pub with_note : Judged → Notes → Notes
-with_note j own = record { input = own.input ++ input_in j.form; output = own.output ++ output_in j.form;
-    asserts = own.asserts ++ assertion_in j j.form }
+with_note j own = record {
+  input = own.input ++ input_in j.form;
+  output = own.output ++ output_in j.form;
+  asserts = own.asserts ++ assertion_in j j.form;
+}
 
 -- the notes of units, the first of which has the number i, with one more in its unit
 abbrev pub with_note_in : Judged → ℕ → List Notes → List Notes

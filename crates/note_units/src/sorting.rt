@@ -49,9 +49,15 @@ fn first_bound(bounds: &[u64]) -> u64
 
 // What stands where it belongs, as specs.
 fn specs(sorted: Sorted) -> Specs
-    ensures { result ≡ record { bound = first_or 32767 sorted.bounds.items; units =
-        sorted.units.items; runs = sorted.runs.items; tries = sorted.tries.items; proofs =
-        sorted.proofs.items } }
+    ensures { result ≡ record {
+      bound = first_or 32767 sorted.bounds.items;
+      units =
+          sorted.units.items;
+      runs = sorted.runs.items;
+      tries = sorted.tries.items;
+      proofs =
+          sorted.proofs.items;
+    } }
 {
     let Sorted {
         bounds,

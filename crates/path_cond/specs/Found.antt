@@ -45,7 +45,7 @@ IsGraphAt pool scene i graph = (p : Program) (u : Routine) → IsReady pool scen
 abbrev pub IsGraphIn : List Node → Plan → Graph → Type 0
 IsGraphIn pool plan graph =
     (p : Program) → IsReady pool plan.setting.now.scene.now p → IsGraphOf p.dialect (unit_of plan)
-        (notes_of p plan.setting.now.number) graph
+    (notes_of p plan.setting.now.number) graph
 
 -- the unit of a plan has a start, the entry or an ASSERT of this number, in each such program
 abbrev pub StartsIn : List Node → Plan → ℕ → Type 0
@@ -71,7 +71,7 @@ AreFewIn pool plan graph = (p : Program) → IsReady pool plan.setting.now.scene
 abbrev pub HasFewChecks : List Node → Plan → Way → Type 0
 HasFewChecks pool plan way =
     (p : Program) → IsReady pool plan.setting.now.scene.now p
-        → length (labels (along (seen_from plan.setting.now p) way.start way.steps way.end)) < 4294967296
+    → length (labels (along (seen_from plan.setting.now p) way.start way.steps way.end)) < 4294967296
 
 -- conditions were added, in each program that a scene is ready for
 pub record Adds (scene : Scene) (before after : Drafts) (more : Program → List ConditionTree) : Type 0 where

@@ -76,11 +76,11 @@ abbrev pub AssertArrives : Plan → Option Clock → ℕ → Walk → Walk → T
 AssertArrives plan clock point w0 w1 =
     (card : ℕ) → DoesIn w0.pool plan.setting.now (moment w0)
     (λ w. meet (arrive w (clock_trees w0.pool clock) card
-        (cut_of (assertion_at (notes_of w.program w.number) point)) (moment w0).now [])) (moment w1) tt
+    (cut_of (assertion_at (notes_of w.program w.number) point)) (moment w0).now [])) (moment w1) tt
 
 -- what is checked where a path ends was checked
 abbrev pub Arrives : Plan → Option Clock → Last → Walk → Walk → Type 0
 Arrives plan clock last w0 w1 =
     DoesIn w0.pool plan.setting.now (moment w0)
     (λ w. meet (arrive w (clock_trees w0.pool clock) last.card (cut_at w.unit (notes_of w.program w.number)
-        last.point) (moment w0).now [])) (moment w1) tt
+    last.point) (moment w0).now [])) (moment w1) tt

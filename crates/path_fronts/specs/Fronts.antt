@@ -27,7 +27,7 @@ total m g = record { card = g.card; now = g.now; events = m.events ++ g.events; 
 abbrev pub Leads : Sight Tree → Moment → List (ℕ × List ℕ) → ℕ → Moment → Type 0
 Leads w m0 front card m =
     (more : List (ℕ × List ℕ)) → total m (gone w more card m.now m.answers) ≡ total m0
-        (gone w (front ++ more) 0 m0.now m0.answers)
+    (gone w (front ++ more) 0 m0.now m0.answers)
 
 -- a mark tells a moment to which some statements lead, by what names stood for at marks and by what was met
 pub record IsMark (w : Sight Tree) (m0 : Moment) (front : List (ℕ × List ℕ)) (told : List (Named Tree))
@@ -69,7 +69,7 @@ pub record IsFront (s : Setting) (steps : List Step) (bound : ℕ) (f : Front) :
 abbrev pub Reaches : Setting → List Step → ℕ → ℕ → Front → Type 0
 Reaches s steps k card f =
     (p : Program) → IsReady f.walk.pool s.scene.now p → Leads (seen_from s p) (set_out_at (seen_from s p) f.start)
-        (firsts k steps) card (moment f.walk)
+    (firsts k steps) card (moment f.walk)
 
 -- the walk stands behind all statements of a way, the last of them at a card
 abbrev pub HasGone : Setting → List Step → ℕ → Front → Type 0

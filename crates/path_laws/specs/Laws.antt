@@ -33,4 +33,4 @@ abbrev pub ConditionsAreOne : Type 0
 ConditionsAreOne =
     (dialect : Dialect) (deck : Deck) (r : Remarks) (p : Program) → IsProgramOf dialect deck r p → KeepsRules p
     → (list : List ConditionTree) × AreConditionsOf dialect deck list × ((other : List ConditionTree)
-        → AreConditionsOf dialect deck other → other ≡ list)
+    → AreConditionsOf dialect deck other → other ≡ list)

@@ -60,7 +60,7 @@ IsWithinLimits p paths = AreWithin (with_units p 0 nothing p.units paths)
 abbrev pub HasManyPaths : Program → ℕ → Routine → Sizes → Type 0
 HasManyPaths p i u before =
     (paths : List Path) × Ascend paths × ((path : Path) → IsAmong path paths
-        → IsPath p.dialect u (notes_of p i) path) × (4096 < before.paths + length paths)
+    → IsPath p.dialect u (notes_of p i) path) × (4096 < before.paths + length paths)
 
 -- its paths are not too many, but their conditions are
 abbrev pub HasManyConditions : Program → ℕ → Routine → Sizes → Type 0

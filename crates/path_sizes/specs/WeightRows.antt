@@ -48,20 +48,20 @@ abbrev pub WeightsOfLoops : Type 0
 WeightsOfLoops =
     (weight_along (twice_program Common) 0 twice
     (the_path ([] ∷ [] ∷ []) ∷ from_assert 1 ((1 ∷ []) ∷ []) ∷ from_assert 1 ((2 ∷ 1 ∷ []) ∷ [] ∷ [])
-        ∷ from_assert 1 ((2 ∷ 2 ∷ []) ∷ [] ∷ [] ∷ []) ∷ [])
+    ∷ from_assert 1 ((2 ∷ 2 ∷ []) ∷ [] ∷ [] ∷ []) ∷ [])
     ≡ 2205)
     × (weight_along (zero_program Common) 0 up_to
     (the_path ([] ∷ []) ∷ from_assert 1 ((1 ∷ []) ∷ []) ∷ from_assert 1 ((2 ∷ []) ∷ [] ∷ [] ∷ []) ∷ [])
     ≡ 712)
     × (weight_along (zero_program SeventySeven) 0 up_to
     (the_path ((1 ∷ []) ∷ []) ∷ the_path ((2 ∷ []) ∷ [] ∷ [] ∷ []) ∷ from_assert 1 ((1 ∷ []) ∷ []) ∷ from_assert 1
-        ((2 ∷ []) ∷ [] ∷ [] ∷ []) ∷ [])
+    ((2 ∷ []) ∷ [] ∷ [] ∷ []) ∷ [])
     ≡ 965)
 
 abbrev pub WeightsOfCalls : Type 0
 WeightsOfCalls =
     weight_along rotate_program 0 swap (the_path ([] ∷ [] ∷ [] ∷ [] ∷ []) ∷ []) + weight_along rotate_program
-        1 rotate (the_path ([] ∷ [] ∷ [] ∷ []) ∷ []) ≡ 319
+    1 rotate (the_path ([] ∷ [] ∷ [] ∷ []) ∷ []) ≡ 319
 
 -- J = MAX0(1,2,3) + MOD(7,2)**3: the divisor, the quotient, two products, the sum, and OUTPUT
 abbrev pub powers : Routine

@@ -37,7 +37,7 @@ unit_of plan = plan.setting.now.book.now.unit.now
 abbrev pub shape_facts : Sight Tree → Named Tree → List Tree
 shape_facts w now =
     bound_facts w ++ sorts of_terms w.unit now w.unit.dummies ++ sorts of_terms w.unit now
-        (commons w.unit) ++ facts_of_dims now (dim_dummies w.unit)
+    (commons w.unit) ++ facts_of_dims now (dim_dummies w.unit)
 
 abbrev pub EntryBegins : Plan → Walk → Walk → Type 0
 EntryBegins plan w0 w1 = DoesIn w0.pool plan.setting.now (moment w0)
@@ -79,7 +79,7 @@ pub record ClockTold (w0 : Walk) (frame : Frame) (clock : List TermId) (w1 : Wal
 abbrev pub facts_told : Plan → AssertSpec → Moment → List Node → Frame → List Tree
 facts_told plan a m nodes frame =
     sorts of_terms (unit_of plan) m.now plan.order.items ++ told_by nodes frame a.terms ++ map at_least_0
-        (told_by nodes frame a.clock)
+    (told_by nodes frame a.clock)
 
 pub record TakesStart (plan : Plan) (a : AssertSpec) (w0 : Walk) (frame : Frame) (w1 : Walk) (told : List TermId) : Type 0 where
   pub known : AllBelow (length w1.pool) told
@@ -96,7 +96,7 @@ pub record StartsAt (plan : Plan) (a : AssertSpec) (w0 w1 : Walk) (frame : Frame
   pub framed : IsFrame w1.pool (unit_of plan) frame (start_in plan)
   pub is : (p : Program) → IsReady w0.pool plan.setting.now.scene.now p
       → moment w1 ≡ begun_with (moment w0) (start_facts (seen_from plan.setting.now p) (assertion_tree w0.pool a))
-          (at_start (seen_from plan.setting.now p))
+      (at_start (seen_from plan.setting.now p))
   pub parts : (p : Program) → IsReady w0.pool plan.setting.now.scene.now p
       → trees_in w1.pool clock ≡ map (note of_terms (at_entry (seen_from plan.setting.now p))
-          (at_start (seen_from plan.setting.now p))) (map (tree_of w0.pool) a.clock)
+      (at_start (seen_from plan.setting.now p))) (map (tree_of w0.pool) a.clock)

@@ -50,7 +50,7 @@ module _ (pool : List Node) (ds : List Definition) (c : Condition) where
   AreAskedOnce (o ∷ os) (n ∷ ns) mark =
       (n ≡ once_more o)
       × ((IsAnswer o.test Bool.true × (ns ≡ os) × (mark ≡ shown o.letter)) ⊎ (IsAnswer o.test Bool.false
-          × AreAskedOnce os ns mark))
+      × AreAskedOnce os ns mark))
 
 -- ---- all conditions
 
@@ -60,7 +60,7 @@ pub data AreAsked (pool : List Node) (ds : List Definition) (before : List Seen)
   nothing : AreAsked pool ds before [] before []
   next : {cs : List Condition} {now : List Seen} {marks : List ℕ} (c : Condition) (later : List Seen) (mark : ℕ)
       → AreAsked pool ds before cs now marks → AreAskedOnce pool ds c now later mark
-          → AreAsked pool ds before (cs ++ c ∷ []) later (marks ++ mark ∷ [])
+      → AreAsked pool ds before (cs ++ c ∷ []) later (marks ++ mark ∷ [])
 
 -- what is told of provers: the letter that is shown, and the count
 abbrev pub told : Seen → ℕ × ℕ

@@ -21,7 +21,7 @@ AreUnclosedValid fs (mark ∷ marks) (c ∷ cs) = (mark ≡ unclosed → IsValid
 abbrev pub UnclosedAreEnough : Type 0
 UnclosedAreEnough =
     (fs : List Function) (marks : List ℕ) (cs : List ConditionTree) → AreMarked fs marks cs
-        → AreUnclosedValid fs marks cs → AreValid fs cs
+    → AreUnclosedValid fs marks cs → AreValid fs cs
 
 -- ---- counts
 
@@ -51,7 +51,7 @@ unclosed_count (mark ∷ marks) = (if mark == unclosed then 1 else 0) + unclosed
 abbrev pub CountsRise : Type 0
 CountsRise =
     (pool : List Node) (ds : List Definition) (before : List Seen) (cs : List Condition) (now : List Seen)
-        (marks : List ℕ) → AreAsked pool ds before cs now marks
+    (marks : List ℕ) → AreAsked pool ds before cs now marks
     → FirstRose (length cs) before now × EachRose (unclosed_count marks) before now
 
 -- ---- marks by tests
@@ -89,5 +89,5 @@ module _ (pool : List Node) (ds : List Definition) where
 abbrev pub TestsMark : Type 0
 TestsMark =
     (pool : List Node) (ds : List Definition) (before : List Seen) (cs : List Condition) (now : List Seen)
-        (marks : List ℕ) → AllTell before → AreAsked pool ds before cs now marks
+    (marks : List ℕ) → AllTell before → AreAsked pool ds before cs now marks
     → AreMarksByTests pool ds before marks cs

@@ -33,7 +33,7 @@ is_true_closed fs goal = not (has_symbol goal) && comes_true (bounded fs (assign
 abbrev pub IsSubsumed : List Tree → Tree → Type 0
 IsSubsumed hyps goal =
     Contains hyps goal ⊎ (Contains hyps (truth false) ⊎ ((goal ≡ truth true)
-        ⊎ ((t : Tree) × (goal ≡ apply (BuiltIn Equal) (more t (more t none))))))
+    ⊎ ((t : Tree) × (goal ≡ apply (BuiltIn Equal) (more t (more t none))))))
 
 -- a condition passes the test of a number; no other number is that of a test
 abbrev pub passes_test : List Function → ℕ → List Tree → Tree → Type 0

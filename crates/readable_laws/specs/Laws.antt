@@ -49,22 +49,22 @@ SmallConditionsAreReadable =
 abbrev pub ConditionsInAreReadable : Type 0
 ConditionsInAreReadable =
     (d : Dialect) (bytes : List ℕ) (deck : Deck) (r : Remarks) (p : Program) (paths : List (List Path))
-        → IsAcceptedIn d bytes deck r p paths
+    → IsAcceptedIn d bytes deck r p paths
     → (marks : Marks) → MayMark (conditions_of p paths) marks → IsReadable p.functions (conditions_of p paths) marks
 
 -- so they can without marks
 abbrev pub UnmarkedInAreReadable : Type 0
 UnmarkedInAreReadable =
     (d : Dialect) (bytes : List ℕ) (deck : Deck) (r : Remarks) (p : Program) (paths : List (List Path))
-        → IsAcceptedIn d bytes deck r p paths
+    → IsAcceptedIn d bytes deck r p paths
     → IsReadable p.functions (conditions_of p paths) (unmarked (conditions_of p paths))
 
 -- and what can be read back from that text is these conditions, with definitions that stand for the same, and these marks
 abbrev pub TextTellsConditions : Type 0
 TextTellsConditions =
     (d : Dialect) (bytes : List ℕ) (deck : Deck) (r : Remarks) (p : Program) (paths : List (List Path))
-        → IsAcceptedIn d bytes deck r p paths
+    → IsAcceptedIn d bytes deck r p paths
     → (marks : Marks) → MayMark (conditions_of p paths) marks
     → (es : List Function) (cs : List ConditionTree) (others : Marks) → IsReadable es cs others
-        → event_text p.functions (conditions_of p paths) marks ≡ event_text es cs others
+    → event_text p.functions (conditions_of p paths) marks ≡ event_text es cs others
     → AreAlike p.functions es (conditions_of p paths) cs marks others

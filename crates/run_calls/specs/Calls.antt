@@ -132,16 +132,26 @@ pub record HasRoomToGive (sizes : List ℕ) (m : State) : Type 0 where
 
 -- a COMMON entity has the cells that it has in the whole run
 abbrev pub shared_one : ℕ → State → State
-shared_one j m = record m { extents = record m.extents { items = m.extents.items ++ slice_index_or m.extents.items
-    j no_cells ∷ [] } }
+shared_one j m = record m {
+  extents = record m.extents {
+    items = m.extents.items ++ slice_index_or m.extents.items
+        j no_cells ∷ [];
+  };
+}
 
 abbrev pub shared_all : List ℕ → State → State
 shared_all [] m = m
 shared_all (j ∷ js) m = shared_all js (shared_one j m)
 
 abbrev pub begun : State → State
-begun m = record m { stage = stage.Between; frame = record m.frame { line = 0; before = length m.cells.items;
-    floor = length m.values.items } }
+begun m = record m {
+  stage = stage.Between;
+  frame = record m.frame {
+    line = 0;
+    before = length m.cells.items;
+    floor = length m.values.items;
+  };
+}
 
 -- a unit is entered whose own names have so many cells, with these COMMON entities
 abbrev pub entered : List ℕ → List ℕ → State → State
@@ -161,8 +171,12 @@ value_at unit m = cond unit.is_function (load m.cells.items (extent_at m unit.va
 -- a copy is written back
 abbrev pub given_back : Bool → Item → ℕ → State → State
 given_back copy (Fresh c) next m = m
-given_back true (Cells e) next m = record m { cells = record m.cells { items = write
-    (contents m.cells.items next e.size) e.first m.cells.items } }
+given_back true (Cells e) next m = record m {
+  cells = record m.cells {
+    items = write
+        (contents m.cells.items next e.size) e.first m.cells.items;
+  };
+}
 given_back false (Cells e) next m = m
 
 abbrev pub given_back_all : (ℕ → Bool) → ℕ → ℕ → List Item → State → State

@@ -16,13 +16,13 @@ abbrev pub CallsAreObeyed : Type 0
 CallsAreObeyed =
     (code : Code) (setting : Setting) (place : ℕ) (m : State) → length m.cells.items < 2 ^ 64
     → Obeys code setting (Refer place) m (referred code setting (unit_code code m.frame.unit)
-        (slice_get (unit_code code m.frame.unit).calls place) m)
+    (slice_get (unit_code code m.frame.unit).calls place) m)
 
 -- entering a unit is a step
 abbrev pub UnitsAreEntered : Type 0
 UnitsAreEntered =
     (code : Code) (setting : Setting) (sizes : List ℕ) (m : State) → ((w : World) → IsWorldOf code setting w
-        → AreSizesOf w.units m.frame.unit sizes) → m.stage ≡ stage.Entering
+    → AreSizesOf w.units m.frame.unit sizes) → m.stage ≡ stage.Entering
     → Stepped code setting m (entered sizes (unit_code code m.frame.unit).shared m)
 
 -- the first of some frames, where there is one, has a base that is a number of the machine
@@ -34,6 +34,6 @@ IsNear (n ∷ ns) = n.base < 2 ^ 64
 abbrev pub UnitsAreLeft : Type 0
 UnitsAreLeft =
     (code : Code) (setting : Setting) (m : State) → length m.cells.items < 2 ^ 64 → IsNear m.callers.items
-        → m.stage ≡ stage.Between
+    → m.stage ≡ stage.Between
     → slice_get (unit_code code m.frame.unit).lines m.frame.line ≡ None
-        → Same code setting m (left code setting (unit_code code m.frame.unit) m)
+    → Same code setting m (left code setting (unit_code code m.frame.unit) m)

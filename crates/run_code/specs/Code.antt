@@ -251,7 +251,7 @@ exec s run card next (negation ∷ is) zero xs = exec s run card next is zero
     (Fresh (Logical (not (holds (first_of xs)))) ∷ below xs)
 exec s run card next (skip_false k ∷ is) zero xs =
     cond (s.processor.lazy && not (holds (first_of xs))) (exec s run card next is k
-        (Fresh (Logical false) ∷ below xs)) (exec s run card next is zero xs)
+    (Fresh (Logical false) ∷ below xs)) (exec s run card next is zero xs)
 exec s run card next (both ∷ is) zero xs = exec s run card next is zero
     (Fresh (Logical (holds (second_of xs) && holds (first_of xs))) ∷ below (below xs))
 exec s run card next (skip_true k ∷ is) zero xs =
@@ -326,7 +326,7 @@ stmt_code u units card pc k (Do label x first last by) =
 stmt_code u units card pc k Continue = behind_code u card pc ∷ []
 stmt_code u units card pc k (Call f args) =
     actuals_code u units (suc k) (row_of args) (refer (suc k) (subroutine units f) (count (row_of args))
-        ∷ forget ∷ behind_code u card pc ∷ [])
+    ∷ forget ∷ behind_code u card pc ∷ [])
 stmt_code u units card pc k Return = result_of ∷ jump (length u.lines) ∷ []
 stmt_code u units card pc k (BlockIf e) = code u units true k e (ways (next_point u pc) (next_branch u pc) ∷ [])
 stmt_code u units card pc k (ElseIf e) = code u units true k e (ways (next_point u pc) (next_branch u pc) ∷ [])
@@ -345,24 +345,24 @@ taken_so false s run card k e = taken s run card k e
 abbrev pub ExpressionsAreTaken : Type 0
 ExpressionsAreTaken =
     (s : Scene) (run : Caller) (card k : ℕ) (next : ℕ → List Taken → Act Cell) (reads : Bool) (e : Expr)
-        (is : List Instr) (xs : List Taken) (st : Storage) (n : ℕ)
+    (is : List Instr) (xs : List Taken) (st : Storage) (n : ℕ)
     → exec s run card next (code s.unit s.units reads k e is) 0 xs st n ≡ (taken_so reads s run card k e >>=
-        (λ x. exec s run card next is 0 (x ∷ xs))) st n
+    (λ x. exec s run card next is 0 (x ∷ xs))) st n
 
 -- the code of a statement performs the statement, and goes on where that leads
 abbrev pub StatementsArePerformed : Type 0
 StatementsArePerformed =
     (s : Scene) (run : Caller) (card pc k : ℕ) (next : ℕ → List Taken → Act Cell) (stmt : Stmt) (xs : List Taken)
-        (st : Storage) (n : ℕ)
+    (st : Storage) (n : ℕ)
     → exec s run card next (stmt_code s.unit s.units card pc k stmt) 0 xs st n
     ≡ (perform s run card pc k stmt >>= (λ choices. led_to (leads s.processor.dialect s.unit pc stmt choices)
-        (λ q. next q xs))) st n
+    (λ q. next q xs))) st n
 
 -- the code of an expression before other code is its code before the first part of that, and then the second
 abbrev pub CodeStandsBefore : Type 0
 CodeStandsBefore =
     (u : Routine) (units : List Routine) (reads : Bool) (k : ℕ) (e : Expr) (is js : List Instr)
-        → code u units reads k e (is ++ js) ≡ code u units reads k e is ++ js
+    → code u units reads k e (is ++ js) ≡ code u units reads k e is ++ js
 
 -- the code of an expression before other code is as long as both
 abbrev pub CodeIsSoLong : Type 0

@@ -32,7 +32,7 @@ abbrev mutual
   IsHere u units names calls k (expr.Var x) = is_among x names ≡ true
   IsHere u units names calls k (expr.Apply' f _ args) =
       AppliedHere units names calls k f (applied u f) (code.count args) × AreHere u units names calls
-          (k + own_call (applied u f)) args
+      (k + own_call (applied u f)) args
   IsHere u units names calls k (expr.Paren' _ (only a)) = IsHere u units names calls k a
   IsHere u units names calls k (expr.Pos' _ (only a)) = IsHere u units names calls k a
   IsHere u units names calls k (expr.Neg' _ (only a)) = IsHere u units names calls k a
@@ -56,7 +56,7 @@ abbrev mutual
 abbrev pub PushedIsCode : Type 0
 PushedIsCode =
     (u : Routine) (units : List Routine) (slots : Slots) (tests : List Test) (calls : List CallCode)
-        (targets : List ℕ) (reads : Bool) (k : ℕ) (e : Expr)
+    (targets : List ℕ) (reads : Bool) (k : ℕ) (e : Expr)
     (is : List code.Instr)
     → AreSlotsOf u slots → IsHere u units slots.names calls k e
     → map (seen slots tests calls targets) (pushed u slots.names reads k e) ++ is ≡ code.code u units reads k e is

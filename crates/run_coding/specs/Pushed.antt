@@ -55,7 +55,7 @@ abbrev mutual
   pushed u names reads k (expr.Var x) = name_pushed names reads x ∷ []
   pushed u names reads k (expr.Apply' f _ args) =
       applied_pushed names reads k f (applied u f) (code.count args) (values_pushed u names k args)
-          (actuals_pushed u names (suc k) args)
+      (actuals_pushed u names (suc k) args)
   pushed u names reads k (expr.Paren' _ (only a)) = pushed u names true k a
   pushed u names reads k (expr.Pos' _ (only a)) = pushed u names true k a
   pushed u names reads k (expr.Neg' _ (only a)) = pushed u names true k a ++ Negate ∷ []

@@ -87,8 +87,11 @@ module _ (p : Processor) (units : List Routine) where
 
   -- a step, where one is wanted
   abbrev pub stepped : Config → Storage → Config × Storage
-  stepped (entering g env ws xs) st = (between (entered g env (length xs) st) 0 ws xs, st ++ replicate
-      (sum (own_sizes g env st)) Undefined)
+  stepped (entering g env ws xs) st = (
+    between (entered g env (length xs) st) 0 ws xs,
+    st ++ replicate
+        (sum (own_sizes g env st)) Undefined,
+  )
   stepped (between f q ws xs) st = (begun_at (slice_get f.unit.lines q) f q ws xs, st)
   stepped (carried f card is ws xs) st = (inside f card is ws xs, st)
   stepped (testing f c q (d ∷ ds) ws xs) st = placed f c ws (tested (scene_at p units f) c d q ds xs st)
@@ -146,7 +149,7 @@ module _ {p : Processor} {units : List Routine} (r : Runs p units) where
 abbrev pub WorkChangesNothing : Type 0
 WorkChangesNothing =
     (p : Processor) (units : List Routine) (r : Runs p units) (c : Config) (st : Storage) (n : ℕ)
-        → rest r (worked p units c st).0 (worked p units c st).1 n ≡ rest r c st n
+    → rest r (worked p units c st).0 (worked p units c st).1 n ≡ rest r c st n
 
 -- where a step is wanted and there is none, the run needs one more; with one it goes on behind that step
 abbrev pub StepsAreTaken : Type 0
@@ -163,4 +166,4 @@ WorkEnds = (p : Processor) (units : List Routine) (c : Config) (st : Storage) �
 abbrev pub RunsAreRests : Type 0
 RunsAreRests =
     (p : Processor) (units : List Routine) → (r : Runs p units) × ((u : Routine) (env : Environment)
-        (st : Storage) (n : ℕ) → rest r (entering u env [] []) st n ≡ run p units u env st n)
+    (st : Storage) (n : ℕ) → rest r (entering u env [] []) st n ≡ run p units u env st n)

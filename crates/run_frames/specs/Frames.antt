@@ -26,10 +26,10 @@ pub record Runs (p : Processor) (units : List Routine) : Type 0 where
     leave u own (length before)) st n
   pub goes : (u : Routine) (env : Environment) (pc : ℕ) (st : Storage) (n : ℕ) → from u env pc st n
       ≡ at_line (slice_get u.lines pc) (λ line. do
-    step
-    choices ← perform (record { processor = p; units = units; unit = u; environment = env }) run line.card pc
-        (calls_before u pc) line.stmt
-    go_to (leads p.dialect u pc line.stmt choices) (from u env)) st n
+        step
+        choices ← perform (record { processor = p; units = units; unit = u; environment = env }) run line.card pc
+            (calls_before u pc) line.stmt
+        go_to (leads p.dialect u pc line.stmt choices) (from u env)) st n
 
 -- A unit that is being run: the cells of its names, its own among them; how many cells there were before those; and how
 -- high the stack was when it was entered.

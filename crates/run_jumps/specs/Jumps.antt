@@ -43,7 +43,7 @@ point_by_sign v l z r = cond (int_lt (num v) (pos 0)) l (cond (same v (Int (pos 
 abbrev pub did_signs : UnitCode → ℕ → State → State
 did_signs unit place m =
     left_for 1 (point_by_sign (value_below 0 m) (get_or unit.targets place 0) (get_or unit.targets (place + 1) 0)
-        (get_or unit.targets (place + 2) 0)) m
+    (get_or unit.targets (place + 2) 0)) m
 
 -- on to one of two points, by whether the newest value is true
 abbrev pub did_ways : ℕ → ℕ → State → State

@@ -65,7 +65,13 @@ fn go_round(m: &mut State, dialect: Dialect, round: Round, again: bool, sum: &He
 }
 
 /// A test by the sum of the variable and the step.
-fn test_by(m: &mut State, dialect: Dialect, setting: &Setting, round: Round, sum: Result<Held, Kind>)
+fn test_by(
+    m: &mut State,
+    dialect: Dialect,
+    setting: &Setting,
+    round: Round,
+    sum: Result<Held, Kind>,
+)
     requires { m.old.frame.place < 2 ^ 64 - 1 }
     requires { round.at < 2 ^ 64 - 1 }
     ensures { m.new ≡ did_round dialect setting.now round sum m.old }

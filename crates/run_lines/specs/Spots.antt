@@ -12,4 +12,4 @@ use Rattle.run_lines.specs.Stated.{stmt_pushed}
 abbrev pub pushed_at : Scope → Spot → Draft → Stmt → List Instr
 pushed_at s spot draft stmt =
     stmt_pushed (unit_of s) s.names.now spot.behind spot.over spot.point (length draft.targets.items)
-        (length draft.calls.items) stmt
+    (length draft.calls.items) stmt

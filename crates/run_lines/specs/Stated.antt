@@ -85,7 +85,7 @@ StmtHere u units names calls over pc k (stmt.LogicalIf' e _ (carried b)) =
     IsHere u units names calls k e × StmtHere u units names calls over pc (k + calls_in u e) b
 StmtHere u units names calls over pc k (stmt.Do label x first last by) =
     (is_among x names ≡ true) × ParamHere names first × ParamHere names last × StepHere names by
-        × (over ≡ code.over_code u (target u.lines label) pc)
+    × (over ≡ code.over_code u (target u.lines label) pc)
 StmtHere u units names calls over pc k (stmt.Call f args) =
     (call_at calls k ≡ record { number = suc k; callee = subroutine units f; actuals = code.count (row_of args) })
     × AreHere u units names calls (suc k) (row_of args)
@@ -99,7 +99,7 @@ StmtPushedIsCode =
     (u : Routine) (units : List Routine) (slots : Slots) (tests : List Test) (calls : List CallCode) (targets : List ℕ)
     (behind over : Instr) (card pc place k : ℕ) (s : Stmt) (more : List ℕ)
     → AreSlotsOf u slots → seen slots tests calls targets behind ≡ code.behind_code u card pc
-        → drop place targets ≡ aims u s ++ more
+    → drop place targets ≡ aims u s ++ more
     → StmtHere u units slots.names calls (seen slots tests calls targets over) pc k s
     → map (seen slots tests calls targets) (stmt_pushed u slots.names behind over pc place k s)
-        ≡ code.stmt_code u units card pc k s
+    ≡ code.stmt_code u units card pc k s

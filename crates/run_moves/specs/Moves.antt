@@ -78,7 +78,7 @@ choosing SeventySeven card qs i is xs st = cond (is_between (pos 1) (pos (length
 abbrev pub beginning : Dialect → Scene → ℕ → Name → ℕ → ℤ → ℤ → ℤ → List Instr → List Taken → Storage → Move
 beginning Common s card x q m1 m2 m3 is xs st =
     settled (check LoopCheck card (int_le (pos 1) m1 && (int_le m1 m2 && int_le (pos 1) m3)) st 0)
-        (λ _ st. to_point q xs (store st (s.environment x).first (Int m1)))
+    (λ _ st. to_point q xs (store st (s.environment x).first (Int m1)))
 beginning SeventySeven s card x q m1 m2 m3 is xs st =
     settled (check LoopCheck card (int_le (pos 1) m3) st 0)
     (λ _ st.
@@ -87,7 +87,7 @@ beginning SeventySeven s card x q m1 m2 m3 is xs st =
     settled (ranged s.processor card (m2 -ℤ m1 +ℤ m3) st 0)
     (λ _ st.
     cond (int_le m1 m2) (to_point q xs (store st (s.environment x).first (Int m1)))
-        (on is xs (store st (s.environment x).first (Int m1))))))
+    (on is xs (store st (s.environment x).first (Int m1))))))
 
 -- what an instruction at a card does, before other code, on a stack and storage
 abbrev pub moved : Scene → ℕ → Instr → List Instr → List Taken → Storage → Move
@@ -127,7 +127,7 @@ moved s card (ways q r) is xs st = to_point (cond (holds (first_of xs)) q r) (be
 moved s card (choose qs) is xs st = choosing s.processor.dialect card qs (num (first_of xs)) is (below xs) st
 moved s card (begin_do x q) is xs st =
     beginning s.processor.dialect s card x q (num (third_of xs)) (num (second_of xs)) (num (first_of xs)) is
-        (below (below (below xs))) st
+    (below (below (below xs))) st
 moved s card result_of is xs st = settled (result s card (is_function s.unit) st 0) (λ _ st. on is xs st)
 moved s card stop is xs st = to_nothing st
 
@@ -150,14 +150,14 @@ tested s card d q ds xs st =
 abbrev pub MovesAreExact : Type 0
 MovesAreExact =
     (s : Scene) (run : Caller) (card : ℕ) (next : ℕ → List Taken → Act Cell) (c : Instr) (is : List Instr)
-        (xs : List Taken) (st : Storage) (n : ℕ)
+    (xs : List Taken) (st : Storage) (n : ℕ)
     → exec s run card next (c ∷ is) 0 xs st n ≡ goes_by s run card next (moved s card c is xs st) n
 
 -- without a step a test would need one; with one it does just that
 abbrev pub TestsAreExact : Type 0
 TestsAreExact =
     (s : Scene) (run : Caller) (card c q : ℕ) (next : ℕ → List Taken → Act Cell) (d : Loop) (ds : List Loop)
-        (xs : List Taken) (st : Storage)
+    (xs : List Taken) (st : Storage)
     → (goes_by s run card next (to_tests c q (d ∷ ds) xs st) 0 ≡ Running st)
     × ((n : ℕ) → goes_by s run card next (to_tests c q (d ∷ ds) xs st) (suc n) ≡ goes_by s run card next
-        (tested s c d q ds xs st) n)
+    (tested s c d q ds xs st) n)

@@ -29,12 +29,12 @@ pub record StandsEarlier (units : List Routine) (order : List ℕ) (i : ℕ) (ca
 abbrev pub CallsStandEarlier : List Routine → List ℕ → Type 0
 CallsStandEarlier units order =
     (i k : ℕ) (u : Routine) (call : CallCode) → slice_get units i ≡ Some u
-        → slice_get (calls_coded units 1 (sites_of_unit u)) k ≡ Some call → StandsEarlier units order i call
+    → slice_get (calls_coded units 1 (sites_of_unit u)) k ≡ Some call → StandsEarlier units order i call
 
 -- then sums along the order hold each call of the code of a world
 abbrev pub SumsRankCalls : Type 0
 SumsRankCalls =
     (code : Code) (setting : Setting) (w : World) (ranks : Ranks) (order : List ℕ) → IsWorldOf code setting w
-        → AreSummed code ranks no_totals order
+    → AreSummed code ranks no_totals order
     → CallsStandEarlier w.units order → (i k : ℕ) (call : CallCode) → slice_get (unit_code code i).calls k
-        ≡ Some call → IsRankedCall code ranks i call
+    ≡ Some call → IsRankedCall code ranks i call

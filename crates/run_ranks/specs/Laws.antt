@@ -26,14 +26,14 @@ pub record IsRoom (code : Code) (ranks : Ranks) (most : ℕ) (m : State) : Type 
 abbrev pub PlainIsReady : Type 0
 PlainIsReady =
     (code : Code) (ranks : Ranks) (most : ℕ) (m : State) → IsRoom code ranks most m → m.stage ≡ stage.Inside
-        → m.frame.place < m.frame.stop
+    → m.frame.place < m.frame.stop
     → length m.values.items < m.values.room
 
 -- an instruction that is no call keeps the room
 abbrev pub PlainKeepsRoom : Type 0
 PlainKeepsRoom =
     (code : Code) (ranks : Ranks) (most : ℕ) (m new : State) → HasRoom code ranks most m → m.stage ≡ stage.Inside
-        → m.frame.place < m.frame.stop → IsPlain (advanced m) new
+    → m.frame.place < m.frame.stop → IsPlain (advanced m) new
     → HasRoom code ranks most new
 
 -- a test of a DO leads on to tests, to a point, or to an end
@@ -47,7 +47,7 @@ IsTested _ = Unit {0}
 abbrev pub TestsKeepRoom : Type 0
 TestsKeepRoom =
     (code : Code) (ranks : Ranks) (most : ℕ) (m new : State) → HasRoom code ranks most m → m.stage ≡ stage.Testing
-        → IsTested new.stage → IsPlain m new → HasRoom code ranks most new
+    → IsTested new.stage → IsPlain m new → HasRoom code ranks most new
 
 -- a statement begins
 abbrev pub line_begun : LineCode → State → State
@@ -65,16 +65,16 @@ LinesKeepRoom =
 abbrev pub CallsAreReady : Type 0
 CallsAreReady =
     (code : Code) (ranks : Ranks) (most place : ℕ) (m : State) → IsRoom code ranks most m → m.stage ≡ stage.Inside
-        → m.frame.place < m.frame.stop
+    → m.frame.place < m.frame.stop
     → IfSome (slice_get (unit_code code m.frame.unit).calls place) (IsReadyFor (advanced m))
 
 -- a call keeps the room
 abbrev pub CallsKeepRoom : Type 0
 CallsKeepRoom =
     (code : Code) (setting : Setting) (ranks : Ranks) (most place : ℕ) (m : State) → IsRoom code ranks most m
-        → m.stage ≡ stage.Inside → m.frame.place < m.frame.stop
+    → m.stage ≡ stage.Inside → m.frame.place < m.frame.stop
     → HasRoom code ranks most (referred code setting (unit_code code m.frame.unit)
-        (slice_get (unit_code code m.frame.unit).calls place) (advanced m))
+    (slice_get (unit_code code m.frame.unit).calls place) (advanced m))
 
 -- ---- entering
 
@@ -92,7 +92,7 @@ EntriesAreReady = (code : Code) (ranks : Ranks) (most : ℕ) (m : State) → IsR
 abbrev pub EntriesKeepRoom : Type 0
 EntriesKeepRoom =
     (code : Code) (ranks : Ranks) (most : ℕ) (m : State) → IsRoom code ranks most m → m.stage ≡ stage.Entering
-        → SizesWithin most (rank_at ranks m.frame.unit).own
+    → SizesWithin most (rank_at ranks m.frame.unit).own
     → HasRoom code ranks most (entered (rank_at ranks m.frame.unit).own (unit_code code m.frame.unit).shared m)
 
 -- ---- leaving

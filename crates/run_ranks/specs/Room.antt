@@ -19,8 +19,13 @@ pub record Rooms : Type 0 where
   pub most : ℕ
 
 abbrev pub rooms_of : ℕ → State → Rooms
-rooms_of most m = record { frames = m.callers.room; values = m.values.room; names = m.extents.room;
-    cells = m.cells.room; most = most }
+rooms_of most m = record {
+  frames = m.callers.room;
+  values = m.values.room;
+  names = m.extents.room;
+  cells = m.cells.room;
+  most = most;
+}
 
 -- a unit that is run with so many frames, values and extents below its own
 pub record HasNeeds (ranks : Ranks) (r : Rooms) (unit floor first count : ℕ) : Type 0 where

@@ -23,5 +23,5 @@ pub record HasOwnNeeds (code : Code) (ranks : Ranks) : Type 0 where
 abbrev pub SumsAreEnough : Type 0
 SumsAreEnough =
     (code : Code) (setting : Setting) (w : World) (ranks : Ranks) (order : List ℕ) → IsWorldOf code setting w
-        → AreSummed code ranks no_totals order
+    → AreSummed code ranks no_totals order
     → IsCallOrder w.units order → HasOwnNeeds code ranks → CallsAreOfUnits w.units → IsRanked code ranks

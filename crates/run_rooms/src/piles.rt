@@ -96,8 +96,10 @@ impl Pile {
     pub fn copied(&mut self, first: usize, size: usize, base: usize)
         requires base { base ≤ length self.old.items }
         requires room { length self.old.items + size ≤ self.old.room }
-        ensures { self.new ≡ record self.old { items = self.old.items ++ contents
-            (take base self.old.items) first size } }
+        ensures { self.new ≡ record self.old {
+          items = self.old.items ++ contents
+              (take base self.old.items) first size;
+        } }
     {
         for offset in 0..size {
             let content = self.early(first, offset, base);
@@ -128,8 +130,10 @@ impl Pile {
     /// Moves what neighbouring cells hold to other ones, which begin no later, the first one first.
     fn moved_down(&mut self, from: usize, to: usize, size: usize)
         requires { to ≤ from }
-        ensures { self.new ≡ record self.old { items = write (contents self.old.items from size)
-            to self.old.items } }
+        ensures { self.new ≡ record self.old {
+          items = write (contents self.old.items from size)
+              to self.old.items;
+        } }
     {
         for offset in 0..size {
             let content = self.load_behind(from, offset);
@@ -140,8 +144,10 @@ impl Pile {
     /// Moves what neighbouring cells hold to other ones, which begin later, the last one first.
     fn moved_up(&mut self, from: usize, to: usize, size: usize)
         requires { from < to }
-        ensures { self.new ≡ record self.old { items = write (contents self.old.items from size)
-            to self.old.items } }
+        ensures { self.new ≡ record self.old {
+          items = write (contents self.old.items from size)
+              to self.old.items;
+        } }
     {
         for done in 0..size {
             let offset = size - 1 - done;
@@ -152,8 +158,10 @@ impl Pile {
 
     /// Moves what neighbouring cells hold to other ones.
     pub fn moved(&mut self, from: usize, to: usize, size: usize)
-        ensures { self.new ≡ record self.old { items = write (contents self.old.items from size)
-            to self.old.items } }
+        ensures { self.new ≡ record self.old {
+          items = write (contents self.old.items from size)
+              to self.old.items;
+        } }
     {
         if to <= from {
             self.moved_down(from, to, size);

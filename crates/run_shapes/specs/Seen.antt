@@ -58,8 +58,13 @@ dims_at slots slot = dims_by slots (shape_at slots slot)
 -- ---- tests of DOs
 
 abbrev pub loop_of : Slots → Round → Loop
-loop_of slots round = record { at = round.at; variable = name_at slots round.variable; last = param_of
-    slots round.last; step = step_of slots round.step }
+loop_of slots round = record {
+  at = round.at;
+  variable = name_at slots round.variable;
+  last = param_of
+      slots round.last;
+  step = step_of slots round.step;
+}
 
 -- the DOs before the point where the flow goes on, and that point
 abbrev pub loops_of : Slots → List Test → List Loop

@@ -84,8 +84,12 @@ skipped k m = record m { frame = record m.frame { place = far (m.frame.place + k
 
 -- on to a point
 abbrev pub gone_to : ℕ → State → State
-gone_to q m = record m { stage = stage.Between; frame = record m.frame { line = q }; values = record
-    m.values { items = oldest m.frame.floor m.values.items } }
+gone_to q m = record m {
+  stage = stage.Between;
+  frame = record m.frame { line = q };
+  values = record
+      m.values { items = oldest m.frame.floor m.values.items };
+}
 
 -- before tests of DOs at a card
 abbrev pub put_to_test : ℕ → ℕ → State → State

@@ -32,7 +32,7 @@ Obeys code setting i old new =
     → (f : frames.Frame) (card : ℕ) (is : List code_of.Instr) (ws : List Waiting) (xs : List Taken) (st : Storage)
     → old.stage ≡ stage.Inside → ShowsStatement w code old f card is ws xs st
     → ShowsMove w code new f card ws (moved (scene_at w.processor w.units f) card
-        (seen_in (unit_code code old.frame.unit) i) is xs st)
+    (seen_in (unit_code code old.frame.unit) i) is xs st)
 
 -- ---- room
 

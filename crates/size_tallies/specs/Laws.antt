@@ -17,7 +17,7 @@ use Rattle.size_tallies.specs.Totals.{AreCapped, AreLeft, with_ways}
 abbrev pub SizesAreTallied : Type 0
 SizesAreTallied =
     (p : Program) (i : ℕ) (u : Routine) (graph : Graph) → IsGraphOf p.dialect u (notes_of p i) graph
-        → (exact told : Sizes) → AreCapped exact told
+    → (exact told : Sizes) → AreCapped exact told
     → AreCapped (with_paths p i u exact (paths_of graph)) (with_ways p i u told (ways_of graph))
 
 -- a unit's fault by one of the limits, at its head
@@ -44,7 +44,7 @@ pub record IsJudged (p : Program) (i : ℕ) (u : Routine) (graph : Graph) (exact
 abbrev pub UnitsAreJudged : Type 0
 UnitsAreJudged =
     (p : Program) (i : ℕ) (u : Routine) (graph : Graph) → IsGraphOf p.dialect u (notes_of p i) graph
-        → (exact told : Sizes) → AreCapped exact told → IsJudged p i u graph exact told
+    → (exact told : Sizes) → AreCapped exact told → IsJudged p i u graph exact told
 
 -- at first all units are left; behind a unit within the limits the others; and where none is left, the program
 -- is within the limits

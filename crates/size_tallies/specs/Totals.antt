@@ -13,8 +13,12 @@ use Rattle.weight_tallies.specs.Tallies.{bare, load_of}
 
 -- sizes with those of a path more, of which the load is told
 abbrev pub with_load : Sizes → Load → Sizes
-with_load s l = record { paths = suc s.paths; conditions = capped (s.conditions + l.conditions); weight = capped
-    (s.weight + l.weight) }
+with_load s l = record {
+  paths = suc s.paths;
+  conditions = capped (s.conditions + l.conditions);
+  weight = capped
+      (s.weight + l.weight);
+}
 
 -- sizes with those of some ways of the unit of the number i
 abbrev pub with_ways : Program → ℕ → Routine → Sizes → List Way → Sizes

@@ -18,7 +18,7 @@ use Rattle.stage_faults.specs.Scans.{first_in_units, IsUpTo}
 abbrev pub IsToldIn : Option Rule → (Stmt → Option Rule) → Routine → Rule → ℕ → Type 0
 IsToldIn head at u rule card =
     ((u.head ≡ card) × IsUpTo head rule) ⊎ ((line : Line) × IsAmong line u.lines × (line.card ≡ card)
-        × IsUpTo (at line.stmt) rule)
+    × IsUpTo (at line.stmt) rule)
 
 -- Of some rules the first broken one is told of each head and each statement: what is told is broken there, and what is broken
 -- is told, or one of a lesser number at its card.
@@ -65,7 +65,7 @@ abbrev pub HeadsAscend : Type 0
 HeadsAscend =
     (units : List Routine) (dialect : Dialect) (j i : ℕ) (v u : Routine)
     → AreWellFormedUnits dialect units → IsTrue (units_ascend_above 0 units) → slice_get units j ≡ Some v
-        → slice_get units i ≡ Some u → j < i
+    → slice_get units i ≡ Some u → j < i
     → v.head < u.head
 
 -- the head of a unit stands on a card above its number, counted from 0

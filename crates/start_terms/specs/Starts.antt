@@ -42,10 +42,10 @@ pub record IsStarted (old_nodes : List Node) (old : Names) (new_nodes : List Nod
 abbrev pub StartedAreAtStart : Type 0
 StartedAreAtStart =
     (p : Program) (i : ℕ) (u : Routine) (now : Named Tree) → now ≡ at_entry (sight of_terms p i u)
-        → started (smashed_names p i) now ≡ at_start (sight of_terms p i u)
+    → started (smashed_names p i) now ≡ at_start (sight of_terms p i u)
 
 -- what is taken of dimensions is what walks in the sense of terms take
 abbrev pub DimFactsAreThoseOfWalks : Type 0
 DimFactsAreThoseOfWalks =
     (p : Program) (i : ℕ) (u : Routine) (now : Named Tree) (xs : List Name) → now ≡ at_entry (sight of_terms p i u)
-        → facts_of_dims now xs ≡ dim_facts (sight of_terms p i u) xs
+    → facts_of_dims now xs ≡ dim_facts (sight of_terms p i u) xs

@@ -44,7 +44,7 @@ constant_at t = constant_of_length (run_length is_digit t) t
 abbrev pub label_of_length : ℕ → List ℕ → Reading ℕ
 label_of_length n t =
     if is_digits (take n t) then (if nat_lt 5 n then None else (if spelled (take n t) == 0 then None else Some
-        (spelled (take n t), drop n t))) else None
+    (spelled (take n t), drop n t))) else None
 
 unfoldable pub label_at : List ℕ → Reading ℕ
 label_at t = label_of_length (run_length is_digit t) t

@@ -57,7 +57,7 @@ finish calls s (eval t ∷ rest) vs n = and_then (bounded_by calls s nothing_kno
     finish calls s rest (vs ++ v ∷ []) m)
 finish calls s (branch a b ∷ rest) vs n =
     and_then (if holds (first_of (newest 1 vs)) then bounded_by calls s nothing_known a n else bounded_by
-        calls s nothing_known b n)
+    calls s nothing_known b n)
     (λ v m. finish calls s rest (all_but 1 vs ++ v ∷ []) m)
 finish calls s (combine f c ∷ rest) vs n =
     and_then (function_bounded calls f (newest c vs) n) (λ v m. finish calls s rest (all_but c vs ++ v ∷ []) m)
@@ -283,7 +283,7 @@ pub record IsWhole (pool : List Node) (m : Machine) : Type 0 where
 abbrev pub meaning : List Node → List Definition → List (Word × Value) → Machine → Outcome Value
 meaning pool ds sheet m =
     finish (calls_of (functions_of pool ds)) (symbols_of ds sheet m.made m.scope)
-        (jobs_of pool ds sheet m.made m.tasks) (values_of sheet m.made m.values) m.turns
+    (jobs_of pool ds sheet m.made m.tasks) (values_of sheet m.made m.values) m.turns
 
 -- what a machine comes to with a task more
 abbrev pub meaning_with : List Node → List Definition → List (Word × Value) → Task → Machine → Outcome Value

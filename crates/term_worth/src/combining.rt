@@ -44,9 +44,12 @@ pub fn combine_newest(
 
 /// Puts new cells for the newest so many values.
 fn put_made(machine: &mut Machine, count: usize, cells: edge_io::List<Cell>) -> Result<(), NoMemory>
-    ensures { OnOk result (machine.new ≡ record machine.old { values = all_but count
-        machine.old.values ++ «held».Made (length machine.old.made) ∷ []; made = machine.old.made
-        ++ cells ∷ [] }) }
+    ensures { OnOk result (machine.new ≡ record machine.old {
+      values = all_but count
+          machine.old.values ++ «held».Made (length machine.old.made) ∷ [];
+      made = machine.old.made
+          ++ cells ∷ [];
+    }) }
 {
     let place = machine.made.as_slice().len();
     machine.made.push(cells)?;

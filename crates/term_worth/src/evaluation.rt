@@ -135,9 +135,12 @@ fn evaluate(
 
 /// Goes on with one of two terms, as the newest value says.
 fn branch(machine: &mut Machine, a: TermId, b: TermId) -> Result<(), NoMemory>
-    ensures { OnOk result (machine.new ≡ record machine.old { tasks = task.Eval
-        (if held_holds (first_held (newest 1 machine.old.values)) then a else b) ∷
-        machine.old.tasks; values = all_but 1 machine.old.values }) }
+    ensures { OnOk result (machine.new ≡ record machine.old {
+      tasks = task.Eval
+          (if held_holds (first_held (newest 1 machine.old.values)) then a else b) ∷
+          machine.old.tasks;
+      values = all_but 1 machine.old.values;
+    }) }
 {
     let condition = first(newest(machine.values.as_slice(), 1));
     let id = if counts_as_true(condition) { a } else { b };

@@ -93,8 +93,10 @@ pub fn take_newest(machine: &mut Machine, count: usize)
 
 /// Puts a value for the newest so many values.
 pub fn replace_newest(machine: &mut Machine, count: usize, held: Held) -> Result<(), NoMemory>
-    ensures { OnOk result (machine.new ≡ record machine.old { values = all_but count
-        machine.old.values ++ held ∷ [] }) }
+    ensures { OnOk result (machine.new ≡ record machine.old {
+      values = all_but count
+          machine.old.values ++ held ∷ [];
+    }) }
 {
     take_newest(machine, count);
     put(machine, held)

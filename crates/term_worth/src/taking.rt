@@ -29,8 +29,10 @@ pub fn take_apart(
     ready: usize,
 ) -> Result<(), NoMemory>
     requires { ready ≤ length args.now }
-    ensures { OnOk result (machine.new ≡ record machine.old { tasks = taken_apart f args.now
-        ready machine.old.tasks }) }
+    ensures { OnOk result (machine.new ≡ record machine.old {
+      tasks = taken_apart f args.now
+          ready machine.old.tasks;
+    }) }
 {
     match f {
         Func::BuiltIn(BuiltIn::If) => match args {
@@ -43,8 +45,10 @@ pub fn take_apart(
 
 /// A condition, and then one of two terms.
 fn begin_branch(machine: &mut Machine, c: TermId, a: TermId, b: TermId) -> Result<(), NoMemory>
-    ensures { OnOk result (machine.new ≡ record machine.old { tasks = task.Eval c ∷ task.Branch
-        a b ∷ machine.old.tasks }) }
+    ensures { OnOk result (machine.new ≡ record machine.old {
+      tasks = task.Eval c ∷ task.Branch
+          a b ∷ machine.old.tasks;
+    }) }
 {
     machine.tasks.push(Task::Branch(a, b))?;
     machine.tasks.push(Task::Eval(c))
@@ -58,8 +62,10 @@ fn begin_arguments(
     ready: usize,
 ) -> Result<(), NoMemory>
     requires { ready ≤ length args.now }
-    ensures { OnOk result (machine.new ≡ record machine.old { tasks = map task.Eval
-        (drop ready args.now) ++ task.Combine f (length args.now) ∷ machine.old.tasks }) }
+    ensures { OnOk result (machine.new ≡ record machine.old {
+      tasks = map task.Eval
+          (drop ready args.now) ++ task.Combine f (length args.now) ∷ machine.old.tasks;
+    }) }
 {
     machine.tasks.push(Task::Combine(f, args.len()))?;
     let mut left = args.len();

@@ -55,11 +55,16 @@ fn enter(
     count: usize,
 ) -> Result<(), NoMemory>
     requires { 0 < machine.old.turns }
-    ensures { OnOk result (machine.new ≡ record { scope = scope.Arguments params
-        (newest count machine.old.values); turns = machine.old.turns - 1; tasks = task.Eval
-        (chosen_id body (held_num (first_held (newest count machine.old.values)))) ∷ task.Leave
-        machine.old.scope ∷ machine.old.tasks; values = all_but count machine.old.values;
-        made = machine.old.made }) }
+    ensures { OnOk result (machine.new ≡ record {
+      scope = scope.Arguments params
+          (newest count machine.old.values);
+      turns = machine.old.turns - 1;
+      tasks = task.Eval
+          (chosen_id body (held_num (first_held (newest count machine.old.values)))) ∷ task.Leave
+          machine.old.scope ∷ machine.old.tasks;
+      values = all_but count machine.old.values;
+      made = machine.old.made;
+    }) }
 {
     let args = newest(machine.values.as_slice(), count);
     let id = chosen(body, first(args));

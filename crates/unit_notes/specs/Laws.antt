@@ -29,5 +29,5 @@ ReadyShapesAreGood =
 abbrev pub ReadyFunctionsKeep : Type 0
 ReadyFunctionsKeep =
     (pool : List Node) (scene : Scene) (p : Program) (i j : ℕ) (u g : Routine) → IsReady pool scene p
-        → slice_get p.units j ≡ Some g → is_function g ≡ true
+    → slice_get p.units j ≡ Some g → is_function g ≡ true
     → (xs : List (Operand Tree)) → hits (sight of_terms p i u) j g xs ≡ []

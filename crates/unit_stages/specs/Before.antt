@@ -36,7 +36,7 @@ OneMore =
 abbrev pub AllBefore : Type 0
 AllBefore =
     (p : Program) (rules : List Rule) (told : Option Fault) → TellsBefore p rules (length p.units) told
-        → TellsLeast (IsBrokenOf p rules) told
+    → TellsLeast (IsBrokenOf p rules) told
 
 -- where nothing is told, the program keeps the rules
 abbrev pub KeptByAll : Type 0

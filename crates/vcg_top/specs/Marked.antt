@@ -46,7 +46,7 @@ abbrev pub IsRest : List Function → Option ℕ → List ConditionTree → List
 IsRest fs test [] rest = rest ≡ []
 IsRest fs test (c ∷ cs) rest =
     (PassesToldBy fs test c × IsRest fs test cs rest) ⊎ ((PassesToldBy fs test c → ⊥)
-        × ((later : List ConditionTree) × (rest ≡ c ∷ later) × IsRest fs test cs later))
+    × ((later : List ConditionTree) × (rest ≡ c ∷ later) × IsRest fs test cs later))
 
 -- the first prover was asked for each of some conditions, and the next ones likewise for those that don't pass its test
 abbrev pub AreAskedForRest : List Function → List Seen → List Seen → List ConditionTree → Type 0
@@ -55,7 +55,7 @@ AreAskedForRest fs [] (n ∷ ns) cs = ⊥
 AreAskedForRest fs (b ∷ bs) [] cs = ⊥
 AreAskedForRest fs (b ∷ bs) (n ∷ ns) cs =
     (n.asked ≡ raised (length cs) b.asked) × ((rest : List ConditionTree) × IsRest fs b.test cs rest
-        × AreAskedForRest fs bs ns rest)
+    × AreAskedForRest fs bs ns rest)
 
 -- ---- what the provers of a call give
 

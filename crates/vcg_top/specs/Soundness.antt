@@ -39,5 +39,5 @@ pub record IsSoundText (d : Dialect) (bytes : List ℕ) (before now : List Seen)
   pub readable : IsReadable p.functions (conditions_of p paths) marks
   pub alike :
       (es : List Function) (cs : List ConditionTree) (others : Marks) → IsReadable es cs others
-          → text ≡ event_text es cs others → AreAlike p.functions es (conditions_of p paths) cs marks others
+      → text ≡ event_text es cs others → AreAlike p.functions es (conditions_of p paths) cs marks others
   pub enough : AreUnclosedValid p.functions marks.letters (conditions_of p paths) → IsTotallyCorrect p

@@ -39,4 +39,4 @@ begins_with w card pc now head m cs = begun w w.program.dialect card pc now head
 abbrev pub begins : Sight Tree → ℕ → ℕ → Named Tree → DoHead → List ℕ → See Tree (Named Tree)
 begins w card pc now head cs =
     parameter w card now head.first >>= λ m1. parameter w card now head.last >>= λ m2.
-        step_value w card now head.step >>= λ m3. begins_with w card pc now head (m1, m2, m3) cs
+    step_value w card now head.step >>= λ m3. begins_with w card pc now head (m1, m2, m3) cs

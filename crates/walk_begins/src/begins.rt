@@ -41,8 +41,11 @@ fn begin_common(
     ensures on { Follows walk.old walk.new }
     ensures did { OnOk result (PerformsIn walk.old.pool at.now.flow.now.setting.now
         (moment walk.old) (λ w. begun w Common at.now.card at.now.point (moment walk.old).now
-        head.now (tree_of walk.old.pool limits.first, tree_of walk.old.pool limits.last,
-        tree_of walk.old.pool limits.step) choices.now) (moment walk.new)) }
+        head.now (
+          tree_of walk.old.pool limits.first,
+          tree_of walk.old.pool limits.last,
+          tree_of walk.old.pool limits.step,
+        ) choices.now) (moment walk.new)) }
 {
     check_loop(walk, at.card, limits.first, limits.last, limits.step)?;
     walk.set(&head.variable, limits.first)
@@ -67,8 +70,12 @@ fn begin_seventy_seven(
     ensures on { Follows walk.old walk.new }
     ensures did { OnOk result (PerformsIn walk.old.pool at.now.flow.now.setting.now
         (moment walk.old) (λ w. begun w SeventySeven at.now.card at.now.point
-        (moment walk.old).now head.now (tree_of walk.old.pool limits.first, tree_of walk.old.pool
-        limits.last, tree_of walk.old.pool limits.step) choices.now) (moment walk.new)) }
+        (moment walk.old).now head.now (
+          tree_of walk.old.pool limits.first,
+          tree_of walk.old.pool
+              limits.last,
+          tree_of walk.old.pool limits.step,
+        ) choices.now) (moment walk.new)) }
 {
     check_trips(walk, at.card, limits)?;
     walk.set(&head.variable, limits.first)?;
@@ -94,8 +101,11 @@ fn begin_with(
     ensures on { Follows walk.old walk.new }
     ensures did { OnOk result (PerformsIn walk.old.pool at.now.flow.now.setting.now
         (moment walk.old) (λ w. begins_with w at.now.card at.now.point (moment walk.old).now
-        head.now (tree_of walk.old.pool limits.first, tree_of walk.old.pool limits.last,
-        tree_of walk.old.pool limits.step) choices.now) (moment walk.new)) }
+        head.now (
+          tree_of walk.old.pool limits.first,
+          tree_of walk.old.pool limits.last,
+          tree_of walk.old.pool limits.step,
+        ) choices.now) (moment walk.new)) }
 {
     match at.flow.setting.scene.dialect {
         Dialect::Common => begin_common(walk, at, head, limits, choices),

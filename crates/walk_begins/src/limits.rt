@@ -38,8 +38,11 @@ pub(crate) fn limits_of(
     ensures step { IfOk result (λ m. IsIn walk.new.pool m.step) }
     ensures did { IfOk result (λ m. DoesIn walk.old.pool card.now.setting.now (moment walk.old)
         (λ w. begins.limits_of w card.now.number (moment walk.old).now first last step)
-        (moment walk.new) (tree_of walk.new.pool m.first, tree_of walk.new.pool m.last,
-        tree_of walk.new.pool m.step)) }
+        (moment walk.new) (
+          tree_of walk.new.pool m.first,
+          tree_of walk.new.pool m.last,
+          tree_of walk.new.pool m.step,
+        )) }
 {
     let bound = card.setting.scene.bound;
     let first = parameter(walk, bound, card.number, first)?;

@@ -14,7 +14,7 @@ use Rattle.fort_model.specs.WalkStmt.{step_value}
 abbrev pub fits : Tree → Tree → Tree → Tree
 fits first last step =
     make3 of_terms And (make2 of_terms AtMost (natural of_terms 1) first) (make2 of_terms AtMost first last)
-        (make2 of_terms AtMost (natural of_terms 1) step)
+    (make2 of_terms AtMost (natural of_terms 1) step)
 
 -- the sum of a variable, which is read, and the step, which must be in range
 abbrev pub next_sum : Sight Tree → ℕ → Named Tree → Name → Option Param → See Tree Tree

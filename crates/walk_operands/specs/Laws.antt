@@ -23,7 +23,7 @@ pub record AreMoreOperands (nodes : List Node) (xs : List Operand) (x : Operand)
 abbrev pub OperandsJoin : Type 0
 OperandsJoin =
     (nodes : List Node) (xs : List Operand) (x : Operand) → AreOperandsIn (length nodes) xs
-        → IsOperandIn (length nodes) x → AreMoreOperands nodes xs x
+    → IsOperandIn (length nodes) x → AreMoreOperands nodes xs x
 
 -- the terms of operands are of the pool, and their trees are what the operands stand for
 pub record HaveTerms (nodes : List Node) (xs : List Operand) : Type 0 where

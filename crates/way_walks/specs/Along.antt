@@ -51,7 +51,7 @@ module _ {V : Type 0} (w : Sight V) where
   along_from_assert (Some a) steps end =
       takes (entry_facts w) ++ takes (start_facts w a)
       ++ arrives_behind (Some (map (note w.sense (at_entry w) (at_start w)) a.clock)) end
-          (gone (stops steps) 0 (at_start w) (symbols_of_calls w.sense))
+      (gone (stops steps) 0 (at_start w) (symbols_of_calls w.sense))
 
   -- what is met along a way
   abbrev pub along : ℕ → List Step → ℕ → List (Event V)

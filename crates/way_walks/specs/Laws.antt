@@ -14,5 +14,5 @@ abbrev pub WalksGoAlong : Type 0
 WalksGoAlong =
     (w : Sight Tree) (way : Way)
     → IsPath w.program.dialect w.unit (notes_here w) (path_of way) → points_of w.program.dialect w.unit
-        (notes_here w) (path_of way) ≡ way_points way
+    (notes_here w) (path_of way) ≡ way_points way
     → walk w (path_of way) ≡ along w way.start way.steps way.end

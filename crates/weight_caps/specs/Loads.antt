@@ -40,8 +40,11 @@ behind l part = let w = part l.running in record {
 
 -- a load is an exact one, as far as the cap
 abbrev pub IsCappedLoad : Load → Load → Type 0
-IsCappedLoad l exact = l ≡ record { running = capped exact.running; conditions = capped exact.conditions;
-    weight = capped exact.weight }
+IsCappedLoad l exact = l ≡ record {
+  running = capped exact.running;
+  conditions = capped exact.conditions;
+  weight = capped exact.weight;
+}
 
 -- a load goes over into another, and a value is reached, just as a part of a path does with each exact load that it
 -- may stand for; values correspond by R

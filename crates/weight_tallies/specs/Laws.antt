@@ -16,6 +16,6 @@ use Rattle.weight_tallies.specs.Tallies.{bare, load_of}
 abbrev pub TalliesAreWeights : Type 0
 TalliesAreWeights =
     (p : Program) (i : ℕ) (u : Routine) (graph : Graph) → IsGraphOf p.dialect u (notes_of p i) graph
-        → (way : Way) → IsAmong way (ways_of graph)
+    → (way : Way) → IsAmong way (ways_of graph)
     → ((load_of (bare p) i u way).conditions ≡ capped (length (weights_of p i u (path_of way))))
     × ((load_of (bare p) i u way).weight ≡ capped (sum (weights_of p i u (path_of way))))
