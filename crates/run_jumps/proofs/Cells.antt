@@ -1,9 +1,6 @@
 -- The values and cells that a state of a unit shows.
 use Rattle.std.proofs.Common.{◌≡◌, ℕ, ◌<◌, ◌^◌, List, length, map, ap, ◌∙◌, subst}
-use Rattle.std.specs.Prelude.{Result}
 use Rattle.formula.specs.declared.value.Cell.{Cell}
-use Rattle.fort_syntax.specs.declared.condition.Kind.{Kind}
-use Rattle.fort_syntax.specs.declared.dialect.Dialect.{Dialect}
 use Rattle.fort_model.specs.Processor.{Processor}
 use Rattle.fort_model.specs.Storage.{Storage, load, store}
 use Rattle.fort_model.specs.Passing.{Taken}

@@ -1,5 +1,5 @@
 -- Instructions that lead elsewhere do what the model says.
-use Rattle.std.proofs.Common.{◌≡◌, ℕ, zero, suc, ◌+◌, ◌<◌, ◌≤◌, ◌^◌, Bool, true, false, cond, nat_lt, List, [], ◌∷◌, length, take, drop, map, Option, Some, None, slice_get, refl, sym, ap, ◌∙◌, subst, arith}
+use Rattle.std.proofs.Common.{◌≡◌, ℕ, zero, suc, ◌+◌, ◌<◌, ◌^◌, Bool, true, false, cond, nat_lt, List, [], ◌∷◌, length, take, drop, Option, Some, None, slice_get, refl, sym, ap, ◌∙◌, subst, arith}
 use Rattle.std.specs.Prelude.{ℤ, pos, negsuc, Result, Ok, Err, get_or, is_some}
 use Rattle.std.proofs.lemmas.Option.{slice_get_within, get_or_from_slice_get}
 use Rattle.formula.specs.Values.{count, is_between}
@@ -39,19 +39,22 @@ use Rattle.run_state.specs.declared.machine.State.{State}
 use Rattle.run_state.proofs.Arms.{shows_on, shows_carried, shows_point, shows_tests, shows_error, shows_nothing}
 use Rattle.run_state.proofs.Slots.{coded_shown}
 use Rattle.run_elements.specs.Elements.{IsReady, value_below}
-use Rattle.run_jumps.specs.Jumps.{left_for, turned, point_by_sign, chose, begun, did_result, led_by, is_jump}
-use Rattle.run_jumps.proofs.Cells.{manner_of, by_processor, dialect_so, first_so, second_so, third_so, one_less, three_less, load_so, store_so}
+use Rattle.run_jumps.specs.Jumps.{left_for, turned, point_by_sign, chose, begun, led_by, is_jump}
+use Rattle.run_jumps.proofs.Cells.{manner_of, dialect_so, first_so, second_so, third_so, one_less, three_less, load_so, store_so}
 
 -- a number is between 1 and the number of points just where it counts one
 between : (qs : List ℕ) (i : ℤ) → is_between (pos 1) (pos (length qs)) i ≡ is_some (chosen qs (count i))
 between qs (negsuc n) = refl
 between qs (pos zero) = refl
-between qs (pos (suc j)) = among qs j
+between qs (pos (suc j)) = counts (length qs) j ∙ sym (among qs j)
   where
-    among : (qs : List ℕ) (j : ℕ) → is_between (pos 1) (pos (length qs)) (pos (suc j)) ≡ is_some (slice_get qs j)
-    among [] j = refl
-    among (q ∷ qs) zero = refl
-    among (q ∷ qs) (suc j) = among qs j
+    counts : (n j : ℕ) → is_between (pos 1) (pos n) (pos (suc j)) ≡ nat_lt j n
+    counts n j = grind arith
+
+    among : (qs : List ℕ) (j : ℕ) → is_some (slice_get qs j) ≡ nat_lt j (length qs)
+    among [] j = grind arith
+    among (q ∷ qs) zero = grind arith
+    among (q ∷ qs) (suc j) = among qs j ∙ (let same : nat_lt j (length qs) ≡ nat_lt (suc j) (suc (length qs)) = grind arith in same)
 
 module _ (w : World) (code : Code) (setting : Setting) (world : IsWorldOf code setting w) (m : State) (inside : m.stage ≡ stage.Inside)
     (cells_near : length m.cells.items < 2 ^ 64) (stop_near : m.frame.stop < 2 ^ 64) (f : frames.Frame) (card : ℕ) (is : List code_of.Instr) (ws : List Waiting) (xs : List Taken) (st : Storage) (s : ShowsStatement w code m f card is ws xs st) where

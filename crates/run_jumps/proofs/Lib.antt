@@ -1,4 +1,5 @@
+mod Cells
 pub mod Led
 pub mod Plain
+pub mod Reached
 pub mod Taken
-mod Cells

@@ -1,8 +1,7 @@
 -- Instructions that lead elsewhere need no room.
-use Rattle.std.proofs.Common.{◌≡◌, ℕ, zero, suc, ◌+◌, ◌-◌, ◌<◌, ◌≤◌, ◌^◌, Bool, true, false, cond, List, [], ◌∷◌, length, drop, Option, Some, None, refl, sym, ap, ◌∙◌, subst, arith}
+use Rattle.std.proofs.Common.{◌≡◌, ℕ, zero, suc, ◌-◌, ◌<◌, ◌≤◌, ◌^◌, Bool, true, false, cond, List, [], ◌∷◌, length, drop, Option, Some, None, refl, arith}
 use Rattle.std.specs.Prelude.{ℤ, Result, Ok, Err}
 use Rattle.std.proofs.lemmas.List.{length-drop}
-use Rattle.formula.specs.declared.value.Cell.{Cell}
 use Rattle.formula.specs.declared.value.Cell.TheVariants.{Int}
 use Rattle.fort_syntax.specs.declared.condition.Kind.{Kind}
 use Rattle.fort_syntax.specs.declared.condition.Kind.TheVariants.{ChoiceCheck, ResultCheck}
@@ -16,16 +15,16 @@ use Rattle.run_shapes.specs.declared.instr.Instr.{Instr}
 use Rattle.run_shapes.specs.declared.instr.Instr.TheVariants as instr
 use Rattle.run_shapes.specs.declared.unit_code.Code.{Code}
 use Rattle.run_shapes.specs.declared.unit_code.UnitCode.{UnitCode}
-use Rattle.run_state.specs.Near.{far}
 use Rattle.run_state.specs.Deeds.{under_in, extent_at, with_values, with_cells, gone_to, put_to_test, failed}
-use Rattle.run_state.specs.Obeyed.{AreWithin, ExtentsWithin, IsPlain}
+use Rattle.run_state.specs.Obeyed.{AreWithin, IsPlain}
+use Rattle.run_state.specs.Shows.{unit_code}
 use Rattle.run_state.specs.declared.machine.Item.{Item}
 use Rattle.run_state.specs.declared.machine.Setting.{Setting}
 use Rattle.run_state.specs.declared.machine.Stage.TheVariants as stage
 use Rattle.run_state.specs.declared.machine.State.{State}
 use Rattle.run_elements.specs.Elements.{IsReady, value_below}
 use Rattle.run_elements.proofs.Plain.{under_within, under_short, stored_long, far_later, failed_plain, lost_plain, on_plain}
-use Rattle.run_jumps.specs.Jumps.{left_for, turned, chose, point_at, begun, did_result, led, led_by}
+use Rattle.run_jumps.specs.Jumps.{left_for, turned, chose, point_at, begun, led, led_by}
 
 drop_within : (most k : ℕ) (items : List Item) → AreWithin most items → AreWithin most (drop k items)
 drop_within most zero items h = h
@@ -66,7 +65,7 @@ module _ (m : State) where
     within = λ most one es h. h;
   }
 
-  left_plain : (depth q : ℕ) → IsPlain m (left_for depth q m)
+  pub left_plain : (depth q : ℕ) → IsPlain m (left_for depth q m)
   left_plain depth q = gone_plain q (under_in depth m.values.items) m.cells.items refl (λ most h. under_within most depth m.values.items h)
 
   module _ (inside : m.stage ≡ stage.Inside) where
@@ -122,4 +121,4 @@ module _ (m : State) where
     by_form d unit setting _ near = lost_plain m
 
 pub plain : (code : Code) (setting : Setting) (i : Instr) (m : State) → IsReady code i m → IsPlain m (led_by code setting i m)
-plain code setting i m ready = by_form m ready.inside code.dialect _ setting i ready.place_near
+plain code setting i m ready = by_form m ready.inside code.dialect (unit_code code m.frame.unit) setting i ready.place_near

@@ -1,10 +1,9 @@
 -- A test of a DO takes a step as the model says.
-use Rattle.std.proofs.Common.{◌≡◌, ℕ, suc, ◌+◌, ◌<◌, ◌^◌, Bool, true, false, cond, List, [], ◌∷◌, length, drop, Option, Some, None, slice_get, refl, sym, ap, ◌∙◌, subst}
-use Rattle.std.specs.Prelude.{ℤ, pos, ◌+ℤ◌, int_le, Result, Ok, Err}
+use Rattle.std.proofs.Common.{◌≡◌, ℕ, suc, ◌+◌, ◌<◌, ◌^◌, Bool, true, false, cond, List, ◌∷◌, length, drop, Option, Some, None, slice_get, refl, sym, ap, ◌∙◌, subst}
+use Rattle.std.specs.Prelude.{ℤ, ◌+ℤ◌, int_le, Result, Ok, Err}
 use Rattle.std.proofs.lemmas.List.{drop_more}
 use Rattle.std.proofs.lemmas.Option.{slice_get_within, get_or_from_slice_get}
 use Rattle.formula.specs.declared.value.Cell.{Cell}
-use Rattle.formula.specs.declared.value.Cell.TheVariants.{Int}
 use Rattle.fort_syntax.specs.declared.condition.Kind.{Kind}
 use Rattle.fort_syntax.specs.declared.dialect.Dialect.{Dialect}
 use Rattle.fort_model.specs.Cells.{num}
@@ -18,18 +17,17 @@ use Rattle.run_moves.specs.Moves.{Move, to_point, to_tests, settled, tested}
 use Rattle.run_frames.specs.Frames as frames
 use Rattle.run_frames.specs.Frames.{Waiting, scene_at}
 use Rattle.run_frames.specs.Configs.{testing}
-use Rattle.run_held.specs.Sums.{came_to, constant_to, ranged_to}
+use Rattle.run_held.specs.Sums.{came_to, ranged_to}
 use Rattle.run_held.proofs.Exact.{sums_are_exact}
 use Rattle.run_shapes.specs.Coded.{HasSlot, MayHaveSlot, TestHasSlots}
 use Rattle.run_shapes.specs.Seen.{name_at, param_of, step_of, loop_of, loops_of, out_of}
 use Rattle.run_shapes.specs.declared.slots.Amount.{Amount}
 use Rattle.run_shapes.specs.declared.slots.Amount.TheVariants as amount
 use Rattle.run_shapes.specs.declared.tests.Round.{Round}
-use Rattle.run_shapes.specs.declared.tests.Test.{Test}
 use Rattle.run_shapes.specs.declared.tests.Test.TheVariants as test
 use Rattle.run_shapes.specs.declared.unit_code.Code.{Code}
 use Rattle.run_shapes.specs.declared.unit_code.UnitCode.{UnitCode}
-use Rattle.run_state.specs.Deeds.{extent_at, failed}
+use Rattle.run_state.specs.Deeds.{extent_at}
 use Rattle.run_state.specs.Obeyed.{ShowsMove, IsPlain}
 use Rattle.run_state.specs.Rests.{GoesOn, Stepped}
 use Rattle.run_state.specs.Shows.{unit_code, World, IsWorldOf, ShowsUnit, ShowsTests}
@@ -42,7 +40,7 @@ use Rattle.run_state.proofs.Stages.{when_testing}
 use Rattle.run_elements.specs.Elements.{read_to}
 use Rattle.run_elements.proofs.Obeying.{reads}
 use Rattle.run_elements.proofs.Plain.{stored_long, failed_plain}
-use Rattle.run_jumps.specs.Rounds.{amount_to, step_to, went_round, then_so, did_round, did_test, IsReadyToTest}
+use Rattle.run_jumps.specs.Rounds.{amount_to, step_to, went_round, then_so, did_test, IsReadyToTest}
 use Rattle.run_jumps.proofs.Cells.{manner_of, by_processor, dialect_so, read_so, store_so}
 use Rattle.run_jumps.proofs.Plain.{gone_plain, tests_plain}
 

@@ -1,5 +1,5 @@
 -- What instructions do to a state that lead elsewhere.
-use Rattle.std.specs.Prelude.{◌≡◌, ◌<◌, ℕ, suc, ◌+◌, Bool, true, false, cond, ℤ, pos, int_lt, List, take, drop, Result, Ok, Err, Option, Some, None, get_or, slice_get}
+use Rattle.std.specs.Prelude.{◌≡◌, ◌<◌, ℕ, ◌+◌, Bool, true, false, cond, ℤ, pos, int_lt, List, take, drop, Result, Ok, Err, Option, Some, None, get_or, slice_get}
 use Rattle.formula.specs.Values.{count}
 use Rattle.formula.specs.declared.value.Cell.{Cell}
 use Rattle.formula.specs.declared.value.Cell.TheVariants.{Int}

@@ -1,5 +1,5 @@
 -- What one test of a DO does to a state.
-use Rattle.std.specs.Prelude.{◌≡◌, ◌<◌, ◌^◌, ℕ, suc, ◌+◌, Bool, true, false, pos, ◌+ℤ◌, int_le, length, Result, Ok, Err, Option, Some, None, slice_get}
+use Rattle.std.specs.Prelude.{◌≡◌, ◌<◌, ◌^◌, suc, ◌+◌, Bool, true, false, pos, ◌+ℤ◌, int_le, length, Result, Ok, Err, Option, Some, None, slice_get}
 use Rattle.formula.specs.declared.value.Cell.{Cell}
 use Rattle.formula.specs.declared.value.Cell.TheVariants.{Int}
 use Rattle.fort_syntax.specs.declared.condition.Kind.{Kind}

@@ -40,7 +40,7 @@ pub fn turn(m: &mut State)
 fn target(unit: &UnitCode, place: usize, offset: usize) -> usize
     ensures { result ≡ get_or unit.now.targets (place + offset) 0 }
 {
-    match unit.targets.get(place.saturating_add(offset)) {
+    match unit.targets.as_slice().get(place.saturating_add(offset)) {
         Some(point) => *point,
         None => 0,
     }
@@ -91,7 +91,10 @@ fn point_at(unit: &UnitCode, place: usize, count: usize, number: i64) -> Option<
     if counted == 0 || counted > count {
         return None;
     }
-    unit.targets.get(place.saturating_add(counted - 1)).copied()
+    unit.targets
+        .as_slice()
+        .get(place.saturating_add(counted - 1))
+        .copied()
 }
 
 /// On to a point, or what is done where there is none.

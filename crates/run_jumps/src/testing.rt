@@ -48,8 +48,8 @@ fn left_with(dialect: Dialect, sum: &Held) -> Held
 
 /// A DO goes round again, or is left for the next test.
 fn go_round(m: &mut State, dialect: Dialect, round: Round, again: bool, sum: &Held)
-    requires { m.old.frame.place < 2 ^ 64 - 1 }
-    requires { round.at < 2 ^ 64 - 1 }
+    requires place_near { m.old.frame.place < 2 ^ 64 - 1 }
+    requires point_near { round.at < 2 ^ 64 - 1 }
     ensures { m.new ≡ went_round dialect round again sum.now m.old }
 {
     if again {
@@ -72,8 +72,8 @@ fn test_by(
     round: Round,
     sum: Result<Held, Kind>,
 )
-    requires { m.old.frame.place < 2 ^ 64 - 1 }
-    requires { round.at < 2 ^ 64 - 1 }
+    requires place_near { m.old.frame.place < 2 ^ 64 - 1 }
+    requires point_near { round.at < 2 ^ 64 - 1 }
     ensures { m.new ≡ did_round dialect setting.now round sum m.old }
 {
     let sum = match sum {
@@ -91,8 +91,8 @@ fn test_by(
 
 /// One test of a DO, behind its step.
 pub fn test(m: &mut State, dialect: Dialect, setting: &Setting, round: Round)
-    requires { m.old.frame.place < 2 ^ 64 - 1 }
-    requires { round.at < 2 ^ 64 - 1 }
+    requires place_near { m.old.frame.place < 2 ^ 64 - 1 }
+    requires point_near { round.at < 2 ^ 64 - 1 }
     ensures { m.new ≡ did_test dialect setting.now round m.old }
 {
     let variable = match read(&m.cells, m.extent(round.variable).first) {
