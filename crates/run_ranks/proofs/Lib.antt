@@ -3,9 +3,12 @@ pub mod Plain
 pub mod Calling
 pub mod Entries
 pub mod Leaves
-pub mod Summed
-pub mod Ranked
-pub mod Apart
+pub mod Owning
+pub mod Maxima
 pub mod Ordered
 pub mod Tabled
+pub mod Apart
+pub mod Sized
+pub mod Fit
+pub mod Ranked
 pub mod Whole

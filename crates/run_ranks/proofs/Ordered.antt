@@ -11,8 +11,8 @@ use Rattle.fort_model.specs.Lists.{IsAmong}
 use Rattle.run_shapes.specs.Coded.{calls_coded}
 use Rattle.run_shapes.specs.declared.unit_code.CallCode.{CallCode}
 use Rattle.run_ranks.specs.Fitting.{CallsStandEarlier}
-use Rattle.run_ranks.specs.Orders.{CallsAreOfUnits, IsOfUnit}
-use Rattle.run_ranks.specs.Sums.{StandsBefore, first, later}
+use Rattle.run_ranks.specs.Orders.{CallsAreOfUnits, IsOfUnit, StandsBefore, first, later}
+use Rattle.run_ranks.proofs.Maxima.{AreOnce}
 
 -- ---- lists
 
@@ -64,28 +64,52 @@ callers_later units order i j o c =
     subst (λ (zs : List ℕ). StandsBefore j i zs) (reverse-reverse order)
     (grown units (reverse order) o.grows i j (turned order i (o.whole i (slice_get_within units i c.caller c.is_caller))) c)
 
+-- ---- each unit stands once
+
+no_item : {C : Type 0} (x : ℕ) → IsAmong x [] → C
+no_item x m = absurd (cc)
+
+alone : (x h : ℕ) → IsAmong x (h ∷ []) → Some h ≡ Some x
+alone x h (zero, q) = q
+alone x h (suc k, q) = absurd (cc)
+
+once_last : (xs : List ℕ) (h : ℕ) → AreOnce xs → (IsAmong h xs → ⊥) → AreOnce (xs ++ h ∷ [])
+once_last [] h o n = (no_item h, tt)
+once_last (y ∷ xs) h o n = (λ m. among_either xs (h ∷ []) y m o.0 (λ e. n (0, sym (alone y h e))), once_last xs h o.1 (λ m. n (suc m.0, m.1)))
+
+once_grown : (units : List Routine) (done : List ℕ) → Grows units done → AreOnce (reverse done)
+once_grown units [] start = tt
+once_grown units (h ∷ done) (next g stand least) =
+    subst AreOnce (sym (reverse-append (h ∷ []) done))
+    (once_last (reverse done) h (once_grown units done g) (λ m. stand.new (subst (λ (zs : List ℕ). IsAmong h zs) (reverse-reverse done) (turned (reverse done) h m))))
+
+pub order_once : (units : List Routine) (order : List ℕ) → IsCallOrder units order → AreOnce order
+order_once units order o = subst AreOnce (reverse-reverse order) (once_grown units (reverse order) o.grows)
+
 -- ---- calls of code
 
-record IsCoded (units : List Routine) (sites : List CallSite) (call : CallCode) : Type 0 where
-  site : CallSite
-  among : IsAmong site sites
-  same : call.callee ≡ callee_of units site
+pub record IsCoded (units : List Routine) (sites : List CallSite) (call : CallCode) : Type 0 where
+  pub site : CallSite
+  pub among : IsAmong site sites
+  pub same : call.callee ≡ callee_of units site
+  pub counted : call.actuals ≡ length site.actuals
 
-coded : (units : List Routine) (n : ℕ) (sites : List CallSite) (k : ℕ) (call : CallCode) → slice_get (calls_coded units n sites) k ≡ Some call → IsCoded units sites call
+pub coded : (units : List Routine) (n : ℕ) (sites : List CallSite) (k : ℕ) (call : CallCode) → slice_get (calls_coded units n sites) k ≡ Some call → IsCoded units sites call
 coded units n [] k call e = absurd (cc)
 coded units n (s ∷ sites) zero call e =
-    let same : record { number = n; callee = callee_of units s; actuals = length s.actuals } ≡ call = cc in record { site = s; among = (0, refl); same = ap (λ (c : CallCode). c.callee) (sym same) }
-coded units n (s ∷ sites) (suc k) call e = let r = coded units (suc n) sites k call e in record { site = r.site; among = (suc r.among.0, r.among.1); same = r.same }
+    let same : record { number = n; callee = callee_of units s; actuals = length s.actuals } ≡ call = cc in
+    record { site = s; among = (0, refl); same = ap (λ (c : CallCode). c.callee) (sym same); counted = ap (λ (c : CallCode). c.actuals) (sym same) }
+coded units n (s ∷ sites) (suc k) call e = let r = coded units (suc n) sites k call e in record { site = r.site; among = (suc r.among.0, r.among.1); same = r.same; counted = r.counted }
 
-record HasLine (u : Routine) (lines : List Line) (s : CallSite) : Type 0 where
-  line : Line
-  is_line : IsAmong line lines
-  is_site : IsAmong s (sites_of u line.stmt)
+pub record HasLine (u : Routine) (lines : List Line) (s : CallSite) : Type 0 where
+  pub line : Line
+  pub is_line : IsAmong line lines
+  pub is_site : IsAmong s (sites_of u line.stmt)
 
 line_behind : (u : Routine) (l : Line) (lines : List Line) (s : CallSite) → HasLine u lines s → HasLine u (l ∷ lines) s
 line_behind u l lines s r = record { line = r.line; is_line = (suc r.is_line.0, r.is_line.1); is_site = r.is_site }
 
-line_of : (u : Routine) (lines : List Line) (s : CallSite) → IsAmong s (sites_of_lines u lines) → HasLine u lines s
+pub line_of : (u : Routine) (lines : List Line) (s : CallSite) → IsAmong s (sites_of_lines u lines) → HasLine u lines s
 line_of u [] s m = absurd (cc)
 line_of u (l ∷ lines) s m =
     among_either (sites_of u l.stmt) (sites_of_lines u lines) s m (λ h. record { line = l; is_line = (0, refl); is_site = h }) (λ h. line_behind u l lines s (line_of u lines s h))

@@ -1,67 +1,51 @@
--- Sums along the order of calls, with each unit's own needs, are enough.
-use Rattle.std.proofs.Common.{◌≡◌, ℕ, zero, suc, ◌+◌, ◌<◌, ◌≤◌, List, [], ◌∷◌, length, refl, sym, subst, arith}
-use Rattle.std.specs.Prelude.{get_or}
-use Rattle.fort_model.specs.CallOrder.{IsCallOrder}
-use Rattle.fort_model.specs.Lists.{IsAmong}
+-- Units that can be run, with their code and needs, are what runs go by.
+use Rattle.std.proofs.Common.{◌≡◌, ℕ, List, Option, Some, None, slice_get, sym, ◌∙◌, subst}
+use Rattle.std.specs.Prelude.{Result, Ok, Err, IfOk}
+use Rattle.edge_io.specs.declared.errors.NoMemory.{NoMemory}
+use Rattle.fort_syntax.specs.declared.unit.Unit.{Unit as Routine}
+use Rattle.fort_laws.proofs.DeclaredDecks.{well_at}
+use Rattle.fort_model.specs.Run.{own_sizes}
+use Rattle.run_calls.specs.Calls.{AreSizesOf}
+use Rattle.run_shapes.specs.Coded.{IsCodeOf}
 use Rattle.run_shapes.specs.declared.unit_code.Code.{Code}
-use Rattle.run_state.specs.Shows.{World, IsWorldOf}
-use Rattle.run_state.specs.declared.machine.Setting.{Setting}
-use Rattle.run_ranks.specs.Needs.{no_rank, rank_at, IsRanked}
-use Rattle.run_ranks.specs.Orders.{CallsAreOfUnits}
-use Rattle.run_ranks.specs.Sums.{AreSummed, no_totals}
-use Rattle.run_ranks.specs.Whole.{HasOwnNeeds}
+use Rattle.run_ranks.specs.Needs.{rank_at}
+use Rattle.run_ranks.specs.Owns.{fixed_sizes}
+use Rattle.run_ranks.specs.Raised.{ranks_of}
+use Rattle.run_ranks.specs.Runnable.{CanRun, IsRunnable, FitCalls}
 use Rattle.run_ranks.specs.declared.ranks.Ranks.{Ranks}
-use Rattle.run_ranks.specs.declared.ranks.UnitRank.{UnitRank}
-use Rattle.run_ranks.proofs.Ordered.{holds_code}
-use Rattle.run_ranks.proofs.Ranked.{ranked}
-use Rattle.run_ranks.proofs.Summed.{IsUnder, under}
+use Rattle.run_ranks.proofs.Apart.{apart}
+use Rattle.run_ranks.proofs.Fit.{fits}
+use Rattle.run_ranks.proofs.Ranked.{IsAt, here, beyond, at_unit, ranked, ranks_long}
+use Rattle.run_ranks.proofs.Sized.{own_sized}
+use Rattle.run_ranks.proofs.Tabled.{of_units}
 
--- a number of no unit has no needs
-beyond : (ranks : List UnitRank) (i : ℕ) → length ranks ≤ i → get_or ranks i no_rank ≡ no_rank
-beyond [] zero h = refl
-beyond [] (suc i) h = refl
-beyond (r ∷ ranks) zero h = absurd (omega arith)
-beyond (r ∷ ranks) (suc i) h = beyond ranks i (omega arith)
+not_there : (o : Option Routine) (g : Routine) → o ≡ Some g → o ≡ None → ⊥
+not_there o g a b = cc
 
-less_or : {C : Type 0} (i n : ℕ) → (i < n → C) → (n ≤ i → C) → C
-less_or i zero f g = g (omega arith)
-less_or zero (suc n) f g = f (omega arith)
-less_or (suc i) (suc n) f g = less_or i n (λ h. f (omega arith)) (λ h. g (omega arith))
+module _ (units : List Routine) (code : Code) (order : List ℕ) (ranks : Ranks) (coded : IsCodeOf code.dialect units code) (are : ranks.units ≡ ranks_of units code order)
+    (can : CanRun code.dialect units order) where
+  fit : FitCalls units
+  fit = fits code.dialect units order can
 
--- what a unit has itself is among its needs
-record HasItself (r : UnitRank) : Type 0 where
-  values : r.long ≤ r.values
-  names : r.slots ≤ r.names
-  plain : r.cells ≤ r.plain
+  sized : (i : ℕ) → AreSizesOf units i (rank_at ranks i).own
+  sized i g at env st = by (at_unit units code order ranks coded are i)
+    where
+      by : IsAt units code ranks i → (rank_at ranks i).own ≡ own_sizes g env st
+      by (here u e k) = let same : u ≡ g = (let s : Some u ≡ Some g = sym e ∙ at in cc) in k.own ∙ subst (λ (z : Routine). fixed_sizes z.names ≡ own_sizes g env st) (sym same) (own_sized code.dialect g (well_at code.dialect units i g can.formed at) env st)
+      by (beyond e r c) = absurd (not_there (slice_get units i) g at e)
 
-module _ (code : Code) (setting : Setting) (w : World) (ranks : Ranks) (order : List ℕ) (world : IsWorldOf code setting w) (summed : AreSummed code ranks no_totals order)
-    (o : IsCallOrder w.units order) (own : HasOwnNeeds code ranks) where
-  by_sums : (i : ℕ) → IsUnder ranks no_totals i → HasItself (rank_at ranks i)
-  by_sums i u =
-      let a : (rank_at ranks i).long + 0 ≤ (rank_at ranks i).values = u.values in
-      let b : (rank_at ranks i).slots + 0 ≤ (rank_at ranks i).names = u.names in
-      let c : (rank_at ranks i).cells + 0 ≤ (rank_at ranks i).plain = u.plain in
-      record { values = omega arith; names = omega arith; plain = omega arith }
-
-  itself_here : (i : ℕ) → i < length w.units → HasItself (rank_at ranks i)
-  itself_here i h = let m : IsAmong i order = o.whole i h in by_sums i (under code ranks no_totals order m.0 i m.1 summed)
-
-  itself_beyond : (i : ℕ) → length ranks.units ≤ i → HasItself (rank_at ranks i)
-  itself_beyond i h = subst HasItself (sym (beyond ranks.units i h)) (record { values = omega arith; names = omega arith; plain = omega arith })
-
-  itself : (i : ℕ) → HasItself (rank_at ranks i)
-  itself i =
-      let a : length ranks.units ≡ length code.units = own.counted in
-      let b : length code.units ≡ length w.units = world.coded.long in
-      less_or i (length w.units) (itself_here i) (λ h. itself_beyond i (omega arith))
-
-  pub whole : CallsAreOfUnits w.units → IsRanked code ranks
-  whole there = record {
-    calls = ranked code setting w ranks order world summed (holds_code w.units order o there);
-    long = own.long;
-    own = own.own;
-    slots = own.slots;
-    values = λ i. (itself i).values;
-    names = λ i. (itself i).names;
-    plain = λ i. (itself i).plain;
+  pub runnable : IsRunnable units code ranks
+  runnable = record {
+    formed = can.formed;
+    coded = coded;
+    apart = λ i u at. apart code.dialect u (well_at code.dialect units i u can.formed at);
+    fit_calls = fit;
+    ranked = ranked units code order ranks coded are can.ordered (of_units units can.rows can.callees) fit;
+    long = ranks_long units code order ranks coded are;
+    sized = sized;
   }
+
+pub if_runnable : (units : List Routine) (code : Code) (order : List ℕ) (r : Result Ranks NoMemory) → IsCodeOf code.dialect units code → CanRun code.dialect units order
+    → IfOk r (λ x. x.units ≡ ranks_of units code order) → IfOk r (IsRunnable units code)
+if_runnable units code order (Ok ranks) coded can are = runnable units code order ranks coded are can
+if_runnable units code order (Err e) coded can are = tt

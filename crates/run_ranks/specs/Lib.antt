@@ -1,7 +1,8 @@
 pub mod Needs
 pub mod Room
 pub mod Laws
-pub mod Sums
 pub mod Fitting
 pub mod Orders
-pub mod Whole
+pub mod Runnable
+pub mod Owns
+pub mod Raised

@@ -1,13 +1,17 @@
 -- The order of calls has each called unit before its callers.
-use Rattle.std.specs.Prelude.{ℕ, ◌≡◌, List, Some, slice_get}
+use Rattle.std.specs.Prelude.{ℕ, ◌≡◌, List, ◌∷◌, Some, slice_get}
 use Rattle.fort_syntax.specs.declared.unit.Unit.{Unit as Routine}
 use Rattle.fort_model.specs.CallFacts.{sites_of_unit, IsCalleesTable}
 use Rattle.fort_model.specs.CallOrder.{IsCallOrder}
 use Rattle.fort_model.specs.Calls.{CallSite, Calls, callee_of}
 use Rattle.fort_model.specs.Lists.{IsAmong}
-use Rattle.run_ranks.specs.Fitting.{CallsStandEarlier}
-use Rattle.run_ranks.specs.Sums.{StandsBefore}
 
+-- a unit stands before another one
+pub data StandsBefore (j i : ℕ) : List ℕ → Type 0 where
+  first : (is : List ℕ) → IsAmong i is → StandsBefore j i (j ∷ is)
+  later : (k : ℕ) (is : List ℕ) → StandsBefore j i is → StandsBefore j i (k ∷ is)
+
+-- a unit stands before those that call it
 abbrev pub CallersStandLater : Type 0
 CallersStandLater = (units : List Routine) (order : List ℕ) (i j : ℕ) → IsCallOrder units order → Calls units i j
     → StandsBefore j i order
@@ -23,11 +27,6 @@ pub record IsOfUnit (units : List Routine) (s : CallSite) : Type 0 where
 abbrev pub CallsAreOfUnits : List Routine → Type 0
 CallsAreOfUnits units = (i : ℕ) (u : Routine) (s : CallSite) → slice_get units i ≡ Some u
     → IsAmong s (sites_of_unit u) → IsOfUnit units s
-
--- then each call of code is of a unit that stands earlier
-abbrev pub OrdersHoldCode : Type 0
-OrdersHoldCode = (units : List Routine) (order : List ℕ) → IsCallOrder units order → CallsAreOfUnits units
-    → CallsStandEarlier units order
 
 -- a table of callees says that each call is of a unit
 abbrev pub TablesNameUnits : Type 0
