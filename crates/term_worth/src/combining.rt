@@ -57,6 +57,7 @@ fn put_made(machine: &mut Machine, count: usize, cells: edge_io::List<Cell>) -> 
 }
 
 /// Puts a value at the end, where it is in range.
+#[inline(always)]
 pub fn put_ranged(machine: &mut Machine, held: Held) -> Result<(), Worth>
     ensures ok { OnOk result ((held_small held ≡ true)
         × (machine.new ≡ record machine.old { values = machine.old.values ++ held ∷ [] })) }
@@ -71,6 +72,7 @@ pub fn put_ranged(machine: &mut Machine, held: Held) -> Result<(), Worth>
 }
 
 /// Whether a value is no number out of range.
+#[inline(always)]
 fn is_small(held: Held) -> bool
     ensures { result ≡ held_small held }
 {

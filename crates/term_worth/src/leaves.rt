@@ -14,6 +14,7 @@ use crate::{Sheet, Worth};
 use formula::{Definitions, Node, TermId, TermPool};
 
 /// Whether a node is no function.
+#[inline(always)]
 fn is_leaf(node: &Node) -> bool
     ensures { result ≡ leaves.is_leaf node.now }
 {
@@ -24,6 +25,7 @@ fn is_leaf(node: &Node) -> bool
 }
 
 /// The value of a node that is no function; undefined for a function.
+#[inline(always)]
 pub fn leaf_value(definitions: &Definitions, sheet: &Sheet, scope: &Scope, node: &Node) -> Held
     ensures value { (made : List (List Cell)) → value_of sheet.now made result ≡ leaves.leaf_value
         (symbols_of definitions.now sheet.now made scope.now) node.now }
@@ -55,13 +57,17 @@ pub fn put_leaves(
         sheet.now args.now machine.old }
     ensures not_spent { result ≢ Err Worth.Spent }
 {
+    machine.values.make_room(args.len())?;
     let mut ready = 0;
     while ready < args.len() {
         let node = pool.node(args[ready]);
         if !is_leaf(node) {
             return Ok(ready);
         }
-        let held = leaf_value(definitions, sheet, &machine.scope, node);
+        let held = match node {
+            Node::Num(n) => Held::Int(*n),
+            _ => leaf_value(definitions, sheet, &machine.scope, node),
+        };
         put_ranged(machine, held)?;
         ready += 1;
     }

@@ -77,6 +77,7 @@ pub fn first(values: &[Held]) -> Held
 }
 
 /// Puts a value at the end.
+#[inline(always)]
 pub fn put(machine: &mut Machine, held: Held) -> Result<(), NoMemory>
     ensures { OnOk result (machine.new ≡ record machine.old { values = machine.old.values ++ held ∷ [] }) }
 {

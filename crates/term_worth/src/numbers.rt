@@ -9,6 +9,7 @@ use formula::BuiltIn;
 const LIMIT: i128 = 1 << 120;
 
 /// The number, where it is within the limits.
+#[inline(always)]
 pub(crate) fn ranged(n: i128) -> Option<i128>
     ensures { result ≡ in_range n }
 {

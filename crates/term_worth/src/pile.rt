@@ -40,10 +40,21 @@ impl<X: Drop> Pile<X> {
     }
 
     /// Puts an item at the end.
+    #[inline(always)]
     pub fn push(&mut self, item: X) -> Result<(), NoMemory>
         ensures { OnOk result (self.new ≡ self.old ++ item ∷ []) }
     {
         let Ok(()) = self.items.push(item) else {
+            return Err(NoMemory);
+        };
+        Ok(())
+    }
+
+    /// Takes memory for so many items more, and puts none.
+    pub fn make_room(&mut self, count: usize) -> Result<(), NoMemory>
+        ensures { OnOk result (self.new ≡ self.old) }
+    {
+        let Ok(()) = self.items.reserve(count) else {
             return Err(NoMemory);
         };
         Ok(())
