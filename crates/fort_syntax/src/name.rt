@@ -118,14 +118,15 @@ impl Ord for Name {
 
 impl Hash for Name {
     ghost use Rattle.std.specs.Hash as fed;
-    ghost use Rattle.std.specs.Cmp.Rules.{hashing};
-    ghost use Rattle.std.proofs.Common.{rules};
+    ghost use Rattle.std.specs.Hash.{same_Alike};
+    ghost use Rattle.std.specs.Cmp.Lexicographic.{bytes_decides};
 
-    ghost hash_input = { fed.slice fed.u8 };
+    ghost hash_input = { fed.str };
 
-    ghost respects_eq = { Prim.search (hashing, rules) };
+    ghost respects_eq = { (same_Alike fed.str bytes_decides).fed };
 
     fn hash<H: Hasher>(&self, state: &mut H) {
-        self.as_bytes().hash(state);
+        state.write(self.as_bytes());
+        state.write_u8(255);
     }
 }
