@@ -1,25 +1,20 @@
 -- Names that are set to what they stand for at the entry, one after another.
-use Rattle.std.proofs.Common.{◌≡◌, ℕ, zero, suc, ◌<◌, Bool, true, false, cond, ◌||◌, Option, Some, None, List, [], ◌∷◌, ◌++◌, length, drop, get_or, refl, sym, ap, ◌∙◌, subst, arith}
-use Rattle.std.specs.Cmp.Lexicographic.{same_text, nat_list_eq_equiv}
+use Rattle.std.proofs.Common.{◌≡◌, ℕ, zero, suc, ◌<◌, Bool, true, false, cond, ◌||◌, Some, List, [], ◌∷◌, ◌++◌, length, drop, get_or, refl, sym, ap, ◌∙◌, subst, arith}
+use Rattle.std.specs.Cmp.Lexicographic.{same_text}
 use Rattle.formula.specs.Atoms.{is_among, same_bytes}
 use Rattle.formula.specs.Pool.{AllBelow, Grows, IsIn, tree_of}
 use Rattle.formula.specs.Tree.{Tree}
 use Rattle.formula.specs.declared.node.Node.{Node}
 use Rattle.formula.specs.declared.node.TermId.{TermId}
 use Rattle.formula.proofs.Grown.{Grows-refl, Grows-trans, tree_of-Grows}
-use Rattle.fort_model.specs.Conditions.{sight}
 use Rattle.fort_model.specs.Fitting.{any_role}
-use Rattle.fort_model.specs.Program.{Program}
-use Rattle.fort_model.specs.Seen.{Named}
-use Rattle.fort_model.specs.Senses.{of_terms}
-use Rattle.fort_model.specs.Walk.{at_entry}
 use Rattle.fort_model.specs.WalkStmt.{with_name}
 use Rattle.fort_syntax.specs.Names.{data_name_in, has_role}
 use Rattle.fort_syntax.specs.declared.name.Name.{Name}
 use Rattle.fort_syntax.specs.declared.unit.DataName.{DataName}
 use Rattle.walk_names.specs.declared.names.Logged.{Logged}
 use Rattle.walk_names.specs.declared.names.Names.{Names}
-use Rattle.walk_names.specs.Names.{AreLogged, Extends, IsNames, IsSame, IsSet, entry_of, named, named_by, past}
+use Rattle.walk_names.specs.Names.{AreLogged, Extends, IsNames, IsSame, IsSet, entry_of, named, named_by}
 use Rattle.walk_names.proofs.NameTables.{extends_more, extends_not, same_grows}
 use Rattle.entry_frames.specs.Entries.{AreGoodShapes, HasGoodShape, HasNames, IsEntered, IsOneSet, at_entry_in, entry_with, value_of}
 use Rattle.entry_frames.specs.Laws.{EntriesAreAtEntry}

@@ -1,5 +1,5 @@
 -- Frames.
-use Rattle.std.proofs.Common.{◌≡◌, ℕ, zero, suc, ◌≤◌, Bool, true, false, ◌||◌, Option, Some, None, List, [], ◌∷◌, ◌++◌, length, is_some, if◌then◌else◌, refl, sym, ap, ◌∙◌, subst, arith}
+use Rattle.std.proofs.Common.{◌≡◌, ◌≤◌, Bool, true, false, ◌||◌, Option, Some, List, [], ◌∷◌, ◌++◌, length, is_some, if◌then◌else◌, refl, sym, ap, ◌∙◌, subst, arith}
 use Rattle.std.proofs.lemmas.Grind.{common_steps}
 use Rattle.formula.specs.Atoms.{is_among, same_bytes}
 use Rattle.formula.specs.Pool.{AllBelow, Grows}
@@ -8,18 +8,14 @@ use Rattle.formula.specs.Tree.{Tree}
 use Rattle.formula.specs.declared.node.Node.{Node}
 use Rattle.formula.specs.declared.node.TermId.{TermId}
 use Rattle.formula.proofs.Grown.{AllBelow-Grows}
-use Rattle.fort_model.specs.Fitting.{any_role}
 use Rattle.fort_model.specs.Seen.{Named}
-use Rattle.fort_syntax.specs.Names.{data_name, has_role}
 use Rattle.fort_syntax.specs.declared.name.Name.{Name}
 use Rattle.fort_syntax.specs.declared.unit.Unit.{Unit as Routine}
-use Rattle.note_terms.specs.Stated.{has_entry}
 use Rattle.walk_names.specs.declared.names.Names.{Names}
 use Rattle.walk_names.specs.Names.{Extends, IsNames, entry_of, named, named_by}
 use Rattle.walk_names.proofs.NameTables.{named_grows, names_grow}
 use Rattle.entry_frames.proofs.Entered.{among_extends}
-use Rattle.entry_frames.specs.declared.frame.Frame.{Frame}
-use Rattle.entry_frames.specs.Entries.{IsEntered, IsFrame, at_entry_in}
+use Rattle.entry_frames.specs.Entries.{HasNames, IsFrame, at_entry_in}
 
 -- a name of a table has a term
 has_term : (table : List Name) (ids : List TermId) (x : Name) → length table ≡ length ids → is_among x table ≡ true → is_some (term_named table ids x) ≡ true
@@ -44,45 +40,46 @@ longer old new e =
     let long : length new ≡ length (old ++ e.added) = ap length e.is in
     grind (arith, common_steps)
 
-pub framed : (p0 p1 : List Node) (n0 : Names) (u : Routine) (f : Frame) → IsEntered p0 n0 p1 f.names u.names → f.entry.items ≡ f.names.terms.items → IsFrame p1 u f (at_entry_in u.names)
-framed p0 p1 n0 u f h e =
-    let count : length f.names.table ≡ length f.entry.items = h.kept.count ∙ sym (ap length e) in
-    record {
-      kept = h.kept;
-      stand = h.now;
-      has = h.has;
-      terms = λ x k. has_term f.names.table f.entry.items x count (h.has x k);
-      count = omega (arith, count);
-      below = subst (AllBelow (length p1)) (sym e) h.kept.terms;
-      entry = (λ i. named_by p1 f.names.table (e i)) ∙ h.now;
-    }
-
-pub frame_grows : (p0 p1 : List Node) (u : Routine) (f : Frame) (now : Named Tree) → Grows p0 p1 → IsFrame p0 u f now → IsFrame p1 u f now
-frame_grows p0 p1 u f now g h = record {
-  kept = names_grow p0 p1 f.names g h.kept;
-  stand = named_grows p0 p1 f.names.table f.names.terms.items g h.kept.terms ∙ h.stand;
-  has = h.has;
-  terms = h.terms;
-  count = h.count;
-  below = AllBelow-Grows p0 p1 f.entry.items g h.below;
-  entry = named_grows p0 p1 f.names.table f.entry.items g h.below ∙ h.entry;
-}
-
--- its names stand for something else now
-pub frame_set : (p0 p1 : List Node) (u : Routine) (f later : Frame) (was now : Named Tree) → Grows p0 p1 → IsFrame p0 u f was → IsNames p1 later.names → named p1 later.names ≡ now
-    → Extends f.names.table later.names.table → later.entry.items ≡ f.entry.items → IsFrame p1 u later now
-frame_set p0 p1 u f later was now g h kept stand e same =
-    let more = longer f.names.table later.names.table e in
-    let still : (x : Name) → term_named later.names.table later.entry.items x ≡ term_named f.names.table f.entry.items x =
-    λ x. (λ i. term_named (e.is i) (same i) x) ∙ term_extends f.names.table e.added f.entry.items x h.count in
+pub framed : (nodes : List Node) (u : Routine) (names : Names) (entry : List TermId) → IsNames nodes names → named nodes names ≡ at_entry_in u.names → HasNames u.names names.table
+    → entry ≡ names.terms.items → IsFrame nodes u names entry (at_entry_in u.names)
+framed nodes u names entry kept stand has e =
+    let count : length names.table ≡ length entry = kept.count ∙ sym (ap length e) in
     record {
       kept = kept;
       stand = stand;
-      has = λ x k. among_extends f.names.table later.names.table x e (h.has x k);
+      has = has;
+      terms = λ x k. has_term names.table entry x count (has x k);
+      count = omega (arith, count);
+      below = subst (AllBelow (length nodes)) (sym e) kept.terms;
+      entered = (λ i. named_by nodes names.table (e i)) ∙ stand;
+    }
+
+pub frame_grows : (p0 p1 : List Node) (u : Routine) (names : Names) (entry : List TermId) (now : Named Tree) → Grows p0 p1 → IsFrame p0 u names entry now → IsFrame p1 u names entry now
+frame_grows p0 p1 u names entry now g h = record {
+  kept = names_grow p0 p1 names g h.kept;
+  stand = named_grows p0 p1 names.table names.terms.items g h.kept.terms ∙ h.stand;
+  has = h.has;
+  terms = h.terms;
+  count = h.count;
+  below = AllBelow-Grows p0 p1 entry g h.below;
+  entered = named_grows p0 p1 names.table entry g h.below ∙ h.entered;
+}
+
+-- its names stand for something else now
+pub frame_set : (p0 p1 : List Node) (u : Routine) (names later : Names) (entry : List TermId) (was now : Named Tree) → Grows p0 p1 → IsFrame p0 u names entry was → IsNames p1 later
+    → named p1 later ≡ now → Extends names.table later.table → IsFrame p1 u later entry now
+frame_set p0 p1 u names later entry was now g h kept stand e =
+    let more = longer names.table later.table e in
+    let still : (x : Name) → term_named later.table entry x ≡ term_named names.table entry x =
+    λ x. (λ i. term_named (e.is i) entry x) ∙ term_extends names.table e.added entry x h.count in
+    record {
+      kept = kept;
+      stand = stand;
+      has = λ x k. among_extends names.table later.table x e (h.has x k);
       terms = λ x k. ap is_some (still x) ∙ h.terms x k;
-      count = let c : length f.entry.items ≤ length later.names.table = omega (arith, h.count, more) in subst (λ (ids : List TermId). length ids ≤ length later.names.table) (sym same) c;
-      below = subst (AllBelow (length p1)) (sym same) (AllBelow-Grows p0 p1 f.entry.items g h.below);
-      entry =
+      count = omega (arith, h.count, more);
+      below = AllBelow-Grows p0 p1 entry g h.below;
+      entered =
           (λ i x. tree_or p1 (still x i) (entry_of x))
-          ∙ (named_grows p0 p1 f.names.table f.entry.items g h.below ∙ h.entry);
+          ∙ (named_grows p0 p1 names.table entry g h.below ∙ h.entered);
     }

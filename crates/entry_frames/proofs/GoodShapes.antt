@@ -1,13 +1,13 @@
 -- The dimensions of a well-formed unit.
 use Rattle.std.proofs.Common.{◌≡◌, ℕ, ◌≤◌, ◌*◌, Bool, true, false, not, ◌&&◌, ◌||◌, nat_lt, Option, Some, None, is_some, option_map, List, [], ◌∷◌, length, refl, sym, ◌∙◌, true≢false, arith}
-use Rattle.std.specs.Prelude.{IfSome, IsTrue, cond}
+use Rattle.std.specs.Prelude.{IfSome, cond}
 use Rattle.formula.specs.Atoms.{is_among, same_bytes}
 use Rattle.fort_syntax.specs.Names.{data_name_in, is_own}
 use Rattle.fort_syntax.specs.declared.name.Name.{Name}
 use Rattle.std.specs.List.{list_all, list_any}
 use Rattle.std.proofs.lemmas.Grind.{common_steps}
 use Rattle.fort_syntax.specs.NameRules.{fixed_size, is_bad_shape, is_zero_dim, most_dims}
-use Rattle.fort_syntax.specs.WellFormed.{IsWellFormedUnit, has_right_dims, same_role, scope_of_unit}
+use Rattle.fort_syntax.specs.WellFormed.{has_right_dims, same_role, scope_of_unit}
 use Rattle.fort_syntax.specs.Scopes.{is_integer_scalar}
 use Rattle.fort_syntax.specs.Units.{names_in_dims}
 use Rattle.fort_model.specs.WalkPlaces.{size_if_fixed}

@@ -5,6 +5,7 @@ use Rattle.formula.specs.Atoms.{is_among}
 use Rattle.formula.specs.Pool.{AllBelow, Grows}
 use Rattle.formula.specs.Tree.{Tree}
 use Rattle.formula.specs.declared.node.Node.{Node}
+use Rattle.formula.specs.declared.node.TermId.{TermId}
 use Rattle.fort_model.specs.Fitting.{any_role}
 use Rattle.fort_model.specs.Seen.{Named}
 use Rattle.fort_model.specs.Senses.{of_terms}
@@ -18,7 +19,6 @@ use Rattle.note_terms.specs.Laws.{HasDataNames, HasEntryTerms}
 use Rattle.walk_names.specs.declared.names.Names.{Names}
 use Rattle.walk_names.specs.Names.{Extends, IsNames, entry_of, named, named_by, past}
 use Rattle.walk_places.specs.Shapes.{IsGoodShape}
-use Rattle.entry_frames.specs.declared.frame.Frame.{Frame}
 
 -- a name stands for new cells where it is the own data name of a unit, and else for the symbol of its entry value
 abbrev pub entry_with : Option DataName → Named Tree
@@ -65,12 +65,13 @@ pub record IsEntered (old_nodes : List Node) (old : Names) (new_nodes : List Nod
   pub extends : Extends old.table new.table
   pub has : HasNames ds new.table
 
--- a frame of a unit, whose names stand for something now
-pub record IsFrame (nodes : List Node) (u : Routine) (f : Frame) (now : Named Tree) : Type 0 where
-  pub kept : IsNames nodes f.names
-  pub stand : named nodes f.names ≡ now
-  pub has : HasDataNames u f.names.table
-  pub terms : HasEntryTerms u f.names.table f.entry.items
-  pub count : length f.entry.items ≤ length f.names.table
-  pub below : AllBelow (length nodes) f.entry.items
-  pub entry : named_by nodes f.names.table f.entry.items ≡ at_entry_in u.names
+-- names have all data names of a unit and stand for something now, and terms that stand at the places of its
+-- data names are what these stand for at its entry
+pub record IsFrame (nodes : List Node) (u : Routine) (names : Names) (entry : List TermId) (now : Named Tree) : Type 0 where
+  pub kept : IsNames nodes names
+  pub stand : named nodes names ≡ now
+  pub has : HasDataNames u names.table
+  pub terms : HasEntryTerms u names.table entry
+  pub count : length entry ≤ length names.table
+  pub below : AllBelow (length nodes) entry
+  pub entered : named_by nodes names.table entry ≡ at_entry_in u.names

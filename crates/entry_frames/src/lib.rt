@@ -2,9 +2,7 @@
 #![tactic(auto)]
 
 mod entry;
-mod frame;
 mod laws;
 
 pub use entry::entry_names;
-pub use frame::Frame;
 pub use laws::{entries_are_at_entry, well_formed_units_have_good_shapes};

@@ -6,7 +6,6 @@ mod clock;
 mod falls;
 mod find;
 mod notes;
-mod now;
 
 pub use arrivals::arrive;
 pub use clock::{Clock, Last};

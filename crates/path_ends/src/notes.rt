@@ -9,28 +9,28 @@ ghost use Rattle.walk_state.specs.Moments.{Did, Follows, IsWalk, moment};
 use crate::clock::Clock;
 use crate::falls::check_fall;
 use edge_io::NoMemory;
-use entry_frames::Frame;
 use formula::TermId;
 use fort_syntax::Kind;
 use note_terms::{at_least_zero, note_terms};
 use walk_lists::check_all;
 use walk_state::Walk;
 
-/// Terms of a note are checks of a kind at a card, in order.
+/// Terms of a note are checks of a kind at a card, in order. The terms of the entry are those that
+/// the walk's names stood for there, at their places.
 pub(crate) fn check_notes(
     walk: &mut Walk,
-    frame: &Frame,
+    entry: &[TermId],
     kind: Kind,
     card: u32,
     ids: &[TermId],
 ) -> Result<(), NoMemory>
     requires well { IsWalk walk.old }
-    requires terms { IsStartOf walk.old frame.now ids.now }
+    requires terms { IsStartOf walk.old entry.now ids.now }
     ensures on { OnOk result (Follows walk.old walk.new) }
     ensures did { OnOk result (Did (moment walk.old)
-        (meet (checks kind card (told_by walk.old.pool frame.now ids.now))) (moment walk.new) tt) }
+        (meet (checks kind card (told_by walk.old entry.now ids.now))) (moment walk.new) tt) }
 {
-    let Ok(goals) = note_terms(walk.alloc, &mut walk.pool, &frame.names, &frame.entry, ids) else {
+    let Ok(goals) = note_terms(walk.alloc, &mut walk.pool, &walk.names, entry, ids) else {
         return Err(NoMemory);
     };
     let Ok(()) = check_all(walk, kind, card, &goals) else {
@@ -42,20 +42,20 @@ pub(crate) fn check_notes(
 /// No part of a clock is negative; and the clock has fallen.
 pub(crate) fn check_clock(
     walk: &mut Walk,
-    frame: &Frame,
+    entry: &[TermId],
     card: u32,
     clock: &Option<Clock>,
     ids: &[TermId],
 ) -> Result<(), NoMemory>
     requires well { IsWalk walk.old }
-    requires terms { IsStartOf walk.old frame.now ids.now }
+    requires terms { IsStartOf walk.old entry.now ids.now }
     requires clock { IsClockIn (length walk.old.pool) clock.now }
     ensures on { OnOk result (Follows walk.old walk.new) }
     ensures did { OnOk result (Did (moment walk.old)
         (meet (clock_checks card (clock_trees walk.old.pool clock.now)
-        (told_by walk.old.pool frame.now ids.now))) (moment walk.new) tt) }
+        (told_by walk.old entry.now ids.now))) (moment walk.new) tt) }
 {
-    let Ok(parts) = note_terms(walk.alloc, &mut walk.pool, &frame.names, &frame.entry, ids) else {
+    let Ok(parts) = note_terms(walk.alloc, &mut walk.pool, &walk.names, entry, ids) else {
         return Err(NoMemory);
     };
     let Ok(goals) = at_least_zero(walk.alloc, &mut walk.pool, &parts) else {

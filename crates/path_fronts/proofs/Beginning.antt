@@ -31,7 +31,7 @@ use Rattle.walk_state.specs.Moments.{Did, Follows, Moment, at_first, moment}
 use Rattle.way_walks.specs.Along.{along, gone, stops}
 
 abbrev pub front_of : Begun → Option Clock → List Mark → ℕ → Front
-front_of b clock marks start = record { walk = b.walk; clock = clock; marks = marks; start = start }
+front_of b clock marks start = record { walk = b.walk; entry = b.entry; clock = clock; marks = marks; start = start }
 
 module _ (plan : Plan) (pool : List Node) (start : ℕ) (b0 b1 : Begun) (clock : Option Clock) (marks : List Mark) (none : marks ≡ []) (begun : HasBegun plan pool b0) (on : Follows b0.walk b1.walk)
     (sets : Sets plan start b0.walk b1 clock) (ready : (p : Program) × IsReady pool plan.setting.now.scene.now p) where
@@ -46,6 +46,7 @@ module _ (plan : Plan) (pool : List Node) (start : ℕ) (b0 b1 : Begun) (clock :
     well = on.kept;
     clock = sets.inside;
     places = subst (λ (ms : List Mark). ArePlaces steps 0 ms) (sym none) tt;
+    told = λ mark more e. sets.framed;
     parts = λ p r. sets.parts p (ready_back p r);
     marked = λ p r.
         let w = seen_from plan.setting.now p in

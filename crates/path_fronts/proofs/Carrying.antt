@@ -1,6 +1,8 @@
 -- A walk with marks goes on.
 use Rattle.std.proofs.Common.{◌≡◌, ℕ, suc, ◌<◌, ◌≤◌, List, [], ◌∷◌, ◌++◌, length, refl, sym, ap, ◌∙◌, subst, arith}
+use Rattle.entry_frames.proofs.Frames.{frame_set}
 use Rattle.formula.specs.Pool.{Grows}
+use Rattle.formula.proofs.Grown.{Grows-refl}
 use Rattle.formula.specs.Tree.{Tree}
 use Rattle.formula.specs.declared.node.Node.{Node}
 use Rattle.fort_model.specs.Events.{Event}
@@ -9,14 +11,16 @@ use Rattle.fort_model.specs.Seen.{Named}
 use Rattle.path_cut.specs.declared.step.Step.{Step}
 use Rattle.path_ends.proofs.Checked.{clock_grows, clock_in_grows}
 use Rattle.path_fronts.proofs.Marks.{marks_on}
-use Rattle.path_fronts.specs.Fronts.{AreMarks, ArePlaces, IsFront, Reaches, set_out_at, total}
+use Rattle.path_fronts.specs.Fronts.{AreMarks, ArePlaces, HasEntry, IsFront, Reaches, set_out_at, total}
 use Rattle.shared_fronts.specs.Firsts.{HasAt}
 use Rattle.path_fronts.specs.declared.front.Front.{Front}
 use Rattle.path_fronts.specs.declared.front.Mark.{Mark}
 use Rattle.path_scene.proofs.Staying.{scene_stays}
 use Rattle.path_scene.specs.Scenes.{IsReady}
 use Rattle.path_scene.specs.declared.scene.Scene.{Scene}
-use Rattle.walk_names.specs.Names.{IsKept}
+use Rattle.path_starts.proofs.Begun.{frame_on}
+use Rattle.walk_names.proofs.NameTables.{extends_not}
+use Rattle.walk_names.specs.Names.{Extends, IsKept, named}
 use Rattle.walk_names.specs.declared.names.Names.{Names}
 use Rattle.walk_setting.specs.Settings.{seen_from}
 use Rattle.walk_setting.specs.declared.setting.Setting.{Setting}
@@ -53,7 +57,7 @@ places_below steps m n (mark ∷ marks) le h =
     let less : mark.place < n = omega (arith, lt, le) in ((less, h.0.1), h.1)
 
 pub front_below : (s : Setting) (steps : List Step) (m n : ℕ) (f : Front) → m ≤ n → IsFront s steps m f → IsFront s steps n f
-front_below s steps m n f le h = record { well = h.well; clock = h.clock; places = places_below steps m n f.marks le h.places; parts = h.parts; marked = h.marked }
+front_below s steps m n f le h = record { well = h.well; clock = h.clock; places = places_below steps m n f.marks le h.places; told = h.told; parts = h.parts; marked = h.marked }
 
 -- a walk met more, and its names were not marked
 pub record GoesOn (m1 m2 : Moment) : Type 0 where
@@ -62,7 +66,7 @@ pub record GoesOn (m1 m2 : Moment) : Type 0 where
   pub events : m2.events ≡ m1.events ++ more
 
 abbrev pub with_walk : Front → Walk → Front
-with_walk f w = record { walk = w; clock = f.clock; marks = f.marks; start = f.start }
+with_walk f w = record { walk = w; entry = f.entry; clock = f.clock; marks = f.marks; start = f.start }
 
 pub front_on : (s : Setting) (steps : List Step) (bound : ℕ) (f : Front) (w : Walk) → ((p : Program) × IsReady f.walk.pool s.scene.now p) → IsFront s steps bound f → Follows f.walk w
     → ((p : Program) → IsReady f.walk.pool s.scene.now p → GoesOn (moment f.walk) (moment w)) → IsFront s steps bound (with_walk f w)
@@ -72,6 +76,7 @@ front_on s steps bound f w ready h on goes =
       well = on.kept;
       clock = clock_in_grows f.walk.pool w.pool f.clock on.grows h.clock;
       places = h.places;
+      told = λ mark more e. frame_on f.walk w s.book.now.unit.now f.entry.items (moment f.walk).now on (h.told mark more e);
       parts = λ p r. clock_grows f.walk.pool w.pool f.clock on.grows h.clock ∙ h.parts p (before p r);
       marked = λ p r.
           let q = before p r in
@@ -95,6 +100,7 @@ append_nothing (e ∷ es) = ap (λ (fs : List (Event Tree)). e ∷ fs) (append_n
 abbrev pub with_mark : Front → Names → Mark → Front
 with_mark f names mark = record {
   walk = record { pool = f.walk.pool; names = names; met = f.walk.met; calls = f.walk.calls; alloc = f.walk.alloc };
+  entry = f.entry;
   clock = f.clock;
   marks = mark ∷ f.marks;
   start = f.start;
@@ -103,14 +109,20 @@ with_mark f names mark = record {
 abbrev pub mark_at : Front → ℕ → ℕ → Mark
 mark_at f k card = record { place = k; met = length f.walk.met.items; calls = f.walk.calls; card = card }
 
-pub front_marked : (s : Setting) (steps : List Step) (k card : ℕ) (f : Front) (names : Names) → IsKept f.walk.pool f.walk.names names → IsFront s steps k f → Reaches s steps k card f → HasAt steps k
+pub told_marked : (s : Setting) (f : Front) (names : Names) (mark : Mark) → IsKept f.walk.pool f.walk.names names → HasEntry s f → HasEntry s (with_mark f names mark)
+told_marked s f names mark kept entry =
+    frame_set f.walk.pool f.walk.pool s.book.now.unit.now f.walk.names names f.entry.items (moment f.walk).now (named f.walk.pool names) (Grows-refl f.walk.pool) entry kept.kept refl
+    (subst (λ (table : List (List ℕ)). Extends f.walk.names.table table) (sym kept.table) (extends_not f.walk.names.table))
+
+pub front_marked : (s : Setting) (steps : List Step) (k card : ℕ) (f : Front) (names : Names) → IsKept f.walk.pool f.walk.names names → HasEntry s f → IsFront s steps k f → Reaches s steps k card f → HasAt steps k
     → IsFront s steps (suc k) (with_mark f names (mark_at f k card))
-front_marked s steps k card f names kept h reaches has =
+front_marked s steps k card f names kept entry h reaches has =
     let less : k < suc k = omega arith in
     record {
       well = record { names = kept.kept; met = h.well.met };
       clock = h.clock;
       places = ((less, has), h.places);
+      told = λ mark more e. told_marked s f names (mark_at f k card) kept entry;
       parts = h.parts;
       marked = λ p r.
           let sight = seen_from s p in

@@ -1,8 +1,13 @@
 -- A walk that goes back to a mark.
 use Rattle.std.proofs.Common.{◌≡◌, ℕ, zero, suc, Option, List, [], ◌∷◌, ◌++◌, length, take, refl, sym, ap, ◌∙◌, subst}
 use Rattle.std.proofs.Math.Seq.{take-append_seam}
+use Rattle.entry_frames.proofs.Frames.{frame_set}
+use Rattle.entry_frames.specs.Entries.{IsFrame}
+use Rattle.formula.specs.Pool.{Grows}
 use Rattle.formula.specs.Tree.{Tree}
 use Rattle.formula.specs.declared.node.Node.{Node}
+use Rattle.formula.specs.declared.node.TermId.{TermId}
+use Rattle.formula.proofs.Grown.{Grows-refl}
 use Rattle.fort_model.specs.Events.{Event}
 use Rattle.fort_model.specs.Program.{Program}
 use Rattle.fort_model.specs.Seen.{Named}
@@ -10,13 +15,14 @@ use Rattle.fort_model.specs.WalkCalls.{Sight}
 use Rattle.path_cut.specs.declared.step.Step.{Step}
 use Rattle.path_ends.specs.Ends.{IsClockIn, clock_trees}
 use Rattle.path_ends.specs.declared.clock.Clock.{Clock}
-use Rattle.path_fronts.specs.Fronts.{AreMarks, ArePlaces, IsAt, IsFront, IsMark, Leads, set_out_at}
+use Rattle.path_fronts.specs.Fronts.{AreMarks, ArePlaces, HasEntry, IsAt, IsFront, IsMark, Leads, set_out_at}
 use Rattle.shared_fronts.specs.Firsts.{firsts}
 use Rattle.path_fronts.specs.declared.front.Front.{Front}
 use Rattle.path_fronts.specs.declared.front.Mark.{Mark}
 use Rattle.path_openings.specs.Openings.{clock_from}
 use Rattle.path_scene.specs.Scenes.{IsReady}
-use Rattle.walk_names.specs.Names.{IsBack, IsNames, named, past}
+use Rattle.walk_names.proofs.NameTables.{extends_not}
+use Rattle.walk_names.specs.Names.{Extends, IsBack, IsNames, named, past}
 use Rattle.walk_setting.specs.Settings.{seen_from}
 use Rattle.walk_setting.specs.declared.setting.Setting.{Setting}
 use Rattle.walk_state.specs.Moments.{AreMet, IsWalk, Moment, answers_after, event_in, events_in, moment}
@@ -66,7 +72,7 @@ walk_cut w m0 front w0 w1 mark k h c =
     }
 
 -- a front that went back to its last mark
-module _ (s : Setting) (steps : List Step) (bound : ℕ) (f0 f1 : Front) (mark : Mark) (ms : f0.marks ≡ mark ∷ f1.marks) (c : IsCut f0.walk mark f1.walk) (clock : f1.clock ≡ f0.clock) (start : f1.start ≡ f0.start)
+module _ (s : Setting) (steps : List Step) (bound : ℕ) (f0 f1 : Front) (mark : Mark) (ms : f0.marks ≡ mark ∷ f1.marks) (c : IsCut f0.walk mark f1.walk) (items : f1.entry.items ≡ f0.entry.items) (clock : f1.clock ≡ f0.clock) (start : f1.start ≡ f0.start)
     (ready : (p : Program) × IsReady f0.walk.pool s.scene.now p) (h : IsFront s steps bound f0) where
   ready_there : (p : Program) → IsReady f1.walk.pool s.scene.now p → IsReady f0.walk.pool s.scene.now p
   ready_there p r = subst (λ (nodes : List Node). IsReady nodes s.scene.now p) c.pool r
@@ -96,15 +102,33 @@ module _ (s : Setting) (steps : List Step) (bound : ℕ) (f0 f1 : Front) (mark :
       subst (λ (n : ℕ). Leads w (set_out_at w n) (firsts mark.place steps) mark.card (moment f1.walk)) (sym start)
       (subst (λ (m : Moment). Leads w (set_out_at w f0.start) (firsts mark.place steps) mark.card m) (sym (moment_there p q)) (marks_there p q).0.leads)
 
+  well_there : IsWalk f1.walk
+  well_there = walk_cut (seen_from s ready.0) (set_out_at (seen_from s ready.0) f0.start) (firsts mark.place steps) f0.walk f1.walk mark (marks_there ready.0 ready.1).0 h.well c
+
+  table_there : f1.walk.names.table ≡ f0.walk.names.table
+  table_there =
+      let k = (marks_there ready.0 ready.1).0 in
+      (c.names f0.walk.pool k.at.now k.at.past h.well.names k.names).table
+
+  told_there : HasEntry s f1
+  told_there =
+      let u = s.book.now.unit.now in
+      let same : Grows f0.walk.pool f1.walk.pool = subst (λ (nodes : List Node). Grows f0.walk.pool nodes) (sym c.pool) (Grows-refl f0.walk.pool) in
+      let extends : Extends f0.walk.names.table f1.walk.names.table = subst (λ (table : List (List ℕ)). Extends f0.walk.names.table table) (sym table_there) (extends_not f0.walk.names.table) in
+      subst (λ (ids : List TermId). IsFrame f1.walk.pool u f1.walk.names ids (moment f1.walk).now) (sym items)
+      (frame_set f0.walk.pool f1.walk.pool u f0.walk.names f1.walk.names f0.entry.items (moment f0.walk).now (moment f1.walk).now same (h.told mark f1.marks ms) well_there.names refl extends)
+
   pub cut_back : IsAt s steps mark f1
   cut_back = record {
     front = record {
-      well = walk_cut (seen_from s ready.0) (set_out_at (seen_from s ready.0) f0.start) (firsts mark.place steps) f0.walk f1.walk mark (marks_there ready.0 ready.1).0 h.well c;
+      well = well_there;
       clock = subst (λ (o : Option Clock). IsClockIn (length f1.walk.pool) o) (sym clock) (subst (λ (nodes : List Node). IsClockIn (length nodes) f0.clock) (sym c.pool) h.clock);
       places = places_there.1;
+      told = λ mark more e. told_there;
       parts = λ p r. (λ i. clock_trees (c.pool i) (clock i)) ∙ (h.parts p (ready_there p r) ∙ (λ i. clock_from (seen_from s p) (sym start i)));
       marked = marked_there;
     };
     reaches = leads_there;
+    told = told_there;
     has = places_there.0.1;
   }

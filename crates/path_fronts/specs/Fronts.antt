@@ -1,5 +1,6 @@
 -- Where a walk stands on a way, and the marks before the statements that it has performed.
 use Rattle.std.specs.Prelude.{◌≡◌, ℕ, ◌<◌, List, [], ◌∷◌, ◌++◌, length}
+use Rattle.entry_frames.specs.Entries.{IsFrame}
 use Rattle.formula.specs.Tree.{Tree}
 use Rattle.fort_model.specs.Events.{Event}
 use Rattle.fort_model.specs.Program.{Program}
@@ -55,11 +56,17 @@ ArePlaces steps bound (mark ∷ marks) = ((mark.place < bound) × HasAt steps ma
 abbrev pub set_out_at : Sight Tree → ℕ → Moment
 set_out_at w start = set_from w start (begun_with at_first (entry_facts w) (at_entry w))
 
--- a walk from a start, with marks before statements of a way, all of them before some step
+-- a walk tells what the data names of the unit stand for, and the terms of its entry tell what they stood for there
+abbrev pub HasEntry : Setting → Front → Type 0
+HasEntry s f = IsFrame f.walk.pool s.book.now.unit.now f.walk.names f.entry.items (moment f.walk).now
+
+-- a walk from a start, with marks before statements of a way, all of them before some step; where it has a mark
+-- it has the terms of the entry
 pub record IsFront (s : Setting) (steps : List Step) (bound : ℕ) (f : Front) : Type 0 where
   pub well : IsWalk f.walk
   pub clock : IsClockIn (length f.walk.pool) f.clock
   pub places : ArePlaces steps bound f.marks
+  pub told : (mark : Mark) (more : List Mark) → f.marks ≡ mark ∷ more → HasEntry s f
   pub parts : (p : Program) → IsReady f.walk.pool s.scene.now p → clock_trees f.walk.pool f.clock
       ≡ clock_from (seen_from s p) f.start
   pub marked : (p : Program) → IsReady f.walk.pool s.scene.now p
@@ -83,4 +90,5 @@ HasGone s steps card f =
 pub record IsAt (s : Setting) (steps : List Step) (mark : Mark) (f : Front) : Type 0 where
   pub front : IsFront s steps mark.place f
   pub reaches : Reaches s steps mark.place mark.card f
+  pub told : HasEntry s f
   pub has : HasAt steps mark.place

@@ -6,7 +6,7 @@ ghost use Rattle.fort_model.specs.Program.{Program};
 ghost use Rattle.fort_notes.specs.Assertions.{Notes};
 ghost use Rattle.path_cut.specs.Cursor.{way_seen};
 ghost use Rattle.path_cut.specs.declared.step.Step.{Step as OneStep};
-ghost use Rattle.path_fronts.specs.Fronts.{HasGone, IsFront};
+ghost use Rattle.path_fronts.specs.Fronts.{HasEntry, HasGone, IsFront};
 ghost use Rattle.shared_fronts.specs.Firsts.{SharesSteps};
 ghost use Rattle.path_plans.specs.Plans.{IsPlan};
 ghost use Rattle.path_scene.specs.Scenes.{IsReady};
@@ -15,8 +15,7 @@ ghost use Rattle.path_fronts.specs.Steps.{WalksAlong};
 use crate::front::Front;
 use crate::going::go;
 use crate::starting::{Standing, stand};
-use edge_io::{Keys, NoMemory};
-use entry_frames::Frame;
+use edge_io::NoMemory;
 use path_cut::PathView;
 use path_ends::{Last, arrive};
 use path_plans::Plan;
@@ -29,23 +28,18 @@ fn finish(front: &mut Front, plan: &Plan, path: &PathView, card: u32) -> Result<
     requires ready { (p : Program) × IsReady front.old.walk.pool plan.now.setting.now.scene.now p }
     requires start { front.old.start ≡ path.now.start }
     requires front { IsFront plan.now.setting.now path.now.steps.now (length path.now.steps.now) front.old }
+    requires told { HasEntry plan.now.setting.now front.old }
     requires gone { HasGone plan.now.setting.now path.now.steps.now card front.old }
     ensures grows { OnOk result (Grows front.old.walk.pool front.new.walk.pool) }
     ensures front { OnOk result (IsFront plan.now.setting.now path.now.steps.now
         (length path.now.steps.now) front.new) }
     ensures along { OnOk result (WalksAlong plan.now front.old.walk.pool (way_seen path.now) front.new.walk) }
 {
-    let unit = plan.setting.book.unit;
-    let alloc = front.walk.alloc;
-    let keys = front.walk.pool.keys();
-    let Ok(mut frame) = Frame::new(alloc, keys, &mut front.walk.pool, unit) else {
-        return Err(NoMemory);
-    };
     let last = Last {
         point: path.end as usize,
         card,
     };
-    let Ok(()) = arrive(&mut front.walk, plan, &mut frame, &front.clock, last) else {
+    let Ok(()) = arrive(&mut front.walk, plan, &front.entry, &front.clock, last) else {
         return Err(NoMemory);
     };
     Ok(())

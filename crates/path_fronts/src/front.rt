@@ -5,7 +5,7 @@ ghost use Rattle.std.specs.Prelude.{◌≡◌, List, ℕ};
 ghost use Rattle.walk_setting.specs.declared.setting.Setting.{Setting};
 
 use edge_io::{Keys, Stack};
-use formula::TermPool;
+use formula::{TermId, TermPool};
 use path_ends::Clock;
 use std::alloc::Global;
 use walk_state::Walk;
@@ -21,11 +21,12 @@ pub struct Mark {
     pub card: u32,
 }
 
-/// A walk along a way, with its clock and the number of its start, and a mark before each statement
-/// that it has performed.
+/// A walk along a way, with the terms that its names stood for at the entry, its clock and the
+/// number of its start, and a mark before each statement that it has performed.
 #[derive(Drop)]
 pub struct Front {
     pub walk: Walk,
+    pub entry: Vec<TermId>,
     pub clock: Option<Clock>,
     pub marks: Stack<Mark>,
     pub start: usize,
@@ -39,6 +40,7 @@ impl Front {
     {
         Front {
             walk: Walk::new(alloc, keys, pool),
+            entry: Vec::new(alloc),
             clock: None,
             marks: Stack::new(alloc),
             start: 0,

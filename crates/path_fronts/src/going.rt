@@ -6,7 +6,7 @@ ghost use Rattle.fort_model.specs.Program.{Program};
 ghost use Rattle.fort_model.specs.WalkStmt as forms;
 ghost use Rattle.fort_notes.specs.Assertions.{Notes};
 ghost use Rattle.fort_syntax.specs.declared.unit.Line.{Line};
-ghost use Rattle.path_fronts.specs.Fronts.{HasGone, IsFront, Reaches};
+ghost use Rattle.path_fronts.specs.Fronts.{HasEntry, HasGone, IsFront, Reaches};
 ghost use Rattle.path_scene.specs.Scenes.{IsReady};
 ghost use Rattle.walk_setting.specs.Settings.{PerformsIn};
 ghost use Rattle.walk_state.specs.Moments.{Follows, IsWalk, moment};
@@ -64,9 +64,11 @@ pub(crate) fn go(
         flow.now.setting.now.book.now.unit.now notes flow.now.graph.now }
     requires front { IsFront flow.now.setting.now steps.now place front.old }
     requires at { Reaches flow.now.setting.now steps.now place card front.old }
+    requires told { HasEntry flow.now.setting.now front.old }
     ensures start { OnOk result (front.new.start ≡ front.old.start) }
     ensures grows { OnOk result (Grows front.old.walk.pool front.new.walk.pool) }
     ensures front { OnOk result (IsFront flow.now.setting.now steps.now (length steps.now) front.new) }
+    ensures told { OnOk result (HasEntry flow.now.setting.now front.new) }
     ensures gone { IfOk result (λ last. HasGone flow.now.setting.now steps.now last front.new) }
 {
     let lines = flow.setting.book.unit.lines.as_slice();

@@ -1,6 +1,6 @@
 // A mark before a statement.
 ghost use Rattle.path_cut.specs.declared.step.Step.{Step};
-ghost use Rattle.path_fronts.specs.Fronts.{IsFront, Reaches};
+ghost use Rattle.path_fronts.specs.Fronts.{HasEntry, IsFront, Reaches};
 ghost use Rattle.shared_fronts.specs.Firsts.{HasAt};
 ghost use Rattle.std.specs.Prelude.{◌≡◌, List, OnOk, suc};
 ghost use Rattle.walk_setting.specs.declared.setting.Setting.{Setting};
@@ -12,9 +12,10 @@ use edge_io::NoMemory;
 pub(crate) fn set_mark(front: &mut Front, place: usize, card: u32) -> Result<(), NoMemory>
     ensures start { OnOk result (front.new.start ≡ front.old.start) }
     ensures pool { OnOk result (front.new.walk.pool ≡ front.old.walk.pool) }
-    ensures front { OnOk result ((s : Setting) (steps : List Step) → IsFront s steps place front.old
-        → Reaches s steps place card front.old → HasAt steps place
+    ensures front { OnOk result ((s : Setting) (steps : List Step) → HasEntry s front.old
+        → IsFront s steps place front.old → Reaches s steps place card front.old → HasAt steps place
         → IsFront s steps (suc place) front.new) }
+    ensures told { OnOk result ((s : Setting) → HasEntry s front.old → HasEntry s front.new) }
     ensures at { OnOk result ((s : Setting) (steps : List Step) → IsFront s steps place front.old
         → Reaches s steps place card front.old → Reaches s steps place card front.new) }
 {

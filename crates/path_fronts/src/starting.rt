@@ -3,7 +3,7 @@ ghost use Rattle.std.specs.Prelude.{◌≡◌, ◌≤◌, List, length, IfOk};
 ghost use Rattle.formula.specs.Pool.{Grows};
 ghost use Rattle.fort_model.specs.Program.{Program};
 ghost use Rattle.path_cut.specs.declared.step.Step.{Step as OneStep};
-ghost use Rattle.path_fronts.specs.Fronts.{IsFront, Reaches};
+ghost use Rattle.path_fronts.specs.Fronts.{HasEntry, IsFront, Reaches};
 ghost use Rattle.shared_fronts.specs.Firsts.{SharesSteps};
 ghost use Rattle.path_plans.specs.Plans.{IsPlan};
 ghost use Rattle.path_scene.specs.Scenes.{IsReady};
@@ -37,6 +37,7 @@ fn begin(alloc: Global, pool: TermPool, plan: &Plan, start: usize) -> Result<Fro
         → IsFront plan.now.setting.now steps 0 front) }
     ensures at { IfOk result (λ front. (steps : List OneStep)
         → Reaches plan.now.setting.now steps 0 0 front) }
+    ensures told { IfOk result (λ front. HasEntry plan.now.setting.now front) }
 {
     let keys = pool.keys();
     let Ok(mut begun) = enter(alloc, keys, pool, plan) else {
@@ -45,9 +46,10 @@ fn begin(alloc: Global, pool: TermPool, plan: &Plan, start: usize) -> Result<Fro
     let Ok(clock) = set_out(&mut begun, plan, start) else {
         return Err(NoMemory);
     };
-    let Begun { walk, .. } = begun;
+    let Begun { walk, entry } = begun;
     Ok(Front {
         walk,
+        entry,
         clock,
         marks: Stack::new(alloc),
         start,
@@ -67,6 +69,7 @@ pub(crate) fn stand(front: Front, plan: &Plan, path: &PathView) -> Result<Standi
     ensures front { IfOk result (λ at. IsFront plan.now.setting.now path.now.steps.now at.place at.front) }
     ensures at { IfOk result (λ at. Reaches plan.now.setting.now path.now.steps.now at.place
         at.card at.front) }
+    ensures told { IfOk result (λ at. HasEntry plan.now.setting.now at.front) }
 {
     let mut front = front;
     if let Some(mark) = back_to(&mut front, path.start, path.shared) {

@@ -9,7 +9,7 @@ use Rattle.fort_model.specs.Senses.{note}
 use Rattle.fort_model.specs.Walk.{at_entry, at_start, entry_facts, notes_here, start_facts}
 use Rattle.fort_model.specs.WalkCalls.{Sight}
 use Rattle.fort_notes.specs.Assertions.{Assertion}
-use Rattle.path_ends.specs.Ends.{IsClockIn, IsSomeFrame, clock_trees}
+use Rattle.path_ends.specs.Ends.{IsClockIn, clock_trees}
 use Rattle.path_ends.specs.declared.clock.Clock.{Clock}
 use Rattle.path_openings.specs.declared.opening.Begun.{Begun}
 use Rattle.path_plans.specs.declared.plan.Plan.{Plan}
@@ -19,11 +19,11 @@ use Rattle.walk_setting.specs.Settings.{seen_from}
 use Rattle.walk_state.specs.declared.walk.Walk.{Walk}
 use Rattle.walk_state.specs.Moments.{IsWalk, Moment, at_first, moment}
 
--- a walk with a frame stands at the entry, and has taken what holds there
+-- a walk stands at the entry, with what names stand for there, and has taken what holds there
 pub record HasBegun (plan : Plan) (pool : List Node) (b : Begun) : Type 0 where
   pub well : IsWalk b.walk
   pub grows : Grows pool b.walk.pool
-  pub framed : IsFrame b.walk.pool (unit_of plan) b.frame (at_entry_in (unit_of plan).names)
+  pub framed : IsFrame b.walk.pool (unit_of plan) b.walk.names b.entry.items (at_entry_in (unit_of plan).names)
   pub names : (moment b.walk).now ≡ at_entry_in (unit_of plan).names
   pub at : (p : Program) → IsReady pool plan.setting.now.scene.now p
       → moment b.walk ≡ begun_with at_first (entry_facts (seen_from plan.setting.now p)) (at_entry (seen_from plan.setting.now p))
@@ -48,7 +48,7 @@ clock_from w (suc k) = clock_at w (slice_get (notes_here w).asserts k)
 
 -- a path has started
 pub record Sets (plan : Plan) (start : ℕ) (w0 : Walk) (b : Begun) (clock : Option Clock) : Type 0 where
-  pub framed : IsSomeFrame b.walk.pool (unit_of plan) b.frame
+  pub framed : IsFrame b.walk.pool (unit_of plan) b.walk.names b.entry.items (moment b.walk).now
   pub inside : IsClockIn (length b.walk.pool) clock
   pub is : (p : Program) → IsReady w0.pool plan.setting.now.scene.now p → moment b.walk ≡ set_from
       (seen_from plan.setting.now p) start (moment w0)

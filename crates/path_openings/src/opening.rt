@@ -6,18 +6,17 @@ ghost use Rattle.path_scene.specs.Scenes.{IsReady};
 ghost use Rattle.path_openings.specs.Openings.{HasBegun};
 
 use edge_io::{Keys, NoMemory};
-use entry_frames::Frame;
-use formula::TermPool;
+use formula::{TermId, TermPool};
 use path_plans::Plan;
 use path_starts::{begin, take_entry};
 use std::alloc::Global;
 use walk_state::Walk;
 
-/// A walk with a frame of its unit.
+/// A walk, and the terms that the names of its table stood for at the entry, at their places.
 #[derive(Drop)]
 pub struct Begun {
     pub walk: Walk,
-    pub frame: Frame,
+    pub entry: Vec<TermId>,
 }
 
 /// A walk at the entry of a unit, where what holds there was taken. No answer depends on the keys.
@@ -30,11 +29,11 @@ pub fn enter(alloc: Global, keys: Keys, pool: TermPool, plan: &Plan) -> Result<B
     let Ok(mut walk) = begin(alloc, keys, pool, unit) else {
         return Err(NoMemory);
     };
-    let Ok(frame) = Frame::new(alloc, keys, &mut walk.pool, unit) else {
+    let Ok(entry) = Vec::from_slice(alloc, walk.names.terms.as_slice()) else {
         return Err(NoMemory);
     };
-    let Ok(()) = take_entry(&mut walk, plan, &frame) else {
+    let Ok(()) = take_entry(&mut walk, plan, &entry) else {
         return Err(NoMemory);
     };
-    Ok(Begun { walk, frame })
+    Ok(Begun { walk, entry })
 }

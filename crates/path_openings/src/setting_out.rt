@@ -29,8 +29,8 @@ pub fn set_out(begun: &mut Begun, plan: &Plan, start: usize) -> Result<Option<Cl
     requires plan { IsPlan plan.now }
     requires ready { (p : Program) × IsReady begun.old.walk.pool plan.now.setting.now.scene.now p }
     requires at { (moment begun.old.walk).now ≡ at_entry_in (unit_of plan.now).names }
-    requires frame { IsFrame begun.old.walk.pool (unit_of plan.now) begun.old.frame
-        (at_entry_in (unit_of plan.now).names) }
+    requires frame { IsFrame begun.old.walk.pool (unit_of plan.now) begun.old.walk.names
+        begun.old.entry.items (at_entry_in (unit_of plan.now).names) }
     ensures on { OnOk result (Follows begun.old.walk begun.new.walk) }
     ensures did { IfOk result (λ clock. Sets plan.now start begun.old.walk begun.new clock) }
 {
@@ -41,7 +41,7 @@ pub fn set_out(begun: &mut Begun, plan: &Plan, start: usize) -> Result<Option<Cl
     let Some(assert) = assert_of(asserts, start - 1) else {
         return Ok(None);
     };
-    let Ok(parts) = start_at(&mut begun.walk, plan, &mut begun.frame, assert) else {
+    let Ok(parts) = start_at(&mut begun.walk, plan, &begun.entry, assert) else {
         return Err(NoMemory);
     };
     Ok(Some(Clock { parts }))

@@ -12,9 +12,10 @@ ghost use Rattle.walk_setting.specs.Settings.{DoesIn};
 ghost use Rattle.walk_state.specs.Moments.{Follows, IsWalk, moment};
 
 use crate::facts::{take_bound, take_dims};
-use call_facts::{take_output, take_sorts};
+use crate::notes::take_notes;
+use call_facts::take_sorts;
 use edge_io::NoMemory;
-use entry_frames::Frame;
+use formula::TermId;
 use path_plans::Plan;
 use walk_state::Walk;
 
@@ -43,14 +44,15 @@ fn take_shapes(walk: &mut Walk, plan: &Plan) -> Result<(), NoMemory>
 }
 
 /// What holds at the entry of a unit: the processor has the integers up to the bound, dummies and
-/// COMMON entities have their types, dimensions are at least 1, and the INPUT holds.
-pub fn take_entry(walk: &mut Walk, plan: &Plan, frame: &Frame) -> Result<(), NoMemory>
+/// COMMON entities have their types, dimensions are at least 1, and the INPUT holds. The terms are
+/// those that the walk's names stand for at the entry, at their places.
+pub fn take_entry(walk: &mut Walk, plan: &Plan, entry: &[TermId]) -> Result<(), NoMemory>
     requires well { IsWalk walk.old }
     requires plan { IsPlan plan.now }
     requires ready { (p : Program) × IsReady walk.old.pool plan.now.setting.now.scene.now p }
     requires at { (moment walk.old).now ≡ at_entry_in plan.now.setting.now.book.now.unit.now.names }
-    requires frame { IsFrame walk.old.pool plan.now.setting.now.book.now.unit.now frame.now
-        (at_entry_in plan.now.setting.now.book.now.unit.now.names) }
+    requires frame { IsFrame walk.old.pool plan.now.setting.now.book.now.unit.now walk.old.names
+        entry.now (at_entry_in plan.now.setting.now.book.now.unit.now.names) }
     ensures on { OnOk result (Follows walk.old walk.new) }
     ensures did { OnOk result (DoesIn walk.old.pool plan.now.setting.now (moment walk.old)
         (λ w. meet (takes (entry_facts w))) (moment walk.new) tt) }
@@ -59,7 +61,7 @@ pub fn take_entry(walk: &mut Walk, plan: &Plan, frame: &Frame) -> Result<(), NoM
         return Err(NoMemory);
     };
     let input = plan.spec.input.as_slice();
-    let Ok(()) = take_output(walk, &frame.names, &frame.entry, input) else {
+    let Ok(()) = take_notes(walk, entry, input) else {
         return Err(NoMemory);
     };
     Ok(())

@@ -4,6 +4,7 @@
 mod entries;
 mod entry;
 mod facts;
+mod notes;
 mod start;
 
 pub use entries::begin;

@@ -4,12 +4,12 @@ ghost use Rattle.fort_model.specs.Program.{Program};
 ghost use Rattle.entry_frames.specs.Entries.{IsFrame, at_entry_in};
 ghost use Rattle.path_plans.specs.Plans.{IsPlan};
 ghost use Rattle.path_scene.specs.Scenes.{IsReady};
-ghost use Rattle.path_starts.specs.Starts.{ClockTold, IsAssertOf, IsStartOf, StandsAtStart, StartsAt, TakesStart};
-ghost use Rattle.walk_state.specs.Moments.{Follows, IsWalk, moment};
+ghost use Rattle.path_starts.specs.Starts.{ClockTold, IsAssertOf, IsStartOf, StartsAt, TakesStart, start_in};
+ghost use Rattle.walk_state.specs.Moments.{Follows, IsWalk, moment, with_names};
 
-use call_facts::{take_output, take_sorts};
+use crate::notes::take_notes;
+use call_facts::take_sorts;
 use edge_io::NoMemory;
-use entry_frames::Frame;
 use formula::TermId;
 use fort_notes::AssertSpec;
 use note_terms::{at_least_zero, note_terms};
@@ -18,38 +18,27 @@ use start_terms::start_names;
 use walk_lists::take_all;
 use walk_state::Walk;
 
-/// The names that the unit smashes stand for symbols of their own, on the walk and in the frame.
-fn set_starts(walk: &mut Walk, plan: &Plan, frame: &mut Frame) -> Result<(), NoMemory>
+/// The names that the unit smashes stand for symbols of their own.
+fn set_starts(walk: &mut Walk, plan: &Plan) -> Result<(), NoMemory>
     requires well { IsWalk walk.old }
-    requires frame { IsFrame walk.old.pool plan.now.setting.now.book.now.unit.now frame.old
-        (at_entry_in plan.now.setting.now.book.now.unit.now.names) }
     requires at { (moment walk.old).now ≡ at_entry_in plan.now.setting.now.book.now.unit.now.names }
     ensures on { OnOk result (Follows walk.old walk.new) }
-    ensures stands { OnOk result (StandsAtStart plan.now walk.old walk.new frame.new) }
+    ensures stands { OnOk result (moment walk.new ≡ with_names (moment walk.old) (start_in plan.now)) }
 {
     let Ok(()) = start_names(walk.alloc, &mut walk.pool, &mut walk.names, plan.smashed) else {
-        return Err(NoMemory);
-    };
-    let Ok(()) = start_names(walk.alloc, &mut walk.pool, &mut frame.names, plan.smashed) else {
         return Err(NoMemory);
     };
     Ok(())
 }
 
 /// The parts of a clock, which are 0 or more.
-fn take_clock(walk: &mut Walk, frame: &Frame, clock: &[TermId]) -> Result<Vec<TermId>, NoMemory>
+fn take_clock(walk: &mut Walk, entry: &[TermId], clock: &[TermId]) -> Result<Vec<TermId>, NoMemory>
     requires well { IsWalk walk.old }
-    requires start { IsStartOf walk.old frame.now clock.now }
+    requires start { IsStartOf walk.old entry.now clock.now }
     ensures on { OnOk result (Follows walk.old walk.new) }
-    ensures did { IfOk result (λ told. ClockTold walk.old frame.now clock.now walk.new told.items) }
+    ensures did { IfOk result (λ told. ClockTold walk.old entry.now clock.now walk.new told.items) }
 {
-    let Ok(told) = note_terms(
-        walk.alloc,
-        &mut walk.pool,
-        &frame.names,
-        &frame.entry,
-        clock,
-    ) else {
+    let Ok(told) = note_terms(walk.alloc, &mut walk.pool, &walk.names, entry, clock) else {
         return Err(NoMemory);
     };
     let Ok(facts) = at_least_zero(walk.alloc, &mut walk.pool, &told) else {
@@ -66,26 +55,26 @@ fn take_clock(walk: &mut Walk, frame: &Frame, clock: &[TermId]) -> Result<Vec<Te
 fn take_assert(
     walk: &mut Walk,
     plan: &Plan,
-    frame: &Frame,
+    entry: &[TermId],
     assert: &AssertSpec,
 ) -> Result<Vec<TermId>, NoMemory>
     requires well { IsWalk walk.old }
     requires ready { (p : Program) × IsReady walk.old.pool plan.now.setting.now.scene.now p }
-    requires terms { IsStartOf walk.old frame.now assert.now.terms }
-    requires clock { IsStartOf walk.old frame.now assert.now.clock }
+    requires terms { IsStartOf walk.old entry.now assert.now.terms }
+    requires clock { IsStartOf walk.old entry.now assert.now.clock }
     ensures on { OnOk result (Follows walk.old walk.new) }
-    ensures did { IfOk result (λ told. TakesStart plan.now assert.now walk.old frame.now
+    ensures did { IfOk result (λ told. TakesStart plan.now assert.now walk.old entry.now
         walk.new told.items) }
 {
     let Ok(()) = take_sorts(walk, plan.setting.book, &plan.order) else {
         return Err(NoMemory);
     };
     let terms = assert.terms.as_slice();
-    let Ok(()) = take_output(walk, &frame.names, &frame.entry, terms) else {
+    let Ok(()) = take_notes(walk, entry, terms) else {
         return Err(NoMemory);
     };
     let parts = assert.clock.as_slice();
-    let Ok(clock) = take_clock(walk, frame, parts) else {
+    let Ok(clock) = take_clock(walk, entry, parts) else {
         return Err(NoMemory);
     };
     Ok(clock)
@@ -97,24 +86,24 @@ fn take_assert(
 pub fn start_at(
     walk: &mut Walk,
     plan: &Plan,
-    frame: &mut Frame,
+    entry: &[TermId],
     assert: &AssertSpec,
 ) -> Result<Vec<TermId>, NoMemory>
     requires well { IsWalk walk.old }
     requires plan { IsPlan plan.now }
     requires ready { (p : Program) × IsReady walk.old.pool plan.now.setting.now.scene.now p }
     requires at { (moment walk.old).now ≡ at_entry_in plan.now.setting.now.book.now.unit.now.names }
-    requires frame { IsFrame walk.old.pool plan.now.setting.now.book.now.unit.now frame.old
-        (at_entry_in plan.now.setting.now.book.now.unit.now.names) }
+    requires frame { IsFrame walk.old.pool plan.now.setting.now.book.now.unit.now walk.old.names
+        entry.now (at_entry_in plan.now.setting.now.book.now.unit.now.names) }
     requires assert { IsAssertOf plan.now assert.now }
     ensures on { OnOk result (Follows walk.old walk.new) }
     ensures did { IfOk result (λ clock. StartsAt plan.now assert.now walk.old walk.new
-        frame.new clock.items) }
+        entry.now clock.items) }
 {
-    let Ok(()) = set_starts(walk, plan, frame) else {
+    let Ok(()) = set_starts(walk, plan) else {
         return Err(NoMemory);
     };
-    let Ok(clock) = take_assert(walk, plan, frame, assert) else {
+    let Ok(clock) = take_assert(walk, plan, entry, assert) else {
         return Err(NoMemory);
     };
     Ok(clock)

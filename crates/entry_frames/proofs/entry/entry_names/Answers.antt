@@ -1,4 +1,4 @@
-use Rattle.std.proofs.Common.{◌≡◌, ℕ, suc, ◌-◌, ◌<◌, ◌≤◌, List, [], drop, length, subst, sym, arith}
+use Rattle.std.proofs.Common.{◌≡◌, suc, ◌-◌, ◌<◌, List, [], drop, length, subst, sym, arith}
 use Rattle.std.proofs.lemmas.Grind.{common_steps}
 use Rattle.entry_frames.specs.Entries.{AreGoodShapes}
 use Rattle.entry_frames.proofs.Entered.{entered_more, entered_none, shape_at}

@@ -10,8 +10,9 @@ returns-clause-at c s steps bound ready h =
     let mark = c.in-Some.mark in
     let back : Front = record {
       walk = record { pool = w.pool; names = c.back.new.self; met = c.truncate.new.self; calls = mark.calls; alloc = w.alloc };
+      entry = f.entry;
       clock = f.clock;
       marks = c.pop.new.self;
       start = f.start;
     } in
-    cut_back s steps bound f back mark c.in-Some.ensures (record { pool = refl; names = c.back.ensures; met = c.truncate.ensures.items; calls = refl }) refl refl ready h
+    cut_back s steps bound f back mark c.in-Some.ensures (record { pool = refl; names = c.back.ensures; met = c.truncate.ensures.items; calls = refl }) refl refl refl ready h

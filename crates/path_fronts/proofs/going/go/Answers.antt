@@ -12,6 +12,7 @@ use Rattle.path_fronts.proofs.OneMore.{behind_one, over_choice}
 use Rattle.path_fronts.proofs.Stepped.{all_behind, none_beyond}
 use Rattle.path_fronts.specs.Fronts.{set_out_at}
 use Rattle.path_scene.specs.Scenes.{IsReady}
+use Rattle.path_starts.proofs.Begun.{frame_on}
 use Rattle.shared_fronts.proofs.Firsts.{got}
 use Rattle.walk_setting.proofs.Ready.{ready_on}
 use Rattle.walk_setting.specs.Settings.{performed_at, seen_from}
@@ -31,6 +32,7 @@ loop-at-preserved-in_default c =
       start = inv.start;
       grows = inv.grows;
       front = front_below s steps k (k + 1) c.loop-at.front le inv.front;
+      told = inv.told;
       is = over_choice s steps k (k + 1) c.loop-at.last c.in_default.field-0 c.in_default.field-1 c.loop-at.front next (got steps k _ (Choice c.in_default.field-0 c.in_default.field-1) c.loop-at-test.true c.in_default.is) inv.is;
     }
 
@@ -54,7 +56,7 @@ perform_at-requires-clause-well c =
     let s = c.args.flow.now.setting.now in
     let steps = c.args.steps.now in
     let inv = c.loop-at.invariant in
-    (c.in-Ok.ensures.front s steps inv.front inv.is (c.in-At.point, got steps c.loop-at.at _ (At c.in-At.point) c.loop-at-test.true c.in-At.is)).well
+    (c.in-Ok.ensures.front s steps inv.told inv.front inv.is (c.in-At.point, got steps c.loop-at.at _ (At c.in-At.point) c.loop-at-test.true c.in-At.is)).well
 
 pub perform_at-requires-clause-ready : goal.perform_at-requires-clause-ready
 perform_at-requires-clause-ready c =
@@ -78,7 +80,7 @@ loop-at-preserved c =
     let r = ready_on c.args.front.now.walk.pool c.loop-at.front.walk.pool s.scene.now inv.grows c.requires.ready in
     let ready : (p : Program) × IsReady f.walk.pool s.scene.now p = (r.0, subst (λ (nodes : List Node). IsReady nodes s.scene.now r.0) (sym c.in-Ok.ensures.pool) r.1) in
     let stands = behind_one s steps k (k + 1) c.loop-at.last point line f w next at c.line.ensures ready
-    (c.in-Ok.ensures.front s steps inv.front inv.is (point, at)) (c.in-Ok.ensures.at s steps inv.front inv.is) c.in-Ok-perform_at.ensures.on
+    (c.in-Ok.ensures.front s steps inv.told inv.front inv.is (point, at)) (c.in-Ok.ensures.at s steps inv.front inv.is) c.in-Ok-perform_at.ensures.on
     (λ p r.
     c.in-Ok-perform_at.ensures.did line c.line.ensures p r
     ∙ (λ i. performed_at m (performed (seen_from s p) line.card point m.now line.stmt (turns ((all_behind steps (k + 1) ∙ (λ j. drop (next j) steps)) i))))) in
@@ -88,6 +90,7 @@ loop-at-preserved c =
           Grows-trans c.args.front.now.walk.pool f.walk.pool w.pool (subst (λ (nodes : List Node). Grows c.args.front.now.walk.pool nodes) (sym c.in-Ok.ensures.pool) inv.grows)
           c.in-Ok-perform_at.ensures.on.grows;
       front = stands.front;
+      told = frame_on f.walk w s.book.now.unit.now f.entry.items m.now c.in-Ok-perform_at.ensures.on (c.in-Ok.ensures.told s inv.told);
       is = stands.reaches;
     }
 

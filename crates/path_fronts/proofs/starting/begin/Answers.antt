@@ -14,3 +14,6 @@ pub returns-clause-at : goal.returns-clause-at
 returns-clause-at c steps =
     begun_reaches c.args.plan.now c.args.pool c.args.start c.in-Ok.begun c.set_out.new.begun c.in-Ok-set_out.clock c.new.result c.new.ensures c.in-Ok.ensures c.in-Ok-set_out.ensures.on
     c.in-Ok-set_out.ensures.did c.requires.ready steps
+
+pub returns-clause-told : goal.returns-clause-told
+returns-clause-told c = c.in-Ok-set_out.ensures.did.framed

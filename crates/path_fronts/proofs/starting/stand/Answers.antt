@@ -30,6 +30,11 @@ returns-in-Some-clause-at c =
     let at = c.in-Some.ensures.at s share.0 (length share.0) c.requires.ready share.2 in
     (moved s share.0 c.args.path.now.steps.now c.in-Some.mark c.args.path.now.shared _ c.in-Some.ensures.before share.1 at).reaches
 
+pub returns-in-Some-clause-told : goal.returns-in-Some-clause-told
+returns-in-Some-clause-told c =
+    let share = c.requires.front in
+    (c.in-Some.ensures.at c.args.plan.now.setting.now share.0 (length share.0) c.requires.ready share.2).told
+
 pub returns-clause-front : goal.returns-clause-front
 returns-clause-front c = c.in-Ok.ensures.front c.args.path.now.steps.now
 

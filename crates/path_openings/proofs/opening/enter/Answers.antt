@@ -1,39 +1,37 @@
-use Rattle.std.proofs.Common.{◌∙◌, ap, refl}
-use Rattle.entry_frames.proofs.Frames.{frame_grows}
-use Rattle.entry_frames.specs.Entries.{at_entry_in}
+use Rattle.std.proofs.Common.{◌≡◌, ◌∙◌, ap, refl, subst}
+use Rattle.entry_frames.proofs.Frames.{framed}
+use Rattle.entry_frames.specs.Entries.{IsFrame, at_entry_in}
+use Rattle.formula.specs.Tree.{Tree}
 use Rattle.formula.proofs.Grown.{Grows-trans}
 use Rattle.fort_model.specs.Events.{takes}
+use Rattle.fort_model.specs.Seen.{Named}
 use Rattle.fort_model.specs.Walk.{at_entry, entry_facts}
 use Rattle.path_openings.proofs.Opened.{begun_at}
 use Rattle.path_plans.proofs.Planned.{shapes_here}
+use Rattle.path_starts.proofs.Begun.{frame_on}
 use Rattle.path_starts.proofs.Taken.{still_now}
 use Rattle.path_starts.specs.Starts.{unit_of}
 use Rattle.path_scene.proofs.Staying.{ready_stays}
 use Rattle.walk_setting.proofs.Ready.{ready_on}
 use Rattle.walk_setting.specs.Settings.{seen_from}
-use Rattle.walk_state.proofs.Parts.{grew}
-use Rattle.walk_state.specs.declared.walk.Walk.{Walk}
 use Rattle.walk_state.specs.Moments.{Moment, moment}
 use Rattle.path_openings.proofs.opening.enter.Goals as goal
 
 pub begin-requires : goal.begin-requires
 begin-requires c = record { shapes = shapes_here c.args.pool c.args.plan.now.setting.now c.requires.ready.0 c.requires.ready.1 }
 
-pub new-requires : goal.new-requires
-new-requires c = record { shapes = shapes_here c.args.pool c.args.plan.now.setting.now c.requires.ready.0 c.requires.ready.1 }
-
-pub take_entry-requires-clause-well : goal.take_entry-requires-clause-well
-take_entry-requires-clause-well c = (grew c.in-Ok.walk _ c.in-Ok.ensures.well c.in-Ok-new.ensures.grows refl refl refl).on.kept
-
 pub take_entry-requires-clause-ready : goal.take_entry-requires-clause-ready
-take_entry-requires-clause-ready c =
-    ready_on c.args.pool c.new.new.pool c.args.plan.now.setting.now.scene.now (Grows-trans c.args.pool c.in-Ok.walk.pool c.new.new.pool c.in-Ok.ensures.grows c.in-Ok-new.ensures.grows) c.requires.ready
+take_entry-requires-clause-ready c = ready_on c.args.pool c.in-Ok.walk.pool c.args.plan.now.setting.now.scene.now c.in-Ok.ensures.grows c.requires.ready
 
 pub take_entry-requires-clause-at : goal.take_entry-requires-clause-at
-take_entry-requires-clause-at c =
-    let w0 = c.in-Ok.walk in
-    let w1 : Walk = record { pool = c.new.new.pool; names = w0.names; met = w0.met; calls = w0.calls; alloc = w0.alloc } in
-    ap (λ (m : Moment). m.now) ((grew w0 w1 c.in-Ok.ensures.well c.in-Ok-new.ensures.grows refl refl refl).same ∙ c.in-Ok.ensures.at)
+take_entry-requires-clause-at c = ap (λ (m : Moment). m.now) c.in-Ok.ensures.at
+
+pub take_entry-requires-clause-frame : goal.take_entry-requires-clause-frame
+take_entry-requires-clause-frame c =
+    let w = c.in-Ok.walk in
+    let now = ap (λ (m : Moment). m.now) c.in-Ok.ensures.at in
+    let items = c.deref.ensures.value ∙ (c.in-Ok-from_slice.ensures.items ∙ c.as_slice.ensures.value) in
+    framed w.pool (unit_of c.args.plan.now) w.names c.deref.result.now c.in-Ok.ensures.well.names now c.in-Ok.ensures.has items
 
 pub returns : goal.returns
 returns c =
@@ -42,20 +40,21 @@ returns c =
     let u = unit_of plan in
     let pool = c.args.pool in
     let w0 = c.in-Ok.walk in
-    let w1 : Walk = record { pool = c.new.new.pool; names = w0.names; met = w0.met; calls = w0.calls; alloc = w0.alloc } in
-    let w2 = c.take_entry.new.walk in
+    let w1 = c.take_entry.new.walk in
     let r = c.requires.ready in
     let last = c.in-Ok-take_entry.ensures in
-    let same = grew w0 w1 c.in-Ok.ensures.well c.in-Ok-new.ensures.grows refl refl refl in
-    let g1 = Grows-trans pool w0.pool w1.pool c.in-Ok.ensures.grows c.in-Ok-new.ensures.grows in
+    let entry = c.in-Ok-from_slice.entry.items in
+    let first = ap (λ (m : Moment). m.now) c.in-Ok.ensures.at in
+    let items = c.in-Ok-from_slice.ensures.items ∙ c.as_slice.ensures.value in
+    let here = framed w0.pool u w0.names entry c.in-Ok.ensures.well.names first c.in-Ok.ensures.has items in
+    let now : (moment w1).now ≡ at_entry_in u.names =
+    still_now (moment w0) (moment w1) (takes (entry_facts (seen_from s r.0))) (last.did r.0 (ready_stays pool w0.pool c.in-Ok.ensures.grows s.scene.now r.0 r.1)) ∙ first in
     record {
       well = last.on.kept;
-      grows = Grows-trans pool w1.pool w2.pool g1 last.on.grows;
-      framed = frame_grows w1.pool w2.pool u c.in-Ok-new.frame (at_entry_in u.names) last.on.grows c.in-Ok-new.ensures.frame;
-      names =
-          still_now (moment w1) (moment w2) (takes (entry_facts (seen_from s r.0))) (last.did r.0 (ready_stays pool w1.pool g1 s.scene.now r.0 r.1))
-          ∙ ap (λ (m : Moment). m.now) (same.same ∙ c.in-Ok.ensures.at);
+      grows = Grows-trans pool w0.pool w1.pool c.in-Ok.ensures.grows last.on.grows;
+      framed = subst (λ (n : Named Tree). IsFrame w1.pool u w1.names entry n) now (frame_on w0 w1 u entry (at_entry_in u.names) last.on here);
+      names = now;
       at = λ p ready.
-          begun_at (moment w0) (moment w1) (moment w2) (at_entry_in u.names) (at_entry (seen_from s p)) (entry_facts (seen_from s p)) c.in-Ok.ensures.at same.same refl
-          (last.did p (ready_stays pool w1.pool g1 s.scene.now p ready));
+          begun_at (moment w0) (moment w0) (moment w1) (at_entry_in u.names) (at_entry (seen_from s p)) (entry_facts (seen_from s p)) c.in-Ok.ensures.at refl refl
+          (last.did p (ready_stays pool w0.pool c.in-Ok.ensures.grows s.scene.now p ready));
     }

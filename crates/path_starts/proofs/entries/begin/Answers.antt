@@ -15,3 +15,6 @@ returns-clause-grows c = subst (λ (nodes : List Node). Grows nodes c.set_entrie
 
 pub returns-clause-at : goal.returns-clause-at
 returns-clause-at c = c.in-Ok.ensures.names ∙ ap (λ (m : Moment). with_names m (at_entry_in c.args.unit.now.names)) c.new-walk.ensures.moment
+
+pub returns-clause-has : goal.returns-clause-has
+returns-clause-has c = c.in-Ok.ensures.has

@@ -17,3 +17,6 @@ returns-clause-names c =
     let w1 : Walk = record { pool = c.entry_names.new.pool; names = c.entry_names.new.names; met = w0.met; calls = w0.calls; alloc = w0.alloc } in
     let e = c.in-Ok.ensures in
     (renamed c.args.walk.now w1 (at_entry_in c.args.unit.now.names) c.requires.well e.grows e.kept e.now e.before e.extends refl refl).is
+
+pub returns-clause-has : goal.returns-clause-has
+returns-clause-has c = c.in-Ok.ensures.has

@@ -1,6 +1,5 @@
-use Rattle.std.proofs.Common.{◌≡◌, ◌++◌, ◌∙◌, List, refl, sym}
+use Rattle.std.proofs.Common.{◌++◌, ◌∙◌, sym}
 use Rattle.entry_frames.proofs.GoodShapes.{shapes_by_name}
-use Rattle.formula.specs.Tree.{Tree}
 use Rattle.fort_model.specs.Events.{takes}
 use Rattle.fort_model.specs.Senses.{of_terms}
 use Rattle.fort_model.specs.Walk.{bound_facts, dim_dummies}

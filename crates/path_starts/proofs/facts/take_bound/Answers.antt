@@ -3,7 +3,7 @@ use Rattle.formula.specs.Pool.{AllBelow}
 use Rattle.formula.specs.declared.node.TermId.{TermId}
 use Rattle.std.proofs.Common.{List, length}
 use Rattle.note_terms.specs.Stated.{facts_of_bound}
-use Rattle.path_starts.proofs.Taken.{Took, listed}
+use Rattle.path_starts.proofs.Taken.{listed}
 use Rattle.walk_state.proofs.Parts.{grew}
 use Rattle.walk_state.specs.declared.walk.Walk.{Walk}
 use Rattle.path_starts.proofs.facts.take_bound.Goals as goal

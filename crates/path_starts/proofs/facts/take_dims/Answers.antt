@@ -4,7 +4,7 @@ use Rattle.formula.specs.declared.node.TermId.{TermId}
 use Rattle.std.proofs.Common.{List, length}
 use Rattle.start_terms.specs.Starts.{facts_of_dims}
 use Rattle.walk_state.specs.Moments.{moment}
-use Rattle.path_starts.proofs.Taken.{Took, listed}
+use Rattle.path_starts.proofs.Taken.{listed}
 use Rattle.walk_state.proofs.Parts.{grew}
 use Rattle.walk_state.specs.declared.walk.Walk.{Walk}
 use Rattle.path_starts.proofs.facts.take_dims.Goals as goal
