@@ -1,0 +1,4 @@
+mod Exact
+mod Subscripts
+pub mod Obeying
+pub mod Plain
