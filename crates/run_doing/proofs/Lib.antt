@@ -1,0 +1,5 @@
+pub mod Each
+pub mod Found
+pub mod Descending
+pub mod Tabled
+pub mod Told

@@ -1,0 +1,3 @@
+pub mod Slotted
+pub mod Placed
+pub mod Named

@@ -1,0 +1,4 @@
+mod Behind
+mod Standing
+mod Fitting
+mod Pushing

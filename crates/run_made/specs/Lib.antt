@@ -1,0 +1,4 @@
+pub mod Made
+pub mod Lined
+pub mod Making
+pub mod Laws

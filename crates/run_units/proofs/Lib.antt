@@ -1,0 +1,3 @@
+mod Commoned
+mod Whole
+mod Coded

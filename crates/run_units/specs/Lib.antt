@@ -1,0 +1,4 @@
+pub mod Commons
+pub mod Parts
+pub mod Joined
+pub mod Coding
