@@ -1,5 +1,5 @@
 -- What a state of reading makes of the cards to come.
-use Rattle.std.specs.Prelude.{List, ◌++◌, Option}
+use Rattle.std.specs.Prelude.{ℕ, ◌-◌, take, drop, List, ◌++◌, Option}
 use Rattle.fort_syntax.specs.Cards.{Card, entries_from}
 use Rattle.fort_syntax.specs.CardRules.{fault_from}
 use Rattle.fort_syntax.specs.declared.cards.Entry.{Entry}
@@ -14,3 +14,7 @@ entries_with reading rest = reading.done.items ++ finished reading.held rest ++ 
 -- the first fault of the cards to come
 abbrev pub fault_with : Reading → List Card → Option Fault
 fault_with reading rest = fault_from (before_of reading.held) reading.number rest
+
+-- the bytes from a place up to another
+abbrev pub part : List ℕ → ℕ → ℕ → List ℕ
+part bytes start end = take (end - start) (drop start bytes)

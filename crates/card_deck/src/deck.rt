@@ -33,11 +33,11 @@ pub fn cards(alloc: Global, bytes: &[u8]) -> Result<Cards, Refusal>
         held: Held::Nothing,
         done: Vec::new(alloc),
     };
-    let mut card = Vec::new(alloc);
-    for byte in bytes {
-        read_byte(alloc, &mut reading, &mut card, *byte)?;
+    let mut start = 0;
+    for at in 0..bytes.len() {
+        start = read_byte(alloc, &mut reading, bytes, start, at)?;
     }
-    read_last(alloc, &mut reading, &card)?;
+    read_last(alloc, &mut reading, &bytes[start..])?;
     let Reading { held, mut done, .. } = reading;
     let Ok(()) = finish(&mut done, held) else {
         return Err(Refusal::NoMemory);

@@ -1,8 +1,8 @@
 // The state of reading.
-ghost use Rattle.std.specs.Prelude.{◌≡◌, ◌≤◌, ◌<◌, ◌+◌, ◌^◌, ◌∷◌, ℕ, List, [], Err, Some, OnOk};
+ghost use Rattle.std.specs.Prelude.{◌≡◌, ◌≤◌, ◌<◌, ◌+◌, ◌^◌, ◌∷◌, ℕ, List, [], length, drop, Err, Some, OnOk, IfOk};
 ghost use Rattle.fort_syntax.specs.Cards.{Card, columns, without_return, cards_from, last_card};
 ghost use Rattle.fort_syntax.specs.declared.refusal.Fault.{Fault};
-ghost use Rattle.card_deck.specs.Reading.{entries_with, fault_with};
+ghost use Rattle.card_deck.specs.Reading.{entries_with, fault_with, part};
 ghost use Rattle.card_deck.specs.Held.{count_of};
 
 use crate::advance::take;
@@ -45,35 +45,38 @@ fn read(alloc: Global, reading: &mut Reading, bytes: &[u8]) -> Result<(), Refusa
     }
 }
 
-/// Reads a byte behind those of a card: at a line end the card is read, and the next one begins.
+/// Reads the byte at a place, where a card began at `start`: at a line end the card is read. Where the card of the next byte
+/// begins.
 pub(crate) fn read_byte(
     alloc: Global,
     reading: &mut Reading,
-    card: &mut Vec<u8>,
-    byte: u8,
-) -> Result<(), Refusal>
+    bytes: &[u8],
+    start: usize,
+    at: usize,
+) -> Result<usize, Refusal>
+    requires started { start ≤ at }
+    requires within { at < length bytes.now }
     requires fits { count_of reading.old.held ≤ 19 }
     requires room { reading.old.number + 1 < 2 ^ 32 }
-    ensures entries { OnOk result ((rest : List ℕ) → entries_with reading.new
-        (cards_from rest card.new.items) ≡ entries_with reading.old
-        (cards_from (byte ∷ rest) card.old.items)) }
-    ensures faults { OnOk result ((rest : List ℕ) → fault_with reading.new
-        (cards_from rest card.new.items) ≡ fault_with reading.old
-        (cards_from (byte ∷ rest) card.old.items)) }
+    ensures started { IfOk result (λ next. next ≤ at + 1) }
+    ensures entries { IfOk result (λ next. entries_with reading.new
+        (cards_from (drop (at + 1) bytes.now) (part bytes.now next (at + 1)))
+        ≡ entries_with reading.old (cards_from (drop at bytes.now) (part bytes.now start at))) }
+    ensures faults { IfOk result (λ next. fault_with reading.new
+        (cards_from (drop (at + 1) bytes.now) (part bytes.now next (at + 1)))
+        ≡ fault_with reading.old (cards_from (drop at bytes.now) (part bytes.now start at))) }
     ensures fits { OnOk result (count_of reading.new.held ≤ 19) }
     ensures number { OnOk result (reading.new.number ≤ reading.old.number + 1) }
-    ensures broken { (f : Fault) → result ≡ Err (Refusal.Broken f) → (rest : List ℕ)
-        → fault_with reading.old (cards_from (byte ∷ rest) card.old.items) ≡ Some f }
+    ensures broken { (f : Fault) → result ≡ Err (Refusal.Broken f) → fault_with reading.old
+        (cards_from (drop at bytes.now) (part bytes.now start at)) ≡ Some f }
 {
-    if byte == b'\n' {
-        let answer = read(alloc, reading, card);
-        card.clear();
-        return answer;
+    if bytes[at] != b'\n' {
+        return Ok(start);
     }
-    let Ok(()) = card.push(byte) else {
-        return Err(Refusal::NoMemory);
-    };
-    Ok(())
+    match read(alloc, reading, &bytes[start..at]) {
+        Ok(()) => Ok(at + 1),
+        Err(refusal) => Err(refusal),
+    }
 }
 
 /// Reads what is behind the last line end.
