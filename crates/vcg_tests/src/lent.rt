@@ -1,6 +1,6 @@
 // Provers that are lent to the top call: marks, lines and counts.
 use crate::ends::{call_with, sink_of, source_of};
-use crate::{Never, Quiet};
+use crate::objects::{Never, Quiet};
 use edge_io::MemSink;
 use prover_box::{Ground, Prover, Subsumed};
 use std::alloc::Global;

@@ -8,6 +8,5 @@ mod ends;
 mod lent;
 #[cfg(test)]
 mod long_decks;
+#[cfg(test)]
 mod objects;
-
-pub use objects::{Never, Quiet};
