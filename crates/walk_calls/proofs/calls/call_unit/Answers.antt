@@ -12,6 +12,7 @@ use Rattle.walk_operands.proofs.Joined.{operands_stay}
 use Rattle.walk_setting.proofs.Ready.{ready_on}
 use Rattle.walk_setting.specs.Settings.{seen_from}
 use Rattle.walk_state.specs.Moments.{moment, with_names}
+use Rattle.walk_state.proofs.Parts.{follows_then}
 use Rattle.call_parts.specs.Parts.{Entered, TakesFacts, TakesOutput, before_call}
 use Rattle.call_parts.proofs.Noted.{entry_grows}
 use Rattle.walk_calls.proofs.Chained.{call_done}
@@ -107,3 +108,13 @@ returns-clause-did c p ready =
     call_done w d.card d.number g xs k (moment m) (moment n) (moment a) (moment b) (moment f) (moment e) (tree_of e.pool value) c.in_ok-call.ensures.next c.in_ok-call.ensures.answer entered.did
     (c.in_ok-names.ensures.smashed p ∙ (λ j. with_names (moment a) (changed w (hit j) (called k) (moment a).now))) facts output
     (tree_of-Grows f.pool e.pool value c.leave_unit.ensures.on.grows c.in_ok-value.ensures.is_in ∙ c.in_ok-value.ensures.tree)
+
+pub returns-in_err-value-clause-on : goal.returns-in_err-value-clause-on
+returns-in_err-value-clause-on c =
+    let m = c.args.walk.now in
+    let n = c.next_call.new.self in
+    let a = c.enter_unit.new.walk in
+    let b = c.smash_names.new.walk in
+    let f = c.take_facts.new.walk in
+    follows_then m n f c.next_call.ensures.on
+    (follows_then n a f c.enter_unit.ensures.on (follows_then a b f c.smash_names.ensures.on c.take_facts.ensures.on))
