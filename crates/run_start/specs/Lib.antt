@@ -1,2 +1,10 @@
 pub mod Starts
+pub mod Places
+pub mod Counted
+pub mod Shapes
+pub mod Decks
+pub mod Filled
 pub mod Started
+pub mod Cases
+pub mod Counting
+pub mod StartRows

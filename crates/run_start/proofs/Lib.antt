@@ -1,0 +1,9 @@
+pub mod Firsts
+pub mod Numbers
+pub mod Shaped
+pub mod Holding
+pub mod Unknown
+pub mod Begun
+pub mod Wanted
+pub mod Reading
+pub mod Begins
