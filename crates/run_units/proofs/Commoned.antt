@@ -1,8 +1,11 @@
 -- The COMMON entities of units are among those of a deck.
-use Rattle.std.proofs.Common.{◌≡◌, ℕ, zero, suc, Bool, true, false, cond, ◌||◌, List, [], ◌∷◌, ◌++◌, map, Some, slice_get, refl, sym, ap, ◌∙◌, subst}
+use Rattle.std.proofs.Common.{◌≡◌, ◌<◌, ℕ, zero, suc, ◌+◌, Bool, true, false, cond, ◌||◌, List, [], ◌∷◌, ◌++◌, map, drop, length, get_or, Some, slice_get, arith, refl, sym, ap, ◌∙◌, subst}
 use Rattle.formula.specs.Atoms.{is_among, same_bytes}
-use Rattle.fort_syntax.specs.Names.{commons}
+use Rattle.std.proofs.lemmas.Option.{slice_get_read}
+use Rattle.fort_syntax.specs.Names.{commons, items_of}
 use Rattle.fort_syntax.specs.declared.name.Name.{Name}
+use Rattle.fort_syntax.specs.declared.stmt.Group.{Group}
+use Rattle.fort_syntax.specs.declared.stmt.Item.{Item}
 use Rattle.fort_syntax.specs.declared.unit.Unit.{Unit as Routine}
 use Rattle.fort_laws.proofs.DeclaredNames.{among_joined_left, among_joined_right}
 use Rattle.fort_laws.proofs.FrameEnter.{SameOrNot, same, other, same_or_not}
@@ -52,3 +55,24 @@ held_of (v ∷ units) xs (suc i) u x e h = held_of units (with_names xs (commons
 
 pub all_held : (units : List Routine) (names : List Name) → names ≡ commons_of [] units → HaveShared names units
 all_held units names e = subst (λ xs. HaveShared xs units) (sym e) (held_of units [])
+
+-- ---- the blocks of a unit
+
+drop_at : {A : Type 0} (xs : List A) (i : ℕ) (x : A) → slice_get xs i ≡ Some x → drop i xs ≡ x ∷ drop (suc i) xs
+drop_at [] i x e = absurd cc
+drop_at (y ∷ ys) zero x e = let same : y ≡ x = cc in ap (λ z. z ∷ ys) same
+drop_at (y ∷ ys) (suc i) x e = drop_at ys i x e
+
+one_point : (i : ℕ) → i + 1 ≡ suc i
+one_point i = omega arith
+
+pub blocks_on : (old new whole : List Name) (blocks : List Group) (i : ℕ) (group : Group) (items : List Item) → i < length blocks → group ≡ get_or blocks i group
+    → items ≡ group.items → new ≡ with_names old (map (λ item. item.name) items) → with_names old (items_of (drop i blocks)) ≡ whole
+    → with_names new (items_of (drop (i + 1) blocks)) ≡ whole
+blocks_on old new whole blocks i group items lt is alike e h =
+    let first : drop i blocks ≡ group ∷ drop (suc i) blocks = drop_at blocks i group (slice_get_read blocks (length blocks) i group refl lt is) in
+    (λ j. with_names (e j) (items_of (drop (one_point i j) blocks)))
+    ∙ sym (both_added old (map (λ item. item.name) items) (items_of (drop (suc i) blocks)))
+    ∙ ap (λ xs. with_names old (map (λ item. item.name) xs ++ items_of (drop (suc i) blocks))) alike
+    ∙ ap (λ gs. with_names old (items_of gs)) (sym first)
+    ∙ h

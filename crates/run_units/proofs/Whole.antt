@@ -1,16 +1,14 @@
 -- The parts of the code of a unit together are its code.
-use Rattle.std.proofs.Common.{◌≡◌, ◌<◌, ℕ, zero, suc, ◌+◌, true, List, [], ◌∷◌, ◌++◌, drop, map, length, Option, Some, None, slice_get, refl, sym, ap, ◌∙◌, subst, append_assoc, arith}
-use Rattle.std.specs.Prelude.{is_some}
+use Rattle.std.proofs.Common.{◌≡◌, ℕ, suc, ◌+◌, true, List, [], ◌∷◌, ◌++◌, drop, map, length, Option, Some, None, slice_get, refl, sym, ap, ◌∙◌, subst}
 use Rattle.std.proofs.lemmas.List.{length-append}
 use Rattle.std.proofs.Math.Seq.{drop-append_seam}
 use Rattle.formula.specs.Atoms.{is_among}
-use Rattle.fort_syntax.specs.Names.{commons, data_name, dims_of, dims_of_data, is_function, own_names}
-use Rattle.fort_syntax.specs.WellFormed.{IsWellFormedUnit, names_of_unit}
+use Rattle.fort_syntax.specs.Names.{commons, data_name, dims_of, dims_of_data, own_names}
+use Rattle.fort_syntax.specs.WellFormed.{IsWellFormedUnit}
 use Rattle.fort_syntax.specs.declared.dialect.Dialect.{Dialect}
 use Rattle.fort_syntax.specs.declared.name.Name.{Name}
 use Rattle.fort_syntax.specs.declared.stmt.Dim.{Dim}
 use Rattle.fort_syntax.specs.declared.stmt.Dim.TheVariants.{Fixed, Named}
-use Rattle.fort_syntax.specs.declared.stmt.Param.{Param}
 use Rattle.fort_syntax.specs.declared.stmt.Stmt.{Stmt}
 use Rattle.fort_syntax.specs.declared.stmt.Stmt.TheVariants.{Subroutine, Function, Declare, Dimension, Common as CommonBlock, Assign, GoTo, Computed, ArithIf, LogicalIf', Do, Continue, Call, Return, End, BlockIf, ElseIf, Else, EndIf}
 use Rattle.fort_syntax.specs.declared.unit.DataName.{DataName}
@@ -25,10 +23,9 @@ use Rattle.fort_laws.proofs.DeclaredNames.{among_named, data_among}
 use Rattle.fort_laws.proofs.DeclaredUnits.{right_dim}
 use Rattle.fort_laws.proofs.DeclaredUses.{own_is_scalar}
 use Rattle.run_code.specs.Code as code
-use Rattle.run_shapes.specs.Coded.{AreSlotsOf, HasItsSlots, IsUnitCodeOf, calls_coded, slot_names}
+use Rattle.run_shapes.specs.Coded.{AreSlotsOf, IsUnitCodeOf, calls_coded, slot_names}
 use Rattle.run_shapes.specs.declared.slots.Slots.{Slots}
 use Rattle.run_shapes.specs.declared.unit_code.CallCode.{CallCode}
-use Rattle.run_shapes.specs.declared.unit_code.LineCode.{LineCode}
 use Rattle.run_shapes.specs.declared.unit_code.UnitCode.{UnitCode}
 use Rattle.run_coding.specs.Pushed.{slot_in}
 use Rattle.run_coding.proofs.Slots.{named_slot}
@@ -42,7 +39,7 @@ use Rattle.run_known.proofs.Named.{statements_are_here}
 use Rattle.run_known.proofs.Slotted.{has_slot}
 use Rattle.run_made.specs.Laws.{HasLines, LinesAreCode, LinesHaveSlots}
 use Rattle.run_made.specs.Lined.{codes_from, line_pushed}
-use Rattle.run_sizes.specs.Sized.{DimHere, shapes_from}
+use Rattle.run_sizes.specs.Sized.{DimHere}
 use Rattle.run_sizes.proofs.Slotted.{dims_stand, dims_within, shapes_long}
 use Rattle.run_units.specs.Joined.{PartsAreCode}
 use Rattle.run_units.specs.Parts.{HasParts, code_by}
@@ -176,6 +173,7 @@ module _ (dialect : Dialect) (u : Routine) (w : IsWellFormedUnit dialect u) wher
         in_tests = told.fitting;
         in_sizes = dims_within u slots all_dims h.sizes.sizes;
       };
+      pointed = λ i round e. subst (λ n. round.at < n) (sym long) (told.inside i round e);
       calls_told = h.body.calls;
       long = long;
       lined = λ pc line l e f. law u units parts.body.table unit pc line l has_lines e f;

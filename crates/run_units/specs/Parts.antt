@@ -1,5 +1,5 @@
 -- The parts of the code of a unit.
-use Rattle.std.specs.Prelude.{◌≡◌, ℕ, ◌+◌, List, drop, length, map}
+use Rattle.std.specs.Prelude.{◌≡◌, ◌+◌, List, drop, length, map}
 use Rattle.fort_syntax.specs.Names.{is_function, own_names}
 use Rattle.fort_syntax.specs.declared.name.Name.{Name}
 use Rattle.fort_syntax.specs.declared.unit.Unit.{Unit as Routine}

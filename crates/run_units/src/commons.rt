@@ -135,6 +135,7 @@ fn is_own(role: Role) -> bool
 /// How many names get new cells.
 pub(crate) fn count_own(names: &[DataName]) -> usize
     ensures value { result ≡ length (own_in names.now) }
+    ensures within { result ≤ length names.now }
 {
     let mut count: usize = 0;
     for data in names {

@@ -34,6 +34,27 @@ pub(crate) struct Deck<'a> {
     ghost numbers_are: { AreUnitNumbers units.now numbers.now },
 }
 
+/// The slots of a unit by its names and their dimensions.
+fn slots_by(names: Vec<Name>, sizes: Sizes, dummies: usize, own: usize) -> Slots
+    ensures { result ≡ record {
+      names = names.items;
+      dummies = dummies;
+      own = own;
+      shapes =
+          sizes.shapes.items;
+      sizes = sizes.sizes.items;
+    } }
+{
+    let Sizes { shapes, sizes } = sizes;
+    Slots {
+        names: List::from_vec(names),
+        dummies,
+        own,
+        shapes: List::from_vec(shapes),
+        sizes: List::from_vec(sizes),
+    }
+}
+
 /// The code of a unit by its names and its parts.
 fn joined(unit: &Unit, names: Vec<Name>, parts: Parts) -> UnitCode
     ensures { result ≡ code_by unit.now names.items parts }
@@ -46,7 +67,6 @@ fn joined(unit: &Unit, names: Vec<Name>, parts: Parts) -> UnitCode
         own,
         value,
     } = parts;
-    let Sizes { shapes, sizes } = sizes;
     let Body { table, made } = body;
     let TestTable { tests, .. } = table;
     let Made { draft, codes } = made;
@@ -59,13 +79,7 @@ fn joined(unit: &Unit, names: Vec<Name>, parts: Parts) -> UnitCode
         name: unit.name,
         is_function: unit.sort.is_some(),
         value,
-        slots: Slots {
-            names: List::from_vec(names),
-            dummies,
-            own,
-            shapes: List::from_vec(shapes),
-            sizes: List::from_vec(sizes),
-        },
+        slots: slots_by(names, sizes, dummies, own),
         shared: List::from_vec(shared),
         tests: List::from_vec(tests),
         calls: List::from_vec(calls),

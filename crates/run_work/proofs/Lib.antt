@@ -1,0 +1,5 @@
+pub mod Units
+pub mod Obeyed
+pub mod Ended
+pub mod Entering
+pub mod Going

@@ -1,0 +1,13 @@
+//! The work of a run and its steps. None of them takes memory.
+#![tactic(auto)]
+
+mod acting;
+mod obeying;
+mod proceeding;
+mod program;
+mod quick;
+mod stepping;
+mod working;
+
+pub use proceeding::proceed;
+pub use program::Program;
