@@ -37,11 +37,13 @@ is_inside _ = false
 module _ (units : List Routine) (code : Code) (setting : Setting) where
   -- whatever an old state shows of a run of these units, a step was wanted there, and was taken
   abbrev pub SteppedOf : State → State → Type 0
-  SteppedOf old new = (w : World) → IsWorldOf code setting w → w.units ≡ units → (c : Config) (st : Storage) → Shows w code old c st → GoesOn w code c st new
+  SteppedOf old new = (w : World) → IsWorldOf code setting w → w.units ≡ units → (c : Config) (st : Storage)
+      → Shows w code old c st → GoesOn w code c st new
 
   -- so many steps were taken, or the run is over
   abbrev pub WentOf : ℕ → State → State → Type 0
-  WentOf k old new = (w : World) → IsWorldOf code setting w → w.units ≡ units → (c : Config) (st : Storage) → Shows w code old c st → HasGone w code c st new k
+  WentOf k old new = (w : World) → IsWorldOf code setting w → w.units ≡ units → (c : Config) (st : Storage)
+      → Shows w code old c st → HasGone w code c st new k
 
 -- a step, where one was wanted
 abbrev pub MayStepOf : Bool → List Routine → Code → Setting → State → State → Type 0

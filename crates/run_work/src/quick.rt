@@ -60,7 +60,8 @@ fn in_place_of_two(m: &mut State, value: Result<Held, Kind>)
 #[inline(always)]
 pub(crate) fn operation(m: &mut State, setting: &Setting, sign: BinOp)
     requires { length m.old.values.items < m.old.values.room }
-    ensures { m.new ≡ answered 2 (operated_to setting.now.bounds sign (value_below 1 m.old) (value_below 0 m.old)) m.old }
+    ensures { m.new ≡ answered 2 (operated_to setting.now.bounds sign (value_below 1 m.old)
+        (value_below 0 m.old)) m.old }
 {
     let right = value_at(&m.values, 0);
     let left = value_at(&m.values, 1);
