@@ -25,6 +25,7 @@ use Rattle.path_laws.proofs.AllPaths.{all_paths_exist}
 use Rattle.path_scene.specs.Scenes.{AreNotesIn, IsReady}
 use Rattle.path_scene.specs.declared.scene.Scene.{Scene}
 use Rattle.alias_rules.specs.Stages.{KeepCalls}
+use Rattle.deck_judging.specs.Calls.{AreCallsKnown}
 use Rattle.deck_judging.specs.Stages.{AreAllConditions, AreConditionsOfDeck, AreNotesOf, AreShort, HaveTable, IsAliased, KeepSmashing, KeepsScene}
 use Rattle.deck_judging.proofs.Functions.{bodies_stay, functions_same}
 use Rattle.deck_judging.proofs.Kept.{kept_by_stages}
@@ -79,10 +80,10 @@ module _ (d : Dialect) (deck : Deck) (pool : List Node) (ds : List Definition) (
   }
 
   -- its conditions and counts, where all rules are kept
-  pub are_conditions : (new : List Node) (cs : List Condition) (count units : ℕ) → units ≡ length deck.units → HaveTable deck.units rows → KeepCalls deck.units → KeepSmashing deck.units rows
+  pub are_conditions : (new : List Node) (cs : List Condition) (count units : ℕ) → units ≡ length deck.units → HaveTable deck.units rows → KeepCalls deck.units → KeepSmashing deck.units rows → (order : List ℕ) → AreCallsKnown deck.units order
       → KeepsScene (found_program d deck pool ds specs rows) → AreAllConditions (found_program d deck pool ds specs rows) new cs count → Grows pool new → All (IsConditionIn new) cs
-      → AreConditionsOfDeck d deck (record { pool = new; definitions = ds; conditions = cs; units = units; paths = count; tries = specs.tries })
-  are_conditions new cs count units many table calls smashing scene all grows inside =
+      → AreConditionsOfDeck d deck (record { pool = new; definitions = ds; conditions = cs; units = units; paths = count; bound = specs.bound; order = order; runs = specs.runs; tries = specs.tries })
+  are_conditions new cs count units many table calls smashing order known scene all grows inside =
       let p = found_program d deck pool ds specs rows in
       let kept = kept_by_stages p (calls p refl) (smashing p refl refl) scene.0 scene.1 in
       let paths = all_paths_exist p (kept UncutCycle) in
@@ -99,5 +100,9 @@ module _ (d : Dialect) (deck : Deck) (pool : List Node) (ds : List Definition) (
         inside = inside;
         units = many;
         counted = all.counted paths.0 paths.1;
+        bound = refl;
+        calls_kept = calls;
+        calls_known = known;
+        runs = refl;
         tries = refl;
       }

@@ -10,7 +10,9 @@ use Rattle.event_text.specs.Conditions.{IsConditionIn, IsDefinitionIn, condition
 use Rattle.fort_model.specs.Conditions.{conditions_of}
 use Rattle.fort_model.specs.Paths.{Path}
 use Rattle.fort_model.specs.Program.{Program}
+use Rattle.alias_rules.specs.Stages.{KeepCalls}
 use Rattle.judging.specs.Judgement.{IsAcceptedIn}
+use Rattle.deck_judging.specs.Calls.{AreCallsKnown}
 use Rattle.deck_judging.specs.declared.found.Judged.{Judged}
 
 -- how many paths stand in lists of paths
@@ -18,10 +20,10 @@ abbrev pub count_of_paths : List (List Path) → ℕ
 count_of_paths [] = 0
 count_of_paths (paths ∷ rest) = length paths + count_of_paths rest
 
--- Bytes are accepted in a dialect; the definitions are those of their notes, and the conditions those of their
--- program along all its paths, all with terms of the pool, to which the definitions were added one after
--- another. The counts are those of its units and of these paths, and the assignments to conditions are those
--- that the notes tell.
+-- Bytes are accepted in a dialect as a deck; the definitions are those of their notes, and the conditions those
+-- of their program along all its paths, all with terms of the pool, to which the definitions were added one
+-- after another. The counts are those of its units and of these paths; the bound, the runs and the assignments
+-- to conditions are those that the notes tell; and the order is that of calls.
 pub record IsJudgedIn (d : Dialect) (bytes : List ℕ) (j : Judged) : Type 0 where
   pub deck : Deck
   pub r : Remarks
@@ -35,4 +37,9 @@ pub record IsJudgedIn (d : Dialect) (bytes : List ℕ) (j : Judged) : Type 0 whe
   pub conditions_inside : All (IsConditionIn j.pool) j.conditions
   pub units : j.units ≡ length p.units
   pub paths_counted : j.paths ≡ count_of_paths paths
+  pub is_deck : j.deck ≡ deck
+  pub bound : j.bound ≡ r.bound
+  pub calls_kept : KeepCalls deck.units
+  pub calls_known : AreCallsKnown deck.units j.order
+  pub runs : j.runs ≡ r.runs
   pub tries : j.tries ≡ r.tries

@@ -1,2 +1,4 @@
-pub mod Stages
+pub mod Calls
 pub mod Judged
+pub mod Findings
+pub mod Stages

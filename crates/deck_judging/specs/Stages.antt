@@ -16,6 +16,7 @@ use Rattle.fort_notes.specs.Remarks.{Remarks, remarks_of}
 use Rattle.fort_notes.specs.declared.notes.Specs.{Specs}
 use Rattle.note_units.specs.Sorting.{remarks_tree}
 use Rattle.event_text.specs.Conditions.{IsConditionIn, IsDefinitionIn, condition_tree}
+use Rattle.alias_rules.specs.Stages.{KeepCalls}
 use Rattle.fort_model.specs.Conditions.{AreAllPaths, conditions_of}
 use Rattle.fort_model.specs.Fitting.{HasFittingNotes}
 use Rattle.fort_model.specs.Paths.{Path}
@@ -28,7 +29,10 @@ use Rattle.accepted_laws.specs.ModelFaults.{IsModelFault}
 use Rattle.path_scene.specs.Scenes.{AreNotesIn, IsScene}
 use Rattle.path_scene.specs.declared.scene.Scene.{Scene}
 use Rattle.path_sizes.specs.Limits.{IsSizeFault, IsWithinLimits}
+use Rattle.deck_judging.specs.Calls.{AreCallsKnown}
 use Rattle.deck_judging.specs.Judged.{count_of_paths}
+use Rattle.deck_judging.specs.Findings.{judged_as}
+use Rattle.deck_judging.specs.declared.findings.Findings.{Findings}
 use Rattle.deck_judging.specs.declared.found.Judged.{Judged}
 
 -- ---- units
@@ -94,8 +98,9 @@ pub record AreAllConditions (p : Program) (pool : List Node) (cs : List Conditio
 -- ---- a deck
 
 -- a deck is accepted, and this is found of it: its definitions and its conditions, as terms of a pool, its
--- counts of units and of paths, and the assignments to conditions that its notes tell
-pub record AreConditionsOfDeck (dialect : Dialect) (deck : Deck) (j : Judged) : Type 0 where
+-- counts of units and of paths, its bound, the order of its calls, and the runs and the assignments to
+-- conditions that its notes tell
+pub record AreConditionsOfDeck (dialect : Dialect) (deck : Deck) (j : Findings) : Type 0 where
   pub r : Remarks
   pub p : Program
   pub paths : List (List Path)
@@ -108,7 +113,17 @@ pub record AreConditionsOfDeck (dialect : Dialect) (deck : Deck) (j : Judged) : 
   pub inside : All (IsConditionIn j.pool) j.conditions
   pub units : j.units ≡ length p.units
   pub counted : j.paths ≡ count_of_paths paths
+  pub bound : j.bound ≡ r.bound
+  pub calls_kept : KeepCalls deck.units
+  pub calls_known : AreCallsKnown deck.units j.order
+  pub runs : j.runs ≡ r.runs
   pub tries : j.tries ≡ r.tries
+
+-- a deck is accepted, and this is found of it, with the deck itself
+pub record IsFoundAs (dialect : Dialect) (deck : Deck) (j : Judged) : Type 0 where
+  pub findings : Findings
+  pub conditions : AreConditionsOfDeck dialect deck findings
+  pub is : j ≡ judged_as deck findings
 
 -- the first fault of a deck that is well formed: among its notes, in its calls or in a later stage, or else of sizes
 abbrev pub IsDeckFault : Dialect → Deck → Fault → Type 0

@@ -4,15 +4,16 @@ ghost use Rattle.fort_syntax.specs.WellFormed.{IsWellFormed};
 ghost use Rattle.fort_syntax.specs.declared.refusal.Fault.{Fault};
 ghost use Rattle.fort_syntax.specs.declared.refusal.Refusal.TheVariants.{Broken};
 ghost use Rattle.alias_rules.specs.Stages.{KeepCalls};
+ghost use Rattle.deck_judging.specs.Calls.{AreCallsKnown};
 ghost use Rattle.deck_judging.specs.Stages.{AreConditionsOfDeck, AreNotesOf, AreShort, HaveTable, IsDeckFault, KeepSmashing};
 
-use crate::Judged;
+use crate::findings::Findings;
 use crate::noted::noted;
 use crate::notes_found::Noted;
 use crate::scene::{Found, conditions_of_scene};
-use crate::smashed::smashed;
+use crate::smashed::{Smashing, smashed};
 use call_sites::DeckBook;
-use edge_io::Keys;
+use edge_io::{Keys, List};
 use fort_notes::Specs;
 use fort_syntax::{Deck, Dialect, Refusal};
 use name_tables::NameSet;
@@ -24,6 +25,7 @@ use std::alloc::Global;
 struct Known {
     dialect: Dialect,
     noted: Noted,
+    order: List<u32>,
     smashes: Vec<NameSet>,
 }
 
@@ -35,11 +37,12 @@ fn judged_books(
     deck: &Deck,
     known: Known,
     books: &DeckBook,
-) -> Result<Judged, Refusal>
+) -> Result<Findings, Refusal>
     requires well { IsWellFormed known.dialect deck.now }
     requires short { AreShort deck.now.units }
     requires notes { AreNotesOf deck.now known.noted.pool known.noted.definitions known.noted.specs }
     requires calls { KeepCalls deck.now.units }
+    requires known_calls { AreCallsKnown deck.now.units known.order }
     requires table { HaveTable deck.now.units known.smashes.items }
     requires smashing { KeepSmashing deck.now.units known.smashes.items }
     requires books { books.now.units.now ≡ deck.now.units }
@@ -49,6 +52,7 @@ fn judged_books(
     let Known {
         dialect,
         noted,
+        order,
         smashes,
     } = known;
     let Noted {
@@ -72,9 +76,9 @@ fn judged_books(
         smashes: _smashes,
     } = scene;
     let Specs {
-        bound: _bound_read,
+        bound,
         units: _units,
-        runs: _runs,
+        runs,
         tries,
         proofs: _proofs,
     } = specs;
@@ -85,12 +89,15 @@ fn judged_books(
                 conditions,
                 paths,
             },
-        ) => Ok(Judged {
+        ) => Ok(Findings {
             pool,
             definitions,
             conditions,
             units: deck.units.as_slice().len(),
             paths,
+            bound,
+            order,
+            runs,
             tries,
         }),
         Err(refusal) => Err(refusal),
@@ -98,11 +105,12 @@ fn judged_books(
 }
 
 /// The conditions of a deck of which this is known; or its first fault in ranges or in a later stage.
-fn judged_known(alloc: Global, keys: Keys, deck: &Deck, known: Known) -> Result<Judged, Refusal>
+fn judged_known(alloc: Global, keys: Keys, deck: &Deck, known: Known) -> Result<Findings, Refusal>
     requires well { IsWellFormed known.dialect deck.now }
     requires short { AreShort deck.now.units }
     requires notes { AreNotesOf deck.now known.noted.pool known.noted.definitions known.noted.specs }
     requires calls { KeepCalls deck.now.units }
+    requires known_calls { AreCallsKnown deck.now.units known.order }
     requires table { HaveTable deck.now.units known.smashes.items }
     requires smashing { KeepSmashing deck.now.units known.smashes.items }
     ensures judged { IfOk result (λ j. AreConditionsOfDeck known.dialect deck.now j) }
@@ -121,7 +129,7 @@ fn judged_notes(
     dialect: Dialect,
     deck: &Deck,
     noted: Noted,
-) -> Result<Judged, Refusal>
+) -> Result<Findings, Refusal>
     requires well { IsWellFormed dialect deck.now }
     requires short { AreShort deck.now.units }
     requires notes { AreNotesOf deck.now noted.pool noted.definitions noted.specs }
@@ -129,11 +137,12 @@ fn judged_notes(
     ensures broken { (f : Fault) → result ≡ Err (Broken f) → IsDeckFault dialect deck.now f }
 {
     match smashed(alloc, keys, deck) {
-        Ok(smashes) => {
+        Ok(Smashing { order, rows }) => {
             let known = Known {
                 dialect,
                 noted,
-                smashes,
+                order,
+                smashes: rows,
             };
             judged_known(alloc, keys, deck, known)
         }
@@ -147,7 +156,7 @@ pub(crate) fn judged_deck(
     keys: Keys,
     dialect: Dialect,
     deck: &Deck,
-) -> Result<Judged, Refusal>
+) -> Result<Findings, Refusal>
     requires well { IsWellFormed dialect deck.now }
     requires short { AreShort deck.now.units }
     ensures judged { IfOk result (λ j. AreConditionsOfDeck dialect deck.now j) }

@@ -2,6 +2,7 @@
 #![tactic(auto)]
 
 mod deck;
+mod findings;
 mod found;
 mod noted;
 mod notes_found;

@@ -5,9 +5,11 @@ ghost use Rattle.fort_syntax.specs.declared.refusal.Fault.{Fault};
 ghost use Rattle.fort_syntax.specs.declared.refusal.Refusal.TheVariants.{Broken};
 ghost use Rattle.judging.specs.Judgement.{IsDeckIn, IsFirstFaultIn, IsTextFaultIn};
 ghost use Rattle.deck_judging.specs.Judged.{IsJudgedIn};
+ghost use Rattle.deck_judging.specs.Stages.{AreShort, IsDeckFault, IsFoundAs};
 
 use crate::Judged;
 use crate::deck::judged_deck;
+use crate::findings::judged_as;
 use card_deck::cards;
 use edge_io::Keys;
 use fort_syntax::{Deck, Dialect, Refusal};
@@ -27,6 +29,19 @@ fn deck_of(alloc: Global, keys: Keys, dialect: Dialect, bytes: &[u8]) -> Result<
     }
 }
 
+/// What is found of a deck that some bytes are, or its first fault.
+fn judged_text(alloc: Global, keys: Keys, dialect: Dialect, deck: Deck) -> Result<Judged, Refusal>
+    requires well { IsWellFormed dialect deck }
+    requires short { AreShort deck.units }
+    ensures judged { IfOk result (λ j. IsFoundAs dialect deck j) }
+    ensures broken { (f : Fault) → result ≡ Err (Broken f) → IsDeckFault dialect deck f }
+{
+    match judged_deck(alloc, keys, dialect, &deck) {
+        Ok(findings) => Ok(judged_as(deck, findings)),
+        Err(refusal) => Err(refusal),
+    }
+}
+
 /// What is found of some bytes that are accepted in a dialect: of a deck that keeps all rules. The
 /// conditions are those of all paths of its units, in order.
 ///
@@ -39,7 +54,7 @@ pub fn judged(alloc: Global, keys: Keys, dialect: Dialect, bytes: &[u8]) -> Resu
     ensures broken { (f : Fault) → result ≡ Err (Broken f) → IsFirstFaultIn dialect bytes.now f }
 {
     match deck_of(alloc, keys, dialect, bytes) {
-        Ok(deck) => judged_deck(alloc, keys, dialect, &deck),
+        Ok(deck) => judged_text(alloc, keys, dialect, deck),
         Err(refusal) => Err(refusal),
     }
 }

@@ -12,6 +12,8 @@ use Rattle.fort_syntax.specs.declared.deck.Deck.{Deck}
 use Rattle.fort_syntax.specs.declared.dialect.Dialect.{Dialect}
 use Rattle.fort_syntax.specs.declared.refusal.Fault.{Fault}
 use Rattle.fort_notes.specs.Remarks.{Remarks}
+use Rattle.fort_syntax.specs.declared.unit.Unit.{Unit as Routine}
+use Rattle.fort_notes.specs.declared.cases.RunCard.{RunCard}
 use Rattle.fort_notes.specs.declared.cases.TryCard.{TryCard}
 use Rattle.event_text.specs.Conditions.{condition_tree}
 use Rattle.event_text.specs.EventText.{event_text}
@@ -28,16 +30,18 @@ use Rattle.prover_box.proofs.Enough.{unclosed_enough}
 use Rattle.readable_laws.proofs.OfTexts.{conditions_in_are_readable, text_tells_conditions}
 use Rattle.reply_lines.specs.Lines.{accepted_line, made_line}
 use Rattle.reply_lines.specs.declared.lines.Sizes.{Sizes}
+use Rattle.run_ranks.specs.Runnable.{CanRun}
+use Rattle.run_texts.specs.Runs.{run_text}
 use Rattle.try_lines.specs.Tries.{try_text}
 use Rattle.deck_judging.specs.Judged.{IsJudgedIn}
 use Rattle.deck_judging.specs.declared.found.Judged.{Judged}
 use Rattle.vcg_top.specs.declared.command.Command.{Command}
 use Rattle.vcg_top.specs.declared.command.Command.TheVariants.{Deck as OfDeck, Made}
 use Rattle.vcg_top.specs.declared.command.Task.{Task}
-use Rattle.vcg_top.specs.declared.command.Task.TheVariants.{Vc, Check, Try}
+use Rattle.vcg_top.specs.declared.command.Task.TheVariants.{Vc, Check, Run, Try}
 use Rattle.vcg_top.specs.declared.status.Status.{Status}
 use Rattle.vcg_top.specs.declared.status.Status.TheVariants.{Done, Refused, ReadFault, WriteFault, NoMemory as Starved}
-use Rattle.vcg_top.specs.Answers.{AppendsOf, AppendsPartOf, IsCheckText, IsDoneText, IsEither, IsMadeText, IsRefusedText, IsReply, IsTryText, count_of_marked, sizes_of}
+use Rattle.vcg_top.specs.Answers.{AppendsOf, AppendsPartOf, IsCheckText, IsDoneText, IsEither, IsMadeText, IsRefusedText, IsReply, IsRunText, IsTryText, count_of_marked, sizes_of}
 use Rattle.vcg_top.specs.Commands.{IsDeckOf, IsMadeNumber, IsReadWell, IsTakenOf, dialect_of, most_read}
 use Rattle.vcg_top.specs.Found.{AreMarksOf, IsMadeOf, IsReplyOf, IsTextOf, sizes_found}
 use Rattle.vcg_top.specs.Marked.{AreMarksFor}
@@ -82,6 +86,35 @@ module _ (d : Dialect) (bytes : List ℕ) (j : Judged) (h : IsJudgedIn d bytes j
   check_found : (text : List ℕ) → text ≡ accepted_line (sizes_found j) → IsCheckText d bytes text
   check_found text is = record { deck = h.deck; r = h.r; p = h.p; paths = h.paths; accepted = h.accepted; is = is ∙ ap accepted_line sizes_are }
 
+  -- its deck is that of the program, and so is its bound
+  units_are : j.deck.units ≡ h.p.units
+  units_are = ap (λ (k : Deck). k.units) h.is_deck ∙ sym (ap (λ (q : Program). q.units) h.accepted.accepted.is_program.program)
+
+  bound_is : j.bound ≡ h.p.bound
+  bound_is = h.bound ∙ sym (ap (λ (q : Program). q.bound) h.accepted.accepted.is_program.program)
+
+  pub can_run : CanRun d j.deck.units j.order
+  can_run = subst (λ (k : Deck). CanRun d k.units j.order) (sym h.is_deck) (record {
+    formed = h.accepted.accepted.is_program.well_formed.units;
+    blocks = h.accepted.accepted.is_program.well_formed.blocks;
+    keeps = h.calls_kept;
+    rows = h.calls_known.rows;
+    callees = h.calls_known.callees;
+    ordered = h.calls_known.ordered;
+  })
+
+  run_found : (text : List ℕ) → text ≡ run_text d j.deck.units j.bound 1 j.runs → IsRunText d bytes text
+  run_found text is = record {
+    deck = h.deck;
+    r = h.r;
+    p = h.p;
+    paths = h.paths;
+    accepted = h.accepted;
+    is = is ∙ ap (λ (us : List Routine). run_text d us j.bound 1 j.runs) units_are
+        ∙ ap (λ (b : ℕ). run_text d h.p.units b 1 j.runs) bound_is
+        ∙ ap (λ (cards : List RunCard). run_text d h.p.units h.p.bound 1 cards) h.runs;
+  }
+
   try_found : (text : List ℕ) → text ≡ try_text (functions_of j.pool j.definitions) (map (condition_tree j.pool) j.conditions) 1 j.tries → IsTryText d bytes text
   try_found text is = record {
     deck = h.deck;
@@ -110,6 +143,7 @@ made_found n bytes j before now text h t = record {
 reply_found : (c : Command) (bytes : List ℕ) (j : Judged) (before now : List Seen) (text : List ℕ) → IsJudgedIn (dialect_of c) bytes j → IsReplyOf c j before now text → IsReply c bytes before now text
 reply_found (OfDeck Vc d) bytes j before now text h t = done_found d bytes j h before now text t
 reply_found (OfDeck Check d) bytes j before now text h t = check_found d bytes j h text t
+reply_found (OfDeck Run d) bytes j before now text h t = run_found d bytes j h text t
 reply_found (OfDeck Try d) bytes j before now text h t = try_found d bytes j h text t
 reply_found (Made n) bytes j before now text h t = made_found n bytes j before now text h t
 
@@ -169,6 +203,7 @@ module _ (front bytes : List ℕ) (e : front ≡ take most_read bytes) where
       is = h.is;
     }
     reply_text (OfDeck Check d) text h = record { deck = h.deck; r = h.r; p = h.p; paths = h.paths; accepted = accepted_of_front d front bytes h.deck h.r h.p h.paths e h.accepted; is = h.is }
+    reply_text (OfDeck Run d) text h = record { deck = h.deck; r = h.r; p = h.p; paths = h.paths; accepted = accepted_of_front d front bytes h.deck h.r h.p h.paths e h.accepted; is = h.is }
     reply_text (OfDeck Try d) text h = record { deck = h.deck; r = h.r; p = h.p; paths = h.paths; accepted = accepted_of_front d front bytes h.deck h.r h.p h.paths e h.accepted; is = h.is }
     reply_text (Made n) text h = record {
       deck = h.deck;
@@ -261,6 +296,7 @@ never_refused d bytes deck r p paths w v is h = let text = h.1 in accepted_in_ha
 fault_and_reply : (c : Command) (bytes : List ℕ) (f : Fault) (before now : List Seen) (text : List ℕ) → IsFirstFaultIn (dialect_of c) bytes f → ¬ IsReply c bytes before now text
 fault_and_reply (OfDeck Vc d) bytes f before now text is h = accepted_in_have_no_fault d bytes h.deck h.r h.p h.paths f h.accepted is
 fault_and_reply (OfDeck Check d) bytes f before now text is h = accepted_in_have_no_fault d bytes h.deck h.r h.p h.paths f h.accepted is
+fault_and_reply (OfDeck Run d) bytes f before now text is h = accepted_in_have_no_fault d bytes h.deck h.r h.p h.paths f h.accepted is
 fault_and_reply (OfDeck Try d) bytes f before now text is h = accepted_in_have_no_fault d bytes h.deck h.r h.p h.paths f h.accepted is
 fault_and_reply (Made n) bytes f before now text is h = accepted_in_have_no_fault (dialect_of (Made n)) bytes h.deck h.r h.p h.paths f h.accepted is
 
@@ -287,3 +323,7 @@ refused_or_starved s (inr (inr (inr starved))) done failed = inr starved
 pub no_read_fault : (s : Status) → (s ≡ ReadFault) ⊎ IsAnswer s → ¬ (s ≡ ReadFault) → IsAnswer s
 no_read_fault s (inl is) never = absurd (never is)
 no_read_fault s (inr h) never = h
+
+-- a deck that is judged in the dialect of a command can be run in it
+pub command_can_run : (c : Command) (d : Dialect) (bytes : List ℕ) (j : Judged) → d ≡ dialect_of c → IsJudgedIn d bytes j → CanRun (dialect_of c) j.deck.units j.order
+command_can_run c d bytes j same h = subst (λ (e : Dialect). CanRun e j.deck.units j.order) same (can_run d bytes j h)

@@ -18,12 +18,13 @@ use Rattle.prover_box.specs.Answers.{Seen, unclosed}
 use Rattle.reply_lines.specs.Lines.{accepted_line, made_line}
 use Rattle.reply_lines.specs.declared.lines.Sizes.{Sizes}
 use Rattle.deck_judging.specs.Judged.{count_of_paths}
+use Rattle.run_texts.specs.Runs.{run_text}
 use Rattle.try_lines.specs.Tries.{try_text}
 use Rattle.vcg_top.specs.Commands.{dialect_of}
 use Rattle.vcg_top.specs.Marked.{AreMarksFor}
 use Rattle.vcg_top.specs.declared.command.Command.{Command}
 use Rattle.vcg_top.specs.declared.command.Command.TheVariants.{Deck as OfDeck, Made}
-use Rattle.vcg_top.specs.declared.command.Task.TheVariants.{Vc, Check, Try}
+use Rattle.vcg_top.specs.declared.command.Task.TheVariants.{Vc, Check, Run, Try}
 
 -- ---- texts
 
@@ -51,6 +52,17 @@ pub record IsCheckText (d : Dialect) (bytes text : List ℕ) : Type 0 where
   pub paths : List (List Path)
   pub accepted : IsAcceptedIn d bytes deck r p paths
   pub is : text ≡ accepted_line (sizes_of p paths)
+
+-- The lines of `run` for bytes that are accepted: for each RUN card, what the run of its unit comes to in the
+-- model of the language, from the start that the card gives, on the card's processor and with its steps; or why
+-- it is not run.
+pub record IsRunText (d : Dialect) (bytes text : List ℕ) : Type 0 where
+  pub deck : Deck
+  pub r : Remarks
+  pub p : Program
+  pub paths : List (List Path)
+  pub accepted : IsAcceptedIn d bytes deck r p paths
+  pub is : text ≡ run_text d p.units p.bound 1 r.runs
 
 -- the lines of `try` for bytes that are accepted: for each TRY card, what the condition that it names comes to by its assignment
 pub record IsTryText (d : Dialect) (bytes text : List ℕ) : Type 0 where
@@ -87,6 +99,7 @@ pub record IsRefusedText (d : Dialect) (bytes text : List ℕ) : Type 0 where
 abbrev pub IsReply : Command → List ℕ → List Seen → List Seen → List ℕ → Type 0
 IsReply (OfDeck Vc d) bytes before now text = IsDoneText d bytes before now text
 IsReply (OfDeck Check d) bytes before now text = IsCheckText d bytes text
+IsReply (OfDeck Run d) bytes before now text = IsRunText d bytes text
 IsReply (OfDeck Try d) bytes before now text = IsTryText d bytes text
 IsReply (Made n) bytes before now text = IsMadeText n bytes before now text
 

@@ -9,7 +9,7 @@ use Rattle.deck_made.specs.Made.{made_deck}
 use Rattle.vcg_top.specs.declared.command.Command.{Command}
 use Rattle.vcg_top.specs.declared.command.Command.TheVariants.{Deck, Made}
 use Rattle.vcg_top.specs.declared.command.Task.{Task}
-use Rattle.vcg_top.specs.declared.command.Task.TheVariants.{Vc, Check, Try}
+use Rattle.vcg_top.specs.declared.command.Task.TheVariants.{Vc, Check, Run, Try}
 
 -- ---- words
 
@@ -18,6 +18,7 @@ abbrev pub task_of : List ℕ → Option Task
 task_of w =
     if same_bytes w (codes "vc") then Some Vc
     else if same_bytes w (codes "check") then Some Check
+    else if same_bytes w (codes "run") then Some Run
     else if same_bytes w (codes "try") then Some Try
     else None
 
@@ -82,5 +83,6 @@ IsReadWell (Made n) before now = ⊤
 abbrev pub AsksNone : Command → Type 0
 AsksNone (Deck Vc d) = ⊥
 AsksNone (Deck Check d) = ⊤
+AsksNone (Deck Run d) = ⊤
 AsksNone (Deck Try d) = ⊤
 AsksNone (Made n) = ⊥

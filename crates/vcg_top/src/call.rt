@@ -29,12 +29,13 @@ use edge_io::{Sink, Source};
 use prover_box::Prover;
 use std::alloc::Global;
 
-/// The top call. The words are those behind the program's name. `vc`, `check` and `try` speak of the
+/// The top call. The words are those behind the program's name. `vc`, `check`, `run` and `try` speak of the
 /// deck that comes by the source, and behind each of them may stand `77` for FORTRAN 77:
 ///
 /// - `vc` writes the text of the definitions and the conditions of the deck. Each condition is put to
 ///   the provers in order, until one says yes, whose letter is its mark; where all say no, its mark is `-`.
 /// - `check` writes how many units, paths and conditions it has.
+/// - `run` writes, for each of its RUN cards, what the run of a unit comes to that the card asks for.
 /// - `try` writes, for each of its TRY cards, what the condition that the card names comes to.
 /// - `made n`, for 1 to 18 digits n, reads nothing: it makes a deck of n units, does with it what `vc`
 ///   does but write, and writes how many units, paths, conditions and marks it has.

@@ -11,6 +11,8 @@ pub enum Task {
     Vc,
     /// `check`: how many units, paths and conditions it has.
     Check,
+    /// `run`: what the runs that its RUN cards ask for come to.
+    Run,
     /// `try`: what its TRY cards come to.
     Try,
 }

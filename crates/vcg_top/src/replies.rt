@@ -7,13 +7,15 @@ ghost use Rattle.formula.specs.Worth.{functions_of};
 ghost use Rattle.std.specs.List.{All};
 ghost use Rattle.prover_box.specs.Answers.{AreKept};
 ghost use Rattle.reply_lines.specs.Lines.{accepted_line};
+ghost use Rattle.run_ranks.specs.Runnable.{CanRun};
+ghost use Rattle.run_texts.specs.Runs.{run_text};
 ghost use Rattle.try_lines.specs.Tries.{try_text};
 ghost use Rattle.vcg_top.specs.Answers.{AppendsOf, AppendsPartOf, count_of_marked};
-ghost use Rattle.vcg_top.specs.Commands.{AsksNone};
+ghost use Rattle.vcg_top.specs.Commands.{AsksNone, dialect_of};
 ghost use Rattle.vcg_top.specs.Found.{AreMarksOf, IsMadeOf, IsReplyOf, IsTextOf, sizes_found};
 ghost use Rattle.vcg_top.specs.Marked.{AreSmall};
 ghost use Rattle.vcg_top.specs.declared.command.Command.TheVariants.{Deck, Made};
-ghost use Rattle.vcg_top.specs.declared.command.Task.TheVariants.{Check, Try};
+ghost use Rattle.vcg_top.specs.declared.command.Task.TheVariants.{Check, Run, Try};
 ghost use Rattle.vcg_top.specs.declared.status.Status.TheVariants.{Done, WriteFault, NoMemory as Starved};
 
 use crate::Status;
@@ -22,8 +24,10 @@ use crate::writing::write_text;
 use deck_judging::Judged;
 use edge_io::{NoMemory, Sink};
 use event_text::{Marks, WritingStack, write_events};
+use fort_syntax::Dialect;
 use prover_box::{Prover, close_all};
 use reply_lines::{Sizes, accepted_line, made_line};
+use run_texts::{RunDeck, run_text};
 use std::alloc::Global;
 use try_lines::try_text;
 
@@ -189,11 +193,15 @@ fn tell_tries<K: Sink>(alloc: Global, sink: &mut K, found: Judged) -> Status
     ensures later { K.faults sink.old ≤ K.faults sink.new }
 {
     let Judged {
+        deck: _,
         pool,
         definitions,
         conditions,
         units: _,
         paths: _,
+        bound: _,
+        order: _,
+        runs: _,
         tries,
     } = found;
     let Ok(text) = try_text(
@@ -203,6 +211,31 @@ fn tell_tries<K: Sink>(alloc: Global, sink: &mut K, found: Judged) -> Status
         conditions.as_slice(),
         tries.as_slice(),
     ) else {
+        return Status::NoMemory;
+    };
+    write_text(sink, text.as_slice())
+}
+
+/// Writes what the runs come to that the RUN cards of a deck ask for.
+fn tell_runs<K: Sink>(alloc: Global, dialect: Dialect, sink: &mut K, found: &Judged) -> Status
+    requires { CanRun dialect found.now.deck.units found.now.order }
+    ensures only { (result ≡ Done) ⊎ ((result ≡ WriteFault) ⊎ (result ≡ Starved)) }
+    ensures done { result ≡ Done → AppendsOf (λ text. text ≡ run_text dialect found.now.deck.units
+        found.now.bound 1 found.now.runs) (K.written sink.old) (K.written sink.new) }
+    ensures part { result ≡ WriteFault
+        → AppendsPartOf (λ text. text ≡ run_text dialect found.now.deck.units found.now.bound
+        1 found.now.runs) (K.written sink.old) (K.written sink.new) }
+    ensures cause { result ≡ WriteFault → Rose (K.faults sink.old) (K.faults sink.new) }
+    ensures nothing { result ≡ Starved → sink.new ≡ sink.old }
+    ensures later { K.faults sink.old ≤ K.faults sink.new }
+{
+    let deck = RunDeck {
+        dialect,
+        units: found.deck.units.as_slice(),
+        order: found.order.as_slice(),
+        bound: found.bound,
+    };
+    let Ok(text) = run_text(alloc, found.pool.keys(), &deck, found.runs.as_slice()) else {
         return Status::NoMemory;
     };
     write_text(sink, text.as_slice())
@@ -219,6 +252,7 @@ pub(crate) fn reply<K: Sink>(
     requires definitions { All (IsDefinitionIn found.pool) found.definitions }
     requires conditions { All (IsConditionIn found.pool) found.conditions }
     requires added { AreAdded found.pool found.definitions }
+    requires runs { CanRun (dialect_of command) found.deck.units found.order }
     ensures only { (result ≡ Done) ⊎ ((result ≡ WriteFault) ⊎ (result ≡ Starved)) }
     ensures done { result ≡ Done → AppendsOf (IsReplyOf command found (map seen provers.old.items)
         (map seen provers.new.items)) (K.written sink.old) (K.written sink.new) }
@@ -234,6 +268,7 @@ pub(crate) fn reply<K: Sink>(
     match command {
         Command::Deck(Task::Vc, _) => tell(alloc, provers, sink, &found),
         Command::Deck(Task::Check, _) => tell_sizes(alloc, sink, &found),
+        Command::Deck(Task::Run, dialect) => tell_runs(alloc, dialect, sink, &found),
         Command::Deck(Task::Try, _) => tell_tries(alloc, sink, found),
         Command::Made(number) => tell_made(alloc, number, provers, sink, &found),
     }

@@ -16,6 +16,9 @@ fn task_of(word: &[u8]) -> Option<Task>
     if word == b"check".as_slice() {
         return Some(Task::Check);
     }
+    if word == b"run".as_slice() {
+        return Some(Task::Run);
+    }
     if word == b"try".as_slice() {
         return Some(Task::Try);
     }

@@ -26,10 +26,10 @@ returns-in-Ok-clause-judged c =
     refl refl c.requires.books c.as_slice.ensures c.as_slice-2.ensures.value c.requires.calls c.requires.smashing c.requires.short in
     are_conditions known.dialect c.args.deck.now known.noted.pool known.noted.definitions known.noted.specs known.smashes.items c.requires.well c.requires.notes
     c.in-Ok.field-0.pool c.in-Ok.field-0.conditions c.in-Ok.field-0.paths (length c.as_slice-in-Ok.result.now) (ap length c.as_slice-in-Ok.ensures) c.requires.table c.requires.calls c.requires.smashing
-    (c.in-Ok.ensures.kept p a) (c.in-Ok.ensures.conditions p a) c.in-Ok.ensures.grows c.in-Ok.ensures.inside
+    known.order c.requires.known_calls (c.in-Ok.ensures.kept p a) (c.in-Ok.ensures.conditions p a) c.in-Ok.ensures.grows c.in-Ok.ensures.inside
 
-pub returns-clause-broken : goal.returns-clause-broken
-returns-clause-broken c f q =
+pub returns-in-Err-clause-broken : goal.returns-in-Err-clause-broken
+returns-in-Err-clause-broken c f q =
     let known = c.args.known in
     let same : c.in-Err.refusal ≡ Broken f = cc in
     let p = found_program known.dialect c.args.deck.now known.noted.pool known.noted.definitions known.noted.specs known.smashes.items in

@@ -1,7 +1,10 @@
 use Rattle.std.proofs.Common.{Err, ap}
 use Rattle.prover_box.proofs.Asked.{kept_itself}
-use Rattle.vcg_top.proofs.Texts.{found_fault, found_fault_part, found_part, found_reply}
+use Rattle.vcg_top.proofs.Texts.{command_can_run, found_fault, found_fault_part, found_part, found_reply}
 use Rattle.vcg_top.proofs.answering.answer.Goals as goal
+
+pub reply-requires-clause-runs : goal.reply-requires-clause-runs
+reply-requires-clause-runs g c = command_can_run c.args.command _ c.args.bytes.now c.in-Ok.found c.dialect.ensures c.in-Ok.ensures.judged
 
 pub returns-in-Ok-clause-done : goal.returns-in-Ok-clause-done
 returns-in-Ok-clause-done g c is = found_reply c.args.command _ c.args.bytes.now _ _ c.dialect.ensures c.in-Ok.found _ _ c.in-Ok.ensures.judged (c.reply.ensures.done is)

@@ -1,0 +1,3 @@
+pub mod CellTexts
+pub mod LineTexts
+pub mod Written
