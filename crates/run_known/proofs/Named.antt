@@ -1,15 +1,14 @@
 -- The names of a statement have slots, and its calls stand at their places.
-use Rattle.std.proofs.Common.{◌≡◌, ℕ, suc, ◌+◌, Bool, true, false, List, [], ◌∷◌, ◌++◌, length, Option, Some, None, slice_get, refl, sym, ap, ◌∙◌, subst}
-use Rattle.std.specs.Prelude.{◌&&◌, flat_map}
+use Rattle.std.proofs.Common.{◌≡◌, ℕ, suc, ◌+◌, true, false, List, [], ◌∷◌, ◌++◌, length, Option, Some, None, refl, sym, ap, ◌∙◌, subst}
+use Rattle.std.specs.Prelude.{flat_map}
 use mathlib.Core.Former.{Count}
 use Rattle.formula.specs.Atoms.{is_among}
 use Rattle.fort_syntax.specs.Grammar.{is_carried}
 use Rattle.fort_syntax.specs.Names.{Intrinsic, Applied, Element, BuiltIn, Reference, applied, applied_by, dims_of, function, intrinsic, subroutine}
 use Rattle.fort_syntax.specs.Scopes.{is_given_dims}
 use Rattle.fort_syntax.specs.TreePatterns.{only, carried, listed, row_of}
-use Rattle.fort_syntax.specs.Uses.{Use, Occurrence, occurrence, read, assigned, assigned_element, counted, applied as before_bracket, argument_of, actual, called, uses_in, uses_in_row, uses_of, uses_of_param, uses_of_step, uses_on_left}
-use Rattle.fort_syntax.specs.WellFormed.{IsWellFormedUnit, has_right_form, is_known, is_left_side, names_of_unit}
-use Rattle.fort_syntax.specs.declared.dialect.Dialect.{Dialect}
+use Rattle.fort_syntax.specs.Uses.{Use, Occurrence, occurrence, read, assigned, counted, argument_of, actual, called, uses_in, uses_in_row, uses_of, uses_of_param, uses_of_step, uses_on_left}
+use Rattle.fort_syntax.specs.WellFormed.{has_right_form, is_known, is_left_side, names_of_unit}
 use Rattle.fort_syntax.specs.declared.expr.Expr.{Expr, Row_of-Expr, end_of-Expr, more_of-Expr}
 use Rattle.fort_syntax.specs.declared.expr.Expr.TheVariants.{Const, Truth, Var, Apply', Paren', Pos', Neg', Power', Bin', Rel', Not', And', Or'}
 use Rattle.fort_syntax.specs.declared.name.Name.{Name}
@@ -18,11 +17,10 @@ use Rattle.fort_syntax.specs.declared.stmt.Param.{Param}
 use Rattle.fort_syntax.specs.declared.stmt.Param.TheVariants.{Fixed, Named}
 use Rattle.fort_syntax.specs.declared.stmt.Stmt.{Stmt}
 use Rattle.fort_syntax.specs.declared.stmt.Stmt.TheVariants.{Subroutine, Function, Declare, Dimension, Common as CommonBlock, Assign, GoTo, Computed, ArithIf, LogicalIf', Do, Continue, Call, Return, End, BlockIf, ElseIf, Else, EndIf}
-use Rattle.fort_syntax.specs.declared.unit.Line.{Line}
 use Rattle.fort_syntax.specs.declared.unit.Unit.{Unit as Routine}
 use Rattle.fort_model.specs.CallFacts.{sites_of_unit}
 use Rattle.fort_model.specs.Calls.{CallSite, own_site, sites_in, sites_in_row, sites_of}
-use Rattle.fort_model.specs.Sites.{calls_before, calls_in, calls_in_row, own_call}
+use Rattle.fort_model.specs.Sites.{calls_before, calls_in, own_call}
 use Rattle.fort_laws.proofs.DeclaredNames.{named_data}
 use Rattle.fort_laws.proofs.DeclaredUses.{AreRight, right_behind, right_first, right_left, right_line, right_right, row_uses}
 use Rattle.fort_laws.proofs.RulesKept.{split}
@@ -30,7 +28,7 @@ use Rattle.run_code.specs.Code as code
 use Rattle.run_shapes.specs.Coded.{calls_coded, slot_names}
 use Rattle.run_shapes.specs.declared.unit_code.CallCode.{CallCode}
 use Rattle.run_coding.specs.Meanings.{AppliedHere, AreHere, IsHere}
-use Rattle.run_coding.proofs.Meant.{long, long_row}
+use Rattle.run_coding.proofs.Meant.{long}
 use Rattle.run_lines.specs.Stated.{ParamHere, StepHere, StmtHere}
 use Rattle.run_known.specs.Known.{IsOver, StatementsAreHere}
 use Rattle.run_known.proofs.Placed.{Stand, stand_first, stand_left, stand_rest, stand_right, stand_there}

@@ -1,20 +1,17 @@
 -- Each data name of a well-formed unit has a slot.
-use Rattle.std.proofs.Common.{◌≡◌, ℕ, zero, suc, Bool, true, false, cond, List, [], ◌∷◌, ◌++◌, map, Option, Some, None, slice_get, refl, sym, ap, ◌∙◌, subst}
-use Rattle.std.specs.Prelude.{is_some}
+use Rattle.std.proofs.Common.{◌≡◌, zero, suc, Bool, true, false, cond, List, [], ◌∷◌, ◌++◌, map, refl, sym, ap, ◌∙◌}
 use Rattle.formula.specs.Atoms.{is_among}
-use Rattle.fort_syntax.specs.Names.{commons, dims_of, dims_of_data, data_name, is_function, is_own, own_in, own_names}
-use Rattle.fort_syntax.specs.WellFormed.{IsWellFormedUnit, commons_of_unit, names_of_unit}
+use Rattle.fort_syntax.specs.Names.{commons, is_own, own_in, own_names}
+use Rattle.fort_syntax.specs.WellFormed.{IsWellFormedUnit, names_of_unit}
 use Rattle.fort_syntax.specs.declared.dialect.Dialect.{Dialect}
 use Rattle.fort_syntax.specs.declared.name.Name.{Name}
-use Rattle.fort_syntax.specs.declared.stmt.Dim.{Dim}
-use Rattle.fort_syntax.specs.declared.stmt.Dim.TheVariants.{Fixed, Named}
 use Rattle.fort_syntax.specs.declared.unit.DataName.{DataName}
 use Rattle.fort_syntax.specs.declared.unit.Role.{Role}
 use Rattle.fort_syntax.specs.declared.unit.Role.TheVariants.{Dummy, InCommon, OwnValue, Local}
 use Rattle.fort_syntax.specs.declared.unit.Unit.{Unit as Routine}
 use Rattle.fort_model.specs.Lists.{IsAmong}
-use Rattle.fort_laws.proofs.DeclaredNames.{IsNamed, among_joined_left, among_joined_right, among_named, data_among, names_of_data, has_own_name}
-use Rattle.fort_laws.proofs.DeclaredUnits.{has_data, is_common, is_dummy, right_dim, same_commons}
+use Rattle.fort_laws.proofs.DeclaredNames.{IsNamed, among_joined_left, among_joined_right, names_of_data, has_own_name}
+use Rattle.fort_laws.proofs.DeclaredUnits.{has_data, is_common, is_dummy, same_commons}
 use Rattle.run_shapes.specs.Coded.{slot_names}
 
 -- a data name with new cells is among those

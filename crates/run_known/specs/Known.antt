@@ -14,7 +14,6 @@ use Rattle.fort_model.specs.Flow.{target}
 use Rattle.fort_model.specs.Sites.{calls_before}
 use Rattle.run_code.specs.Code as code
 use Rattle.run_shapes.specs.Coded.{calls_coded, slot_names}
-use Rattle.run_shapes.specs.declared.unit_code.CallCode.{CallCode}
 use Rattle.run_lines.specs.Stated.{StmtHere}
 
 -- each data name of a well-formed unit has a slot

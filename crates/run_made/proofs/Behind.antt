@@ -7,7 +7,7 @@ use Rattle.fort_syntax.specs.declared.stmt.Stmt.{Stmt}
 use Rattle.fort_syntax.specs.declared.stmt.Stmt.TheVariants.{Do}
 use Rattle.fort_syntax.specs.declared.unit.Line.{Line}
 use Rattle.fort_syntax.specs.declared.unit.Unit.{Unit as Routine}
-use Rattle.fort_model.specs.Flow.{loops_at, loops_around, next_point, target}
+use Rattle.fort_model.specs.Flow.{target}
 use Rattle.fort_model.specs.Perform.{card_in}
 use Rattle.loop_tables.specs.Loops.{last_of}
 use Rattle.run_code.specs.Code as code
@@ -16,7 +16,7 @@ use Rattle.run_shapes.specs.declared.slots.Slots.{Slots}
 use Rattle.run_shapes.specs.declared.tests.Test.{Test}
 use Rattle.run_shapes.specs.declared.tests.Test.TheVariants as test
 use Rattle.run_shapes.specs.declared.unit_code.CallCode.{CallCode}
-use Rattle.run_doing.specs.Here.{Tell, TellsTests}
+use Rattle.run_doing.specs.Here.{TellsTests}
 use Rattle.run_doing.specs.declared.table.TestTable.{TestTable}
 use Rattle.run_known.specs.Known.{IsOver}
 use Rattle.run_made.specs.Made.{behind_at, behind_by, over_at}

@@ -1,9 +1,9 @@
 -- No slot in the instructions of statements is out of range.
-use Rattle.std.proofs.Common.{◌≡◌, ◌<◌, ℕ, zero, suc, ◌+◌, Bool, true, false, cond, List, [], ◌∷◌, ◌++◌, length, Option, Some, None, slice_get, refl, sym, ap, ◌∙◌, subst, arith}
+use Rattle.std.proofs.Common.{◌≡◌, ℕ, suc, ◌+◌, Bool, true, false, cond, List, [], ◌∷◌, ◌++◌, length, Option, Some, None, slice_get, refl, sym, ap, ◌∙◌, subst, arith}
 use mathlib.Core.Former.{Count}
 use Rattle.formula.specs.Atoms.{is_among}
 use Rattle.fort_syntax.specs.Names.{Applied, Element, BuiltIn, Reference, applied}
-use Rattle.fort_syntax.specs.TreePatterns.{only, carried, listed, row_of}
+use Rattle.fort_syntax.specs.TreePatterns.{only, carried, row_of}
 use Rattle.fort_syntax.specs.declared.expr.Expr.{Expr, Row_of-Expr, end_of-Expr, more_of-Expr}
 use Rattle.fort_syntax.specs.declared.expr.Expr.TheVariants.{Const, Truth, Var, Apply', Paren', Pos', Neg', Power', Bin', Rel', Not', And', Or'}
 use Rattle.fort_syntax.specs.declared.name.Name.{Name}
@@ -13,8 +13,8 @@ use Rattle.fort_syntax.specs.declared.stmt.Stmt.{Stmt}
 use Rattle.fort_syntax.specs.declared.stmt.Stmt.TheVariants.{Subroutine, Function, Declare, Dimension, Common as CommonBlock, Assign, GoTo, Computed, ArithIf, LogicalIf', Do, Continue, Call, Return, End, BlockIf, ElseIf, Else, EndIf}
 use Rattle.fort_syntax.specs.declared.unit.Line.{Line}
 use Rattle.fort_syntax.specs.declared.unit.Unit.{Unit as Routine}
-use Rattle.fort_model.specs.Calls.{sites_in, sites_in_row, sites_of}
-use Rattle.fort_model.specs.Flow.{next_branch, next_point, target}
+use Rattle.fort_model.specs.Calls.{sites_in, sites_of}
+use Rattle.fort_model.specs.Flow.{next_branch, next_point}
 use Rattle.fort_model.specs.Sites.{calls_before, calls_in, own_call}
 use Rattle.run_code.specs.Code as code
 use Rattle.run_shapes.specs.Coded.{InstrHasSlots}
@@ -26,7 +26,7 @@ use Rattle.run_shapes.specs.declared.tests.Test.TheVariants as test
 use Rattle.run_shapes.specs.declared.unit_code.CallCode.{CallCode}
 use Rattle.run_shapes.specs.declared.unit_code.UnitCode.{UnitCode}
 use Rattle.run_coding.specs.Meanings.{AppliedHere, AreHere, IsHere}
-use Rattle.run_coding.specs.Pushed.{actuals_listed, actuals_pushed, applied_pushed, closing, name_pushed, pushed, slot_in, values_pushed}
+use Rattle.run_coding.specs.Pushed.{actuals_listed, actuals_pushed, applied_pushed, closing, name_pushed, pushed, values_pushed}
 use Rattle.run_coding.proofs.Meant.{long}
 use Rattle.run_doing.specs.declared.table.TestTable.{TestTable}
 use Rattle.run_doing.proofs.Each.{Each, each_at, each_both}
@@ -34,7 +34,7 @@ use Rattle.run_doing.proofs.Told.{slot_within}
 use Rattle.run_known.proofs.Placed.{stmt_long}
 use Rattle.run_lines.specs.Stated.{ParamHere, StepHere, StmtHere, param_pushed, step_pushed, stmt_pushed}
 use Rattle.run_made.specs.Laws.{HasLines, LinesHaveSlots}
-use Rattle.run_made.specs.Lined.{aims_of_lines, line_pushed, lines_pushed}
+use Rattle.run_made.specs.Lined.{line_pushed, lines_pushed}
 use Rattle.run_made.specs.Made.{behind_at, behind_by, over_at}
 use Rattle.run_lines.specs.Stated.{aims}
 use Rattle.run_made.proofs.Behind.{over_seen}

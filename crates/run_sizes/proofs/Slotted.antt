@@ -1,5 +1,5 @@
 -- The dimensions of names stand where they are said to stand.
-use Rattle.std.proofs.Common.{◌≡◌, ℕ, zero, suc, ◌+◌, true, List, [], ◌∷◌, ◌++◌, drop, take, map, length, get_or, Some, None, slice_get, refl, sym, ap, ◌∙◌, subst, append_assoc, arith}
+use Rattle.std.proofs.Common.{◌≡◌, ℕ, zero, suc, ◌+◌, List, [], ◌∷◌, ◌++◌, drop, take, map, length, get_or, Some, slice_get, refl, sym, ap, ◌∙◌, append_assoc}
 use Rattle.fort_syntax.specs.Names.{dims_of}
 use Rattle.fort_syntax.specs.declared.name.Name.{Name}
 use Rattle.fort_syntax.specs.declared.stmt.Dim.{Dim}

@@ -1,6 +1,5 @@
-use Rattle.std.proofs.Common.{◌≡◌, ◌<◌, ◌≤◌, length, Some, slice_get, refl, sym, ap, ◌∙◌, arith}
+use Rattle.std.proofs.Common.{◌<◌, length, slice_get, refl, sym, ap, ◌∙◌, arith}
 use Rattle.std.proofs.lemmas.Option.{slice_get_read}
-use Rattle.run_made.specs.Made.{unit_in}
 use Rattle.run_made.proofs.Pushing.{stepped}
 use Rattle.run_made.proofs.maker.Maker.make.Goals as goal
 
