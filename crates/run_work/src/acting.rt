@@ -11,13 +11,13 @@ use run_state::{Stage, State};
 
 /// Does the instruction of a unit that stands next.
 #[inline(always)]
-fn act(m: &mut State, p: &Program<'_>, unit: &UnitCode, instr: Instr)
+fn act(m: &mut State, p: &Program<'_>, unit: &UnitCode, instr: &Instr)
     requires can { CanWork p.now m.old }
     requires inside { m.old.stage ≡ stage.Inside }
     requires coded { slice_get p.now.code.now.units m.old.frame.unit ≡ Some unit.now }
     requires within { m.old.frame.place < m.old.frame.stop }
     requires near { m.old.frame.stop < 2 ^ 64 }
-    requires stands { slice_get unit.now.instrs m.old.frame.place ≡ Some instr }
+    requires stands { slice_get unit.now.instrs m.old.frame.place ≡ Some instr.now }
     ensures works { Works p.now.code.now p.now.setting.now m.old m.new }
     ensures can { CanWork p.now m.new }
     ensures stays { Stays m.old m.new }
@@ -44,7 +44,7 @@ fn act_next(m: &mut State, p: &Program<'_>, unit: &UnitCode)
     }
     match unit.instrs.as_slice().get(place) {
         None => m.go_to(0),
-        Some(instr) => act(m, p, unit, *instr),
+        Some(instr) => act(m, p, unit, instr),
     }
 }
 

@@ -13,12 +13,12 @@ use run_state::State;
 
 /// Does what an instruction of a unit says, which is seldom one of the most common ones.
 #[inline(never)]
-fn obey_seldom(m: &mut State, p: &Program<'_>, unit: &UnitCode, instr: Instr)
+fn obey_seldom(m: &mut State, p: &Program<'_>, unit: &UnitCode, instr: &Instr)
     requires room { length m.old.values.items < m.old.values.room }
     requires calls { AreCallsReady unit.now m.old }
-    ensures { m.new ≡ obeyed p.now unit.now instr m.old }
+    ensures { m.new ≡ obeyed p.now unit.now instr.now m.old }
 {
-    match instr {
+    match *instr {
         Instr::Refer(place) => refer(m, p.code, p.setting, unit, place),
         Instr::Go(_, _)
         | Instr::Tests(_, _)
@@ -29,20 +29,20 @@ fn obey_seldom(m: &mut State, p: &Program<'_>, unit: &UnitCode, instr: Instr)
         | Instr::Choose(_, _)
         | Instr::BeginDo(_, _)
         | Instr::ResultOf
-        | Instr::Stop => leads(m, p.code.dialect, unit, p.setting, instr),
+        | Instr::Stop => leads(m, p.code.dialect, unit, p.setting, *instr),
         Instr::Array(slot, count) => element(m, unit, slot, count),
-        _ => does(m, p.setting, instr),
+        _ => does(m, p.setting, *instr),
     }
 }
 
 /// Does what an instruction of a unit says.
 #[inline(always)]
-pub(crate) fn obey(m: &mut State, p: &Program<'_>, unit: &UnitCode, instr: Instr)
+pub(crate) fn obey(m: &mut State, p: &Program<'_>, unit: &UnitCode, instr: &Instr)
     requires room { length m.old.values.items < m.old.values.room }
     requires calls { AreCallsReady unit.now m.old }
-    ensures { m.new ≡ obeyed p.now unit.now instr m.old }
+    ensures { m.new ≡ obeyed p.now unit.now instr.now m.old }
 {
-    match instr {
+    match *instr {
         Instr::Load(slot) => load(m, slot),
         Instr::Number(constant) => number(m, p.setting, constant),
         Instr::Operation(sign) => operation(m, p.setting, sign),

@@ -1,12 +1,13 @@
 // The instructions that stand most often in code.
-ghost use Rattle.std.specs.Prelude.{◌≡◌, ◌<◌, Result, length};
+ghost use Rattle.std.specs.Prelude.{◌≡◌, ◌<◌, ◌+ℤ◌, ◌-ℤ◌, Result, length};
 ghost use Rattle.run_elements.specs.Elements.{answered, did_assign, did_place, read_to, value_below};
-ghost use Rattle.run_held.specs.Sums.{constant_to, operated_to};
+ghost use Rattle.run_held.specs.Sums.{constant_to, operated_to, ranged_to};
 ghost use Rattle.run_state.specs.Deeds.{extent_at};
 
+use fort_model::Bounds;
 use fort_syntax::{BinOp, Kind};
 use run_elements::{read, value_at};
-use run_held::{Held, constant, operated};
+use run_held::{Held, constant, operated, ranged};
 use run_state::{Item, Setting, State, no_item};
 
 /// A value is put behind the others, or there is an error.
@@ -40,6 +41,34 @@ pub(crate) fn number(m: &mut State, setting: &Setting, number: u64)
     more(m, constant(setting.bounds, number));
 }
 
+/// A sum.
+#[inline(always)]
+fn added(bounds: Bounds, a: i64, b: i64) -> Result<Held, Kind>
+    ensures { result ≡ ranged_to bounds (a +ℤ b) }
+{
+    ranged(bounds, i128::from(a) + i128::from(b))
+}
+
+/// A difference.
+#[inline(always)]
+fn taken_off(bounds: Bounds, a: i64, b: i64) -> Result<Held, Kind>
+    ensures { result ≡ ranged_to bounds (a -ℤ b) }
+{
+    ranged(bounds, i128::from(a) - i128::from(b))
+}
+
+/// What an operator makes of two values.
+#[inline(always)]
+fn made(bounds: Bounds, sign: BinOp, left: &Held, right: &Held) -> Result<Held, Kind>
+    ensures { result ≡ operated_to bounds sign left.now right.now }
+{
+    match sign {
+        BinOp::Add => added(bounds, left.num(), right.num()),
+        BinOp::Sub => taken_off(bounds, left.num(), right.num()),
+        _ => operated(bounds, sign, left, right),
+    }
+}
+
 /// A value stands in the place of two, or there is an error.
 #[inline(always)]
 fn in_place_of_two(m: &mut State, value: Result<Held, Kind>)
@@ -65,7 +94,7 @@ pub(crate) fn operation(m: &mut State, setting: &Setting, sign: BinOp)
 {
     let right = value_at(&m.values, 0);
     let left = value_at(&m.values, 1);
-    in_place_of_two(m, operated(setting.bounds, sign, &left, &right));
+    in_place_of_two(m, made(setting.bounds, sign, &left, &right));
 }
 
 /// The cells of the name of a slot are taken.

@@ -21,15 +21,15 @@ obey-requires-clause-calls c place =
 
 pub returns-clause-works : goal.returns-clause-works
 returns-clause-works c =
-    subst (Works c.args.p.now.code.now c.args.p.now.setting.now c.args.m.now) (sym (c.obey.ensures ∙ ap (obeyed c.args.p.now c.args.unit.now c.args.instr) c.advance.ensures))
-    (does_its_work c.args.p.now c.args.m.now c.requires.can c.requires.inside c.requires.within c.requires.near c.args.instr c.args.unit.now c.requires.coded c.requires.stands).0.0
+    subst (Works c.args.p.now.code.now c.args.p.now.setting.now c.args.m.now) (sym (c.obey.ensures ∙ ap (obeyed c.args.p.now c.args.unit.now c.args.instr.now) c.advance.ensures))
+    (does_its_work c.args.p.now c.args.m.now c.requires.can c.requires.inside c.requires.within c.requires.near c.args.instr.now c.args.unit.now c.requires.coded c.requires.stands).0.0
 
 pub returns-clause-can : goal.returns-clause-can
 returns-clause-can c =
-    subst (CanWork c.args.p.now) (sym (c.obey.ensures ∙ ap (obeyed c.args.p.now c.args.unit.now c.args.instr) c.advance.ensures))
-    (does_its_work c.args.p.now c.args.m.now c.requires.can c.requires.inside c.requires.within c.requires.near c.args.instr c.args.unit.now c.requires.coded c.requires.stands).0.1
+    subst (CanWork c.args.p.now) (sym (c.obey.ensures ∙ ap (obeyed c.args.p.now c.args.unit.now c.args.instr.now) c.advance.ensures))
+    (does_its_work c.args.p.now c.args.m.now c.requires.can c.requires.inside c.requires.within c.requires.near c.args.instr.now c.args.unit.now c.requires.coded c.requires.stands).0.1
 
 pub returns-clause-stays : goal.returns-clause-stays
 returns-clause-stays c =
-    subst (Stays c.args.m.now) (sym (c.obey.ensures ∙ ap (obeyed c.args.p.now c.args.unit.now c.args.instr) c.advance.ensures))
-    (does_its_work c.args.p.now c.args.m.now c.requires.can c.requires.inside c.requires.within c.requires.near c.args.instr c.args.unit.now c.requires.coded c.requires.stands).1
+    subst (Stays c.args.m.now) (sym (c.obey.ensures ∙ ap (obeyed c.args.p.now c.args.unit.now c.args.instr.now) c.advance.ensures))
+    (does_its_work c.args.p.now c.args.m.now c.requires.can c.requires.inside c.requires.within c.requires.near c.args.instr.now c.args.unit.now c.requires.coded c.requires.stands).1
