@@ -44,4 +44,4 @@ write h bs =
 
 -- the hash of what was taken
 abbrev pub finish : KeyedHasher → ℕ
-finish h = h.state
+finish h = folded h.state h.factor

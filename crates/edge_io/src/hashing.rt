@@ -4,7 +4,7 @@ ghost use Rattle.edge_io.specs.Hashing as hashing;
 
 use std::hash::Hasher;
 
-/// A hasher with two keys. For each eight bytes it multiplies once, by the second key, and joins the two halves of the product.
+/// A hasher with two keys. For each eight bytes, and once more at its end, it multiplies by the second key and joins the two halves of the product.
 /// Who doesn't know the keys cannot tell which texts come to the same place.
 #[derive(Clone, Copy)]
 pub struct KeyedHasher {
@@ -32,7 +32,7 @@ impl Hasher for KeyedHasher {
     ghost finish = { hashing.finish };
 
     fn finish(&self) -> u64 {
-        self.state
+        folded(self.state, self.factor)
     }
 
     fn write(&mut self, bytes: &[u8]) {
