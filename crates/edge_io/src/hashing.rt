@@ -31,10 +31,12 @@ impl Hasher for KeyedHasher {
 
     ghost finish = { hashing.finish };
 
+    #[inline(always)]
     fn finish(&self) -> u64 {
         folded(self.state, self.factor)
     }
 
+    #[inline(always)]
     fn write(&mut self, bytes: &[u8]) {
         let len = bytes.len();
         let mut state = self.state;
@@ -48,6 +50,7 @@ impl Hasher for KeyedHasher {
 }
 
 /// The two halves of the product, joined by exclusive or.
+#[inline(always)]
 fn folded(a: u64, b: u64) -> u64
     ensures { result ≡ hashing.folded a b }
 {
@@ -56,6 +59,7 @@ fn folded(a: u64, b: u64) -> u64
 }
 
 /// Four bytes as a number, the first of them lowest.
+#[inline(always)]
 fn four_bytes(bytes: &[u8], at: usize) -> u64
     requires { at + 4 ≤ length bytes.now }
     ensures { result ≡ hashing.four_bytes bytes.now at }
@@ -64,6 +68,7 @@ fn four_bytes(bytes: &[u8], at: usize) -> u64
 }
 
 /// Eight bytes as a number, the first of them lowest.
+#[inline(always)]
 fn eight_bytes(bytes: &[u8], at: usize) -> u64
     requires { at + 8 ≤ length bytes.now }
     ensures { result ≡ hashing.eight_bytes bytes.now at }
@@ -72,6 +77,7 @@ fn eight_bytes(bytes: &[u8], at: usize) -> u64
 }
 
 /// The bytes from this place on, of which there are at most eight, as one number; some of them may count twice.
+#[inline(always)]
 fn last_bytes(bytes: &[u8], at: usize) -> u64
     requires { at ≤ length bytes.now }
     ensures { result ≡ hashing.last_bytes bytes.now at }
