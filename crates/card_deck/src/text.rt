@@ -9,11 +9,11 @@ use edge_io::NoMemory;
 pub(crate) fn put(text: &mut Vec<u8>, bytes: &[u8]) -> Result<(), NoMemory>
     ensures { OnOk result (text.new.items ≡ text.old.items ++ map to_ascii_uppercase bytes.now) }
 {
-    for byte in bytes {
-        if text.push(byte.to_ascii_uppercase()).is_err() {
-            return Err(NoMemory);
-        }
+    let from = text.len();
+    if text.extend_from_slice(bytes).is_err() {
+        return Err(NoMemory);
     }
+    text.as_mut_slice()[from..].make_ascii_uppercase();
     Ok(())
 }
 
