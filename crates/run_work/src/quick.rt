@@ -59,7 +59,7 @@ fn taken_off(bounds: Bounds, a: i64, b: i64) -> Result<Held, Kind>
 
 /// What an operator makes of two values.
 #[inline(always)]
-fn made(bounds: Bounds, sign: BinOp, left: &Held, right: &Held) -> Result<Held, Kind>
+pub(crate) fn made(bounds: Bounds, sign: BinOp, left: &Held, right: &Held) -> Result<Held, Kind>
     ensures { result ≡ operated_to bounds sign left.now right.now }
 {
     match sign {
