@@ -1,17 +1,15 @@
 -- Instructions of the assignment of a sum do together what each does.
-use Rattle.std.proofs.Common.{◌≡◌, ℕ, ◌+◌, ◌<◌, ◌≤◌, ◌^◌, Bool, true, false, IsTrue, List, ◌∷◌, length, Option, Some, None, slice_get, refl, sym, ap, ◌∙◌, subst, arith}
+use Rattle.std.proofs.Common.{◌≡◌, ℕ, ◌+◌, ◌<◌, ◌≤◌, ◌^◌, true, List, ◌∷◌, Option, Some, None, slice_get, refl, sym, ap, ◌∙◌, subst, arith}
 use Rattle.std.specs.Prelude.{Result, Ok, Err, unwrap_or}
 use Rattle.formula.specs.declared.value.Cell.{Cell}
 use Rattle.fort_syntax.specs.declared.condition.Kind.{Kind}
 use Rattle.fort_model.specs.Storage.{store}
-use Rattle.fort_model.specs.declared.bounds.Bounds.{Bounds}
 use Rattle.fort_syntax.specs.declared.dialect.BinOp.{BinOp}
 use Rattle.run_held.specs.Sums.{constant_to, operated_to}
 use Rattle.run_shapes.specs.declared.instr.Instr.{Instr}
 use Rattle.run_shapes.specs.declared.instr.Instr.TheVariants as instr
 use Rattle.run_shapes.specs.declared.unit_code.UnitCode.{UnitCode}
-use Rattle.run_state.specs.Deeds.{advanced, extent_at, with_cells}
-use Rattle.run_state.specs.Rests.{Works}
+use Rattle.run_state.specs.Deeds.{extent_at, with_cells}
 use Rattle.run_state.specs.declared.machine.Item.{Item}
 use Rattle.run_state.specs.declared.machine.Item.TheVariants.{Cells, Fresh}
 use Rattle.run_state.specs.declared.machine.Setting.{Setting}
@@ -20,7 +18,7 @@ use Rattle.run_state.specs.declared.machine.State.{State}
 use Rattle.run_elements.specs.Elements.{answered, read_to}
 use Rattle.run_work.specs.AtOnce.{MayAct, assigned_at, is_assignment, made_of, operand_to, slot_of, sum_to, value_of}
 use Rattle.run_work.specs.Obeying.{obeyed}
-use Rattle.run_work.specs.Ways.{CanWork, Stays}
+use Rattle.run_work.specs.Ways.{CanWork}
 use Rattle.run_work.specs.declared.program.Program.{Program}
 use Rattle.run_work.proofs.Units.{works_then}
 use Rattle.run_work.proofs.Obeyed.{IsActed, does_its_work}

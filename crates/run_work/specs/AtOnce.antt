@@ -1,5 +1,5 @@
 -- Assignments of sums, whose instructions are done at once.
-use Rattle.std.specs.Prelude.{ℕ, ◌≡◌, Bool, true, false, List, Option, Some, None, Result, Ok, Err}
+use Rattle.std.specs.Prelude.{ℕ, ◌≡◌, Bool, true, false, Option, Some, None, Result, Ok, Err}
 use Rattle.formula.specs.declared.value.Cell.{Cell}
 use Rattle.fort_syntax.specs.declared.condition.Kind.{Kind}
 use Rattle.fort_model.specs.Storage.{store}
@@ -10,7 +10,6 @@ use Rattle.run_shapes.specs.declared.instr.Instr.{Instr}
 use Rattle.run_shapes.specs.declared.instr.Instr.TheVariants as instr
 use Rattle.run_state.specs.Deeds.{extent_at, with_cells}
 use Rattle.run_state.specs.Rests.{Works}
-use Rattle.run_state.specs.declared.machine.Item.{Item}
 use Rattle.run_state.specs.declared.machine.Setting.{Setting}
 use Rattle.run_state.specs.declared.machine.State.{State}
 use Rattle.run_elements.specs.Elements.{read_to}
