@@ -4,7 +4,9 @@ use Rattle.std.specs.Prelude.{Result, Ok, Err, unwrap_or}
 use Rattle.formula.specs.declared.value.Cell.{Cell}
 use Rattle.fort_syntax.specs.declared.condition.Kind.{Kind}
 use Rattle.fort_model.specs.Storage.{store}
+use Rattle.fort_model.specs.declared.bounds.Bounds.{Bounds}
 use Rattle.fort_syntax.specs.declared.dialect.BinOp.{BinOp}
+use Rattle.fort_syntax.specs.declared.dialect.BinOp.TheVariants as op
 use Rattle.run_held.specs.Sums.{constant_to, operated_to}
 use Rattle.run_shapes.specs.declared.instr.Instr.{Instr}
 use Rattle.run_shapes.specs.declared.instr.Instr.TheVariants as instr
@@ -16,7 +18,7 @@ use Rattle.run_state.specs.declared.machine.Setting.{Setting}
 use Rattle.run_state.specs.declared.machine.Stage.TheVariants as stage
 use Rattle.run_state.specs.declared.machine.State.{State}
 use Rattle.run_elements.specs.Elements.{answered, read_to}
-use Rattle.run_work.specs.AtOnce.{MayAct, assigned_at, is_assignment, made_of, operand_to, slot_of, sum_to, value_of}
+use Rattle.run_work.specs.AtOnce.{MayAct, assigned_at, is_assignment, made_of, operand_to, plain_to, slot_of, sum_to, value_of}
 use Rattle.run_work.specs.Obeying.{obeyed}
 use Rattle.run_work.specs.Ways.{CanWork}
 use Rattle.run_work.specs.declared.program.Program.{Program}
@@ -75,10 +77,16 @@ record IsSum (s : Setting) (a b i : Instr) (m : State) (c : Cell) : Type 0 where
   right_is : operand_to s b m ≡ Some right
   made : operated_to s.bounds sign left right ≡ Ok c
 
+plain_is : (b : Bounds) (sign : BinOp) (v w c : Cell) → plain_to b sign v w ≡ Some c → operated_to b sign v w ≡ Ok c
+plain_is b op.Add v w c e = value_is (operated_to b op.Add v w) c e
+plain_is b op.Sub v w c e = value_is (operated_to b op.Sub v w) c e
+plain_is b op.Mul v w c e = absurd (cc)
+plain_is b op.Div v w c e = absurd (cc)
+
 sum_by : (s : Setting) (a b : Instr) (m : State) (c : Cell) (sign : BinOp) (v w : Option Cell) → operand_to s a m ≡ v → operand_to s b m ≡ w
     → made_of s.bounds sign v w ≡ Some c → IsSum s a b (instr.Operation sign) m c
 sum_by s a b m c sign (Some v) (Some w) av bw e =
-    record { sign = sign; left = v; right = w; is = refl; left_is = av; right_is = bw; made = value_is (operated_to s.bounds sign v w) c e }
+    record { sign = sign; left = v; right = w; is = refl; left_is = av; right_is = bw; made = plain_is s.bounds sign v w c e }
 sum_by s a b m c sign (Some v) None av bw e = absurd (cc)
 sum_by s a b m c sign None w av bw e = absurd (cc)
 

@@ -1,10 +1,11 @@
--- Assignments of sums, whose instructions are done at once.
+-- Assignments of sums and differences, whose instructions are done at once.
 use Rattle.std.specs.Prelude.{ℕ, ◌≡◌, Bool, true, false, Option, Some, None, Result, Ok, Err}
 use Rattle.formula.specs.declared.value.Cell.{Cell}
 use Rattle.fort_syntax.specs.declared.condition.Kind.{Kind}
 use Rattle.fort_model.specs.Storage.{store}
 use Rattle.fort_model.specs.declared.bounds.Bounds.{Bounds}
 use Rattle.fort_syntax.specs.declared.dialect.BinOp.{BinOp}
+use Rattle.fort_syntax.specs.declared.dialect.BinOp.TheVariants as op
 use Rattle.run_held.specs.Sums.{constant_to, operated_to}
 use Rattle.run_shapes.specs.declared.instr.Instr.{Instr}
 use Rattle.run_shapes.specs.declared.instr.Instr.TheVariants as instr
@@ -27,9 +28,15 @@ operand_to s (instr.Number n) m = value_of (constant_to s.bounds n)
 operand_to s (instr.Load slot) m = value_of (read_to m.cells.items (extent_at m slot).first)
 operand_to s _ m = None
 
--- what an operator makes of two values, where there are two
+-- a sum or a difference, where it is no error; none by the other operators
+abbrev pub plain_to : Bounds → BinOp → Cell → Cell → Option Cell
+plain_to b op.Add v w = value_of (operated_to b op.Add v w)
+plain_to b op.Sub v w = value_of (operated_to b op.Sub v w)
+plain_to b _ v w = None
+
+-- what an operator makes so of two values, where there are two
 abbrev pub made_of : Bounds → BinOp → Option Cell → Option Cell → Option Cell
-made_of b sign (Some v) (Some w) = value_of (operated_to b sign v w)
+made_of b sign (Some v) (Some w) = plain_to b sign v w
 made_of b sign (Some v) None = None
 made_of b sign None o = None
 

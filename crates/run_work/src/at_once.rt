@@ -1,11 +1,11 @@
-// Assignments of sums, whose instructions are done at once.
+// Assignments of sums and differences, whose instructions are done at once.
 ghost use Rattle.std.specs.Prelude.{◌≡◌, None, Some, MatchOption, slice_get};
 ghost use Rattle.run_state.specs.declared.machine.Stage.TheVariants as stage;
-ghost use Rattle.run_work.specs.AtOnce.{MayAct, assigned_at, is_assignment, made_of, operand_to, slot_of, sum_to, value_of};
+ghost use Rattle.run_work.specs.AtOnce.{MayAct, assigned_at, is_assignment, made_of, operand_to, plain_to, slot_of, sum_to, value_of};
 ghost use Rattle.run_work.specs.Ways.{CanWork};
 
 use crate::program::Program;
-use crate::quick::made;
+use crate::quick::{added, taken_off};
 use fort_model::Bounds;
 use fort_syntax::{BinOp, Kind};
 use run_elements::read;
@@ -36,7 +36,19 @@ fn operand(m: &State, setting: &Setting, instr: &Instr) -> Option<Held>
     }
 }
 
-/// What an operator makes of two operands.
+/// A sum or a difference, where it is no error.
+#[inline(always)]
+fn plain(bounds: Bounds, sign: BinOp, left: &Held, right: &Held) -> Option<Held>
+    ensures { result ≡ plain_to bounds sign left.now right.now }
+{
+    match sign {
+        BinOp::Add => value_of(added(bounds, left.num(), right.num())),
+        BinOp::Sub => value_of(taken_off(bounds, left.num(), right.num())),
+        _ => None,
+    }
+}
+
+/// What an operator makes so of two operands.
 #[inline(always)]
 fn made_of(m: &State, setting: &Setting, sign: BinOp, a: &Instr, b: &Instr) -> Option<Held>
     ensures { result ≡ made_of setting.now.bounds sign (operand_to setting.now a.now m.now)
@@ -48,7 +60,7 @@ fn made_of(m: &State, setting: &Setting, sign: BinOp, a: &Instr, b: &Instr) -> O
     let Some(right) = operand(m, setting, b) else {
         return None;
     };
-    value_of(made(setting.bounds, sign, &left, &right))
+    plain(setting.bounds, sign, &left, &right)
 }
 
 /// The value that two operands and an operator put behind the others.
@@ -106,7 +118,7 @@ fn instr_at<'a>(unit: &'a UnitCode, place: usize) -> Option<&'a Instr>
     }
 }
 
-/// Does the assignment of a sum where one stands next that makes no error. It tells whether one did.
+/// Does the assignment of a sum or difference where one stands next that makes no error. It tells whether one did.
 #[inline(always)]
 pub(crate) fn assign_sum(m: &mut State, p: &Program<'_>, unit: &UnitCode) -> bool
     requires can { CanWork p.now m.old }

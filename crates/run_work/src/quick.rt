@@ -43,7 +43,7 @@ pub(crate) fn number(m: &mut State, setting: &Setting, number: u64)
 
 /// A sum.
 #[inline(always)]
-fn added(bounds: Bounds, a: i64, b: i64) -> Result<Held, Kind>
+pub(crate) fn added(bounds: Bounds, a: i64, b: i64) -> Result<Held, Kind>
     ensures { result ≡ ranged_to bounds (a +ℤ b) }
 {
     ranged(bounds, i128::from(a) + i128::from(b))
@@ -51,7 +51,7 @@ fn added(bounds: Bounds, a: i64, b: i64) -> Result<Held, Kind>
 
 /// A difference.
 #[inline(always)]
-fn taken_off(bounds: Bounds, a: i64, b: i64) -> Result<Held, Kind>
+pub(crate) fn taken_off(bounds: Bounds, a: i64, b: i64) -> Result<Held, Kind>
     ensures { result ≡ ranged_to bounds (a -ℤ b) }
 {
     ranged(bounds, i128::from(a) - i128::from(b))
@@ -59,7 +59,7 @@ fn taken_off(bounds: Bounds, a: i64, b: i64) -> Result<Held, Kind>
 
 /// What an operator makes of two values.
 #[inline(always)]
-pub(crate) fn made(bounds: Bounds, sign: BinOp, left: &Held, right: &Held) -> Result<Held, Kind>
+fn made(bounds: Bounds, sign: BinOp, left: &Held, right: &Held) -> Result<Held, Kind>
     ensures { result ≡ operated_to bounds sign left.now right.now }
 {
     match sign {
