@@ -1,5 +1,7 @@
 -- What each turn of a search keeps, told of courses.
-use Rattle.std.proofs.Common.{◌≡◌, ℕ, suc, ◌+◌, ◌-◌, ◌<◌, ◌≤◌, Bool, true, false, Some, None, List, [], ◌∷◌, ◌++◌, length, slice_get, sym, ap, subst, ◌∙◌}
+use Rattle.std.proofs.Common.{◌≡◌, ℕ, suc, ◌+◌, ◌-◌, ◌<◌, ◌≤◌, Bool, true, false, Some, None, List, [], ◌∷◌, ◌++◌, length, slice_get, refl, sym, ap, subst, ◌∙◌, arith}
+use Rattle.std.specs.Prelude.{nat_lt}
+use Rattle.std.proofs.lemmas.Bool.Decides.{nat_tests}
 use Rattle.fort_model.specs.declared.graph.Target.{Target}
 use Rattle.fort_model.specs.declared.graph.Target.TheVariants.{Point, Fork as AtFork}
 use Rattle.path_cut.specs.declared.course.Course.{Course}
@@ -13,6 +15,14 @@ use Rattle.path_cut.specs.Work.{left, rest, stage_work, statement_work, rest_wor
 use Rattle.path_cut.specs.Rooms.{Roomy}
 use Rattle.path_cut.specs.Courses.{Moves, Enters, stage_behind, all_left, work_of}
 use Rattle.path_cut.proofs.Turning.{choose_some, choose_none, choose_no_room, choose_work, none_work, enter_some, enter_none, enter_no_room, enter_work, stop_work, limit_left, limit_work, fork_left, fork_work, end_left, end_work, pass_left, pass_work, undo_at, undo_choice, undo_at_work, undo_choice_work, last_start, next_start, last_work, start_work}
+
+-- where one more has no room, there are as many as there is room for
+pub no_room : (b : Bool) (m n : ℕ) → b ≡ false → (m < n → b ≡ true) → n ≤ m
+no_room b m n e h = by (nat_lt m n) refl
+  where
+    by : (t : Bool) → nat_lt m n ≡ t → n ≤ m
+    by true g = let lt : m < n = grind (arith, nat_tests) in let none : false ≡ true = sym e ∙ h lt in absurd cc
+    by false g = grind (arith, nat_tests)
 
 module _ (f : Flow) where
   abbrev marked : ℕ → Bool

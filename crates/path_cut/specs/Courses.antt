@@ -70,7 +70,7 @@ is_moving Over = false
 
 pub record Begins (old new : Course) : Type 0 where
   pub start : new.start ≡ old.start
-  pub steps : new.steps.items ≡ old.steps.items
+  pub steps : new.steps ≡ old.steps
   pub shared : new.shared ≡ length old.steps.items
   pub stage : new.stage ≡ resumed old.stage
 
