@@ -133,6 +133,7 @@ module _ (graph : Graph) (cut : ℕ → Bool) where
     both_few a b n k h g = omega arith
 
     below_few : (v : ℕ) → below v < graph.size + length graph.forks + 2
+    unfolding below
     below_few v =
         both_few (at_points v) (at_forks v) graph.size (length graph.forks)
         (lesser_few (λ q. all (Point q)) v (suc graph.size)) (lesser_few (λ k. all (AtFork k)) v (length graph.forks))
@@ -154,6 +155,7 @@ module _ (graph : Graph) (cut : ℕ → Bool) where
 
     -- fewer than what has more to do
     below_less : (t : Target) (v : ℕ) → IsWithin graph.size (length graph.forks) t → all t < v → below (all t) < below v
+    unfolding below
     below_less (Point q) v w lt =
         by_first (at_points (all (Point q))) (at_points v) (at_forks (all (Point q))) (at_forks v)
         (lesser_between (λ p. all (Point p)) (all (Point q)) v (suc graph.size) q (up_to q graph.size w) (itself (all (Point q))) lt)
