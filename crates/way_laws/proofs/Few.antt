@@ -1,6 +1,6 @@
 -- Where any number of steps suffices, as many suffice as there are statements and forks: from each of them to the
 -- next less is to be done, so none comes twice.
-use Rattle.std.proofs.Common.{◌≡◌, ℕ, zero, suc, ◌+◌, ◌<◌, ◌≤◌, Bool, true, false, Option, Some, None, List, [], ◌∷◌, length, slice_get, refl, sym, ap, ◌∙◌, subst, arith}
+use Rattle.std.proofs.Common.{◌≡◌, ℕ, zero, suc, ◌+◌, ◌<◌, ◌≤◌, Bool, true, false, Option, Some, None, List, [], ◌∷◌, length, slice_get, refl, ap, subst, arith}
 use Rattle.fort_model.specs.Graphs.{IsWithin}
 use Rattle.fort_model.specs.Lists.{IsAmong}
 use Rattle.fort_model.specs.declared.graph.Fork.{Fork}
@@ -10,7 +10,7 @@ use Rattle.fort_model.specs.declared.graph.Target.TheVariants.{Point, Fork as At
 use Rattle.path_cut.specs.Ways.{targets_of}
 use Rattle.path_cut.specs.Work.{statement_work, each_work, point_work, work}
 use Rattle.way_laws.proofs.Counting.{lesser, lesser_few, lesser_more, lesser_between}
-use Rattle.way_laws.proofs.Fuel.{each_enough, start_enough, or_enough, enough, enough_at, each_by, start_by, weaker}
+use Rattle.way_laws.proofs.Fuel.{each_enough, start_enough, or_enough, enough, each_by, start_by, weaker}
 
 module _ (graph : Graph) (cut : ℕ → Bool) where
   -- what is to be done from a target by so many steps
