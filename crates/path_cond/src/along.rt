@@ -93,7 +93,8 @@ pub(crate) fn add_paths(drafts: Drafts, plan: &Plan, flow: &UnitFlow) -> Result<
             return Err(NoMemory);
         };
         walked = after;
-        more = paths.advance();
+        let next = paths.advance();
+        more = next;
     }
     Ok(walked.drafts())
 }

@@ -5,7 +5,7 @@ use Rattle.measure.proofs.weighing.with_next.Goals as goal
 pub follow-requires : goal.follow-requires
 follow-requires c = (
   c.args.paths.now.course.steps.items,
-  shares c.args.paths.now c.advance.new.self c.in-Some.view c.advance-self.ensures.shared c.in-Some.ensures.way
+  shares c.args.paths.now c.advance.new.self c.in-Some.view c.advance.ensures.shared c.in-Some.ensures.way
       c.in-Some.ensures.shared,
   c.requires.front,
 )
