@@ -1,8 +1,8 @@
 // Names with their places.
-ghost use Rattle.std.specs.Prelude.{◌≡◌, ◌++◌, ◌∷◌, [], length, position, is_some, not, if◌then◌else◌, IfOk, OnOk, OnErr};
+ghost use Rattle.std.specs.Prelude.{◌≡◌, ◌≤◌, ◌++◌, ◌∷◌, [], length, position, is_some, not, if◌then◌else◌, Some, IfSome, IfOk, OnOk, OnErr};
 ghost use Rattle.formula.specs.Atoms.{is_among, same_bytes};
 
-use crate::Word;
+use crate::{Hints, Word, mark_of};
 use edge_io::{Keys, NoMemory};
 use indexmap::IndexSet;
 use std::alloc::Global;
@@ -12,6 +12,7 @@ use std::marker::Model;
 #[derive(Drop)]
 pub struct NameTable {
     words: IndexSet<Word, Keys>,
+    hints: Hints,
 }
 
 impl Model for NameTable {
@@ -29,6 +30,7 @@ impl NameTable {
     {
         NameTable {
             words: IndexSet::with_hasher(alloc, keys),
+            hints: Hints::new(alloc),
         }
     }
 
@@ -47,9 +49,13 @@ impl NameTable {
             else self.old ++ name ∷ [])) }
         ensures unchanged { OnErr result (self.new ≡ self.old) }
     {
-        let Ok((_, new)) = self.words.insert_full(name) else {
+        let Ok(()) = self.hints.reserve() else {
             return Err(NoMemory);
         };
+        let Ok((place, new)) = self.words.insert_full(name) else {
+            return Err(NoMemory);
+        };
+        self.hints.set(mark_of(name.as_bytes()), place);
         Ok(new)
     }
 
@@ -58,6 +64,40 @@ impl NameTable {
         ensures place { result ≡ position (same_bytes name) self.now }
         ensures found { is_some result ≡ is_among name self.now }
     {
+        let guess = self.guess(name.as_bytes());
+        if guess.is_some() {
+            return guess;
+        }
         self.words.get_index_of(&name)
+    }
+
+    /// The place of a name told by its bytes, where it has one.
+    pub fn place_of_bytes(&self, bytes: &[u8]) -> Option<usize>
+        requires { (1 ≤ length bytes.now) × (length bytes.now ≤ 24) }
+        ensures { result ≡ position (same_bytes bytes.now) self.now }
+    {
+        let guess = self.guess(bytes);
+        if guess.is_some() {
+            return guess;
+        }
+        let Some(name) = Word::new(bytes) else {
+            unreachable!()
+        };
+        self.words.get_index_of(&name)
+    }
+
+    /// The place of a name told by its bytes, where that is the one guessed.
+    fn guess(&self, bytes: &[u8]) -> Option<usize>
+        ensures { IfSome result (λ place. Some place ≡ position (same_bytes bytes.now) self.now) }
+    {
+        let place = self.hints.at(mark_of(bytes))?;
+        let words = self.words.as_slice();
+        if place >= words.len() {
+            return None;
+        }
+        if words[place].as_bytes() != bytes {
+            return None;
+        }
+        Some(place)
     }
 }

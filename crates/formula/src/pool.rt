@@ -5,7 +5,7 @@ ghost use Rattle.formula.specs.Pool.{AllBelow, IsPool, arguments_at, HasArgument
 ghost use Rattle.formula.specs.Tree.{num, truth, symbol, old, apply, none, more, takes};
 
 use crate::facts::{Facts, note};
-use crate::{Args, BuiltIn, Func, Node, TermId, Word};
+use crate::{Args, BuiltIn, Func, Hints, Node, TermId, Word};
 use edge_io::{Keys, NoMemory};
 use indexmap::IndexSet;
 use std::alloc::Global;
@@ -17,6 +17,7 @@ use std::marker::Model;
 pub struct TermPool {
     nodes: IndexSet<Node, Keys>,
     facts: Vec<Facts>,
+    hints: Hints,
     alloc: Global,
 }
 
@@ -40,6 +41,7 @@ impl TermPool {
         TermPool {
             nodes: IndexSet::with_hasher(alloc, keys),
             facts: Vec::new(alloc),
+            hints: Hints::new(alloc),
             alloc,
         }
     }
@@ -71,10 +73,38 @@ impl TermPool {
         ensures unchanged { OnErr result (self.new ≡ self.old) }
         ensures grows { Grows self.old self.new }
     {
-        if let Some(id) = self.known(&node) {
+        let mark = node.mark();
+        if let Some(id) = self.guess(mark, &node) {
             return Ok(id);
         }
+        if let Some(id) = self.known(&node) {
+            self.hints.set(mark, id.index());
+            return Ok(id);
+        }
+        let Ok(()) = self.hints.reserve() else {
+            return Err(NoMemory);
+        };
+        self.hints.set(mark, self.nodes.len());
         self.add(node)
+    }
+
+    /// The id of a node's term, where that is the one guessed under a mark.
+    fn guess(&self, mark: usize, node: &Node) -> Option<TermId>
+        ensures known { IfSome result (λ id. slice_get self.now id.place ≡ Some node.now) }
+        ensures tree { IfSome result (λ id. tree_of self.now id ≡ tree_in (trees self.now) node.now) }
+        ensures contains { IsSome result → Contains self.now node.now }
+    {
+        let place = self.hints.at(mark)?;
+        let nodes = self.nodes.as_slice();
+        if place >= nodes.len() {
+            return None;
+        }
+        if nodes[place] != *node {
+            return None;
+        }
+        Some(TermId {
+            place: place as u32,
+        })
     }
 
     /// The id of a node's term, where the pool has that node.

@@ -125,16 +125,15 @@ impl Ord for Word {
 }
 
 impl Hash for Word {
-    ghost use Rattle.std.specs.Hash as fed;
+    ghost use Rattle.std.specs.Prelude.{[], ◌∷◌};
     ghost use Rattle.std.specs.Hash.{same_Alike};
     ghost use Rattle.std.specs.Cmp.Lexicographic.{bytes_decides};
 
-    ghost hash_input = { fed.str };
+    ghost hash_input = { λ w. w ∷ [] };
 
-    ghost respects_eq = { (same_Alike fed.str bytes_decides).fed };
+    ghost respects_eq = { (same_Alike (λ w. w ∷ []) bytes_decides).fed };
 
     fn hash<H: Hasher>(&self, state: &mut H) {
         state.write(self.as_bytes());
-        state.write_u8(255);
     }
 }

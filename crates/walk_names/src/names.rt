@@ -60,7 +60,7 @@ impl Names {
         ensures is_in { IfOk result (λ id. IsIn pool.new id) }
         ensures tree { IfOk result (λ id. tree_of pool.new id ≡ named pool.old self.now name.now) }
     {
-        match self.table.place_of(word_of(name)) {
+        match self.table.place_of_bytes(name.as_bytes()) {
             Some(place) => Ok(self.terms[place]),
             None => entry_symbol(alloc, pool, name),
         }
@@ -93,11 +93,11 @@ impl Names {
         ensures same { IsSame pool.old self.old pool.new self.new }
         ensures place { IfOk result (λ k. Some k ≡ position (same_bytes name.now) self.new.table) }
     {
-        if let Some(place) = self.table.place_of(word_of(name)) {
+        if let Some(place) = self.table.place_of_bytes(name.as_bytes()) {
             return Ok(place);
         }
         self.add(alloc, pool, name)?;
-        match self.table.place_of(word_of(name)) {
+        match self.table.place_of_bytes(name.as_bytes()) {
             Some(place) => Ok(place),
             None => unreachable!(),
         }

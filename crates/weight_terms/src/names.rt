@@ -1,5 +1,5 @@
 // What names weigh.
-ghost use Rattle.std.specs.Prelude.{◌≡◌, ◌∷◌, IfOk, OnOk};
+ghost use Rattle.std.specs.Prelude.{◌≡◌, ◌∷◌, IsSome, IfSome, IfNone, IfOk, OnOk};
 ghost use Rattle.formula.specs.Atoms.{same_bytes};
 ghost use Rattle.fort_model.specs.WalkStmt.{with_name};
 ghost use Rattle.indexmap.specs.IndexMap.{set_value_at};
@@ -7,7 +7,7 @@ ghost use Rattle.weight_terms.specs.Held.{GoesBack, Sets, Undoes, but_last, held
 
 use crate::log::Logged;
 use edge_io::{Keys, NoMemory, Stack};
-use formula::Word;
+use formula::{Hints, Word, mark_of};
 use fort_syntax::{Name, word_of};
 use indexmap::IndexMap;
 use std::alloc::Global;
@@ -18,6 +18,7 @@ use std::marker::Model;
 #[derive(Drop)]
 pub struct NameWeights {
     map: IndexMap<Word, u32, Keys>,
+    hints: Hints,
     log: Stack<Logged>,
 }
 
@@ -29,18 +30,67 @@ impl Model for NameWeights {
     ghost view = { λ t. record { entries = t.map.entries; log = t.log } };
 }
 
+/// A name weighs so much from now on, if it is at this place. It answers what undoes that.
+fn put_at(
+    map: &mut IndexMap<Word, u32, Keys>,
+    place: usize,
+    name: &Name,
+    weight: u32,
+) -> Option<Logged>
+    ensures sets { IsSome result → Sets map.old.entries map.new.entries name.now weight }
+    ensures undoes { IfSome result (Undoes map.old.entries map.new.entries) }
+    ensures unchanged { IfNone result (map.new.entries ≡ map.old.entries) }
+{
+    let (key, _) = map.get_index(place)?;
+    if key.as_bytes() != name.as_bytes() {
+        return None;
+    }
+    let held = map.get_index_mut(place)?;
+    let was = *held;
+    *held = weight;
+    Some(Logged::Was(place, was))
+}
+
 /// A name weighs so much from now on. It answers what undoes that.
-fn put(map: &mut IndexMap<Word, u32, Keys>, name: &Name, weight: u32) -> Result<Logged, NoMemory>
+fn put_anew(
+    map: &mut IndexMap<Word, u32, Keys>,
+    hints: &mut Hints,
+    name: &Name,
+    weight: u32,
+) -> Result<Logged, NoMemory>
     ensures sets { OnOk result (Sets map.old.entries map.new.entries name.now weight) }
     ensures undoes { IfOk result (Undoes map.old.entries map.new.entries) }
 {
+    let Ok(()) = hints.reserve() else {
+        return Err(NoMemory);
+    };
     let Ok((place, was)) = map.insert_full(word_of(name), weight) else {
         return Err(NoMemory);
     };
+    hints.set(mark_of(name.as_bytes()), place);
     match was {
         Some(old) => Ok(Logged::Was(place, old)),
         None => Ok(Logged::New),
     }
+}
+
+/// A name weighs so much from now on. It answers what undoes that. No hash is taken where the
+/// guessed place is the name's.
+fn put(
+    map: &mut IndexMap<Word, u32, Keys>,
+    hints: &mut Hints,
+    name: &Name,
+    weight: u32,
+) -> Result<Logged, NoMemory>
+    ensures sets { OnOk result (Sets map.old.entries map.new.entries name.now weight) }
+    ensures undoes { IfOk result (Undoes map.old.entries map.new.entries) }
+{
+    if let Some(place) = hints.at(mark_of(name.as_bytes())) {
+        if let Some(undoes) = put_at(map, place, name, weight) {
+            return Ok(undoes);
+        }
+    }
+    put_anew(map, hints, name, weight)
 }
 
 /// The last name is not told any more.
@@ -77,6 +127,7 @@ impl NameWeights {
     {
         NameWeights {
             map: IndexMap::with_hasher(alloc, keys),
+            hints: Hints::new(alloc),
             log: Stack::new(alloc),
         }
     }
@@ -87,7 +138,7 @@ impl NameWeights {
         ensures weights { OnOk result (held self.new ≡ with_name (held self.old) name.now weight) }
         ensures marks { OnOk result (marked self.new ≡ marked self.old) }
     {
-        let Ok(undoes) = put(&mut self.map, name, weight) else {
+        let Ok(undoes) = put(&mut self.map, &mut self.hints, name, weight) else {
             return Err(NoMemory);
         };
         let Ok(()) = note(&mut self.log, undoes) else {
@@ -118,10 +169,25 @@ impl NameWeights {
         }
     }
 
+    /// What a word weighs as a name, where its place is the one guessed.
+    fn guessed(&self, bytes: &[u8]) -> Option<u32>
+        ensures { IfSome result (λ weight. weight ≡ held self.now bytes.now) }
+    {
+        let place = self.hints.at(mark_of(bytes))?;
+        let (key, weight) = self.map.get_index(place)?;
+        if key.as_bytes() != bytes {
+            return None;
+        }
+        Some(*weight)
+    }
+
     /// What a word weighs as a name.
     pub fn of_word(&self, word: &Word) -> u32
         ensures { result ≡ held self.now word.now }
     {
+        if let Some(weight) = self.guessed(word.as_bytes()) {
+            return weight;
+        }
         match self.map.get(word) {
             Some(weight) => *weight,
             None => 1,
@@ -132,6 +198,9 @@ impl NameWeights {
     pub fn of(&self, name: &Name) -> u32
         ensures { result ≡ held self.now name.now }
     {
+        if let Some(weight) = self.guessed(name.as_bytes()) {
+            return weight;
+        }
         self.of_word(&word_of(name))
     }
 }

@@ -2,7 +2,7 @@ use Rattle.std.proofs.Common.{sym, ◌∙◌}
 use Rattle.formula.specs.Atoms.{same_bytes}
 use Rattle.indexmap.proofs.CallerLemmas.{insert_entry-new}
 use Rattle.weight_terms.proofs.Undone.{forgotten, restored}
-use Rattle.weight_terms.proofs.names.put.Goals as goal
+use Rattle.weight_terms.proofs.names.put_anew.Goals as goal
 
 pub returns-in-Some-clause-undoes : goal.returns-in-Some-clause-undoes
 returns-in-Some-clause-undoes c =
