@@ -5,6 +5,7 @@ pub mod Digits
 pub mod FactsTold
 pub mod Grown
 pub mod Growth
+pub mod Guessed
 pub mod Images
 pub mod Lookup
 pub mod Names

@@ -2,18 +2,18 @@
 use edge_io::NoMemory;
 use std::alloc::Global;
 
-/// Guesses at places, each under a mark of what was found there: who follows one looks whether it is right. Two that have
-/// the same mark push each other out. Places from 2^32 - 1 on are never guessed.
+/// Guesses at places, each under a mark of what was found there: who follows one looks whether it is right. Of two that have
+/// one mark the later pushes the other out. Places from 2^32 - 1 on are never guessed.
 #[derive(Drop)]
 pub struct Hints {
     places: Vec<u32>,
 }
 
-/// The number of marks.
-const MARKS: usize = 1024;
-
 /// A place that is no guess.
 const NOWHERE: u32 = 4294967295;
+
+/// The marks of names are below this.
+pub const NAME_MARKS: usize = 128;
 
 impl Hints {
     /// No guess. It takes no memory.
@@ -23,9 +23,9 @@ impl Hints {
         }
     }
 
-    /// Makes room for guesses.
-    pub fn reserve(&mut self) -> Result<(), NoMemory> {
-        while self.places.len() < MARKS {
+    /// Makes room for guesses under the marks below a number.
+    pub fn reserve(&mut self, marks: usize) -> Result<(), NoMemory> {
+        while self.places.len() < marks {
             let Ok(()) = self.places.push(NOWHERE) else {
                 return Err(NoMemory);
             };
@@ -33,9 +33,8 @@ impl Hints {
         Ok(())
     }
 
-    /// The guess under a mark.
+    /// The guess under a mark, if there is one.
     pub fn at(&self, mark: usize) -> Option<usize> {
-        let mark = mark % MARKS;
         if mark >= self.places.len() {
             return None;
         }
@@ -44,14 +43,13 @@ impl Hints {
 
     /// Guesses a place under a mark from now on, where there is room.
     pub fn set(&mut self, mark: usize, place: usize) {
-        let mark = mark % MARKS;
         if mark < self.places.len() && place < NOWHERE as usize {
             self.places[mark] = place as u32;
         }
     }
 }
 
-/// A number that tells most names of a program apart: a mark for guesses.
+/// A mark of a name: of the names of a program most have marks of their own.
 pub fn mark_of(bytes: &[u8]) -> usize {
     let len = bytes.len();
     if len == 0 {
@@ -60,5 +58,5 @@ pub fn mark_of(bytes: &[u8]) -> usize {
     let first = bytes[0] as usize;
     let middle = bytes[len / 2] as usize;
     let last = bytes[len - 1] as usize;
-    first * 5 + middle * 17 + last * 113 + len % 32 * 29
+    (first * 5 + middle * 17 + last * 113 + len % 32 * 29) % NAME_MARKS
 }

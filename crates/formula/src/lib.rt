@@ -47,7 +47,7 @@ pub use function::{Arity, BuiltIn, Func};
 pub use grammar::reading_is_the_grammar;
 pub use head::{Head, head_of};
 pub use headings::Headings;
-pub use hints::{Hints, mark_of};
+pub use hints::{Hints, NAME_MARKS, mark_of};
 pub use laws::{added_definitions_are_sound, added_definitions_stay, read_terms_are_readable};
 pub use name_table::NameTable;
 pub use node::{Node, TermId};

@@ -1,8 +1,8 @@
 // Names with their places.
-ghost use Rattle.std.specs.Prelude.{◌≡◌, ◌≤◌, ◌++◌, ◌∷◌, [], length, position, is_some, not, if◌then◌else◌, Some, IfSome, IfOk, OnOk, OnErr};
+ghost use Rattle.std.specs.Prelude.{◌≡◌, ◌≤◌, ◌++◌, ◌∷◌, [], length, position, is_some, not, if◌then◌else◌, true, Some, IsSome, IfSome, IfOk, OnOk, OnErr};
 ghost use Rattle.formula.specs.Atoms.{is_among, same_bytes};
 
-use crate::{Hints, Word, mark_of};
+use crate::{Hints, NAME_MARKS, Word, mark_of};
 use edge_io::{Keys, NoMemory};
 use indexmap::IndexSet;
 use std::alloc::Global;
@@ -49,7 +49,7 @@ impl NameTable {
             else self.old ++ name ∷ [])) }
         ensures unchanged { OnErr result (self.new ≡ self.old) }
     {
-        let Ok(()) = self.hints.reserve() else {
+        let Ok(()) = self.hints.reserve(NAME_MARKS) else {
             return Err(NoMemory);
         };
         let Ok((place, new)) = self.words.insert_full(name) else {
@@ -64,9 +64,8 @@ impl NameTable {
         ensures place { result ≡ position (same_bytes name) self.now }
         ensures found { is_some result ≡ is_among name self.now }
     {
-        let guess = self.guess(name.as_bytes());
-        if guess.is_some() {
-            return guess;
+        if let Some(place) = self.guess(name.as_bytes()) {
+            return Some(place);
         }
         self.words.get_index_of(&name)
     }
@@ -74,11 +73,11 @@ impl NameTable {
     /// The place of a name told by its bytes, where it has one.
     pub fn place_of_bytes(&self, bytes: &[u8]) -> Option<usize>
         requires { (1 ≤ length bytes.now) × (length bytes.now ≤ 24) }
-        ensures { result ≡ position (same_bytes bytes.now) self.now }
+        ensures place { result ≡ position (same_bytes bytes.now) self.now }
+        ensures found { is_some result ≡ is_among bytes.now self.now }
     {
-        let guess = self.guess(bytes);
-        if guess.is_some() {
-            return guess;
+        if let Some(place) = self.guess(bytes) {
+            return Some(place);
         }
         let Some(name) = Word::new(bytes) else {
             unreachable!()
@@ -88,7 +87,8 @@ impl NameTable {
 
     /// The place of a name told by its bytes, where that is the one guessed.
     fn guess(&self, bytes: &[u8]) -> Option<usize>
-        ensures { IfSome result (λ place. Some place ≡ position (same_bytes bytes.now) self.now) }
+        ensures place { IfSome result (λ place. Some place ≡ position (same_bytes bytes.now) self.now) }
+        ensures found { IsSome result → is_among bytes.now self.now ≡ true }
     {
         let place = self.hints.at(mark_of(bytes))?;
         let words = self.words.as_slice();

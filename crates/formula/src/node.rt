@@ -29,27 +29,26 @@ pub enum Node {
     Apply(Func, Args),
 }
 
+/// The marks of nodes are below this.
+pub(crate) const NODE_MARKS: usize = 2048;
+
 impl Node {
-    /// A number that tells most nodes of a program apart: a mark for guesses.
+    /// A mark for guesses: of the nodes of a program most have marks of their own, small numbers all.
     pub(crate) fn mark(&self) -> usize {
         match self {
-            Node::Num(n) => (n.cast_unsigned() % 512) as usize,
-            Node::Truth(b) => 512 + *b as usize,
-            Node::Symbol(name) => 512 + mark_of(name.as_bytes()) % 256,
-            Node::Old(name) => 768 + mark_of(name.as_bytes()) % 128,
-            Node::Apply(_, args) => 896 + args_mark(args.as_slice()) % 128,
+            Node::Num(n) => (n.cast_unsigned() % 1024) as usize,
+            Node::Truth(_) => 1024,
+            Node::Symbol(name) => 1024 + mark_of(name.as_bytes()),
+            Node::Old(name) => 1152 + mark_of(name.as_bytes()),
+            Node::Apply(_, args) => 1280 + mark_of_arguments(args.as_slice()),
         }
     }
 }
 
-/// A mark of arguments, by the first two of them.
-fn args_mark(args: &[TermId]) -> usize {
-    let mut mark = 0;
-    if args.len() > 0 {
-        mark += args[0].index();
+/// A mark of arguments, by the last of them, which is below 768.
+fn mark_of_arguments(args: &[TermId]) -> usize {
+    match args.last() {
+        Some(id) => id.index() % 768,
+        None => 0,
     }
-    if args.len() > 1 {
-        mark += args[1].index() * 7;
-    }
-    mark
 }

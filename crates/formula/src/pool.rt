@@ -5,6 +5,7 @@ ghost use Rattle.formula.specs.Pool.{AllBelow, IsPool, arguments_at, HasArgument
 ghost use Rattle.formula.specs.Tree.{num, truth, symbol, old, apply, none, more, takes};
 
 use crate::facts::{Facts, note};
+use crate::node::NODE_MARKS;
 use crate::{Args, BuiltIn, Func, Hints, Node, TermId, Word};
 use edge_io::{Keys, NoMemory};
 use indexmap::IndexSet;
@@ -81,7 +82,7 @@ impl TermPool {
             self.hints.set(mark, id.index());
             return Ok(id);
         }
-        let Ok(()) = self.hints.reserve() else {
+        let Ok(()) = self.hints.reserve(NODE_MARKS) else {
             return Err(NoMemory);
         };
         self.hints.set(mark, self.nodes.len());

@@ -1,2 +1,3 @@
 mod Weighed
 mod Undone
+mod AtPlace

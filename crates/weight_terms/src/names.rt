@@ -7,7 +7,7 @@ ghost use Rattle.weight_terms.specs.Held.{GoesBack, Sets, Undoes, but_last, held
 
 use crate::log::Logged;
 use edge_io::{Keys, NoMemory, Stack};
-use formula::{Hints, Word, mark_of};
+use formula::{Hints, NAME_MARKS, Word, mark_of};
 use fort_syntax::{Name, word_of};
 use indexmap::IndexMap;
 use std::alloc::Global;
@@ -61,7 +61,7 @@ fn put_anew(
     ensures sets { OnOk result (Sets map.old.entries map.new.entries name.now weight) }
     ensures undoes { IfOk result (Undoes map.old.entries map.new.entries) }
 {
-    let Ok(()) = hints.reserve() else {
+    let Ok(()) = hints.reserve(NAME_MARKS) else {
         return Err(NoMemory);
     };
     let Ok((place, was)) = map.insert_full(word_of(name), weight) else {

@@ -6,4 +6,4 @@ use Rattle.walk_names.proofs.names.Names.place.Goals as goal
 pub unreachable-requires : goal.unreachable-requires
 unreachable-requires c =
     let there = among_after c.args.self.now.table c.add.new.self.table c.args.name.now c.in_ok-add.ensures.there in
-    true≢false (sym (c.in-None.ensures.found ∙ ap (λ w. is_among w c.add.new.self.table) c.word_of-2.ensures ∙ there))
+    true≢false (sym (c.in-None.ensures.found ∙ ap (λ w. is_among w c.add.new.self.table) c.as_bytes-2.ensures.value ∙ there))
