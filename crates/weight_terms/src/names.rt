@@ -1,5 +1,7 @@
 // What names weigh.
-ghost use Rattle.std.specs.Prelude.{◌≡◌, ◌∷◌, IsSome, IfSome, IfNone, IfOk, OnOk};
+ghost use Rattle.std.specs.Prelude.{◌≡◌, ◌∷◌, Some, slice_get, IsSome, IfSome, IfNone, IfOk, OnOk};
+ghost use Rattle.std.specs.List.{IsDistinct};
+ghost use Rattle.std.specs.Map.{keys_of, lookup};
 ghost use Rattle.formula.specs.Atoms.{same_bytes};
 ghost use Rattle.fort_model.specs.WalkStmt.{with_name};
 ghost use Rattle.indexmap.specs.IndexMap.{set_value_at};
@@ -41,14 +43,25 @@ fn put_at(
     ensures undoes { IfSome result (Undoes map.old.entries map.new.entries) }
     ensures unchanged { IfNone result (map.new.entries ≡ map.old.entries) }
 {
-    let (key, _) = map.get_index(place)?;
-    if key.as_bytes() != name.as_bytes() {
+    let was = weight_at(map, place, name.as_bytes())?;
+    put_back(map, place, weight);
+    Some(Logged::Was(place, was))
+}
+
+/// What a word at this place weighs, if it has these bytes.
+fn weight_at(map: &IndexMap<Word, u32, Keys>, place: usize, bytes: &[u8]) -> Option<u32>
+    ensures held { IfSome result (λ weight. Some weight ≡ lookup (same_bytes bytes.now) map.now.entries) }
+    ensures there { IfSome result (λ weight. slice_get map.now.entries place ≡ Some (bytes.now, weight)) }
+    ensures unique { IsDistinct same_bytes (keys_of map.now.entries) }
+{
+    if place >= map.len() {
         return None;
     }
-    let held = map.get_index_mut(place)?;
-    let was = *held;
-    *held = weight;
-    Some(Logged::Was(place, was))
+    let (key, weight) = map.get_index(place)?;
+    if key.as_bytes() != bytes {
+        return None;
+    }
+    Some(*weight)
 }
 
 /// A name weighs so much from now on. It answers what undoes that.
@@ -174,11 +187,10 @@ impl NameWeights {
         ensures { IfSome result (λ weight. weight ≡ held self.now bytes.now) }
     {
         let place = self.hints.at(mark_of(bytes))?;
-        let (key, weight) = self.map.get_index(place)?;
-        if key.as_bytes() != bytes {
-            return None;
+        match weight_at(&self.map, place, bytes) {
+            Some(weight) => Some(weight),
+            None => None,
         }
-        Some(*weight)
     }
 
     /// What a word weighs as a name.
