@@ -1,0 +1,4 @@
+mod HeldCells
+pub mod Gone
+pub mod Showing
+mod Copies
