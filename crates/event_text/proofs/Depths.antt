@@ -31,3 +31,10 @@ goes_down pool b behind id outer rest same h =
     let both : max (depth (tree_of pool id)) (row_depth (row_in (trees pool) (rest_of pool behind))) + length (b ∷ outer) ≤ deepest (trees pool) =
     subst (λ ids. row_depth (row_in (trees pool) ids) + length (b ∷ outer) ≤ deepest (trees pool)) rest h.1 in
     ((subst (IsIn pool) (sym same) h.0, omega arith, h.2), omega arith)
+
+-- fewer arguments of a bracket are left
+pub stays_down : (pool : List Node) (b rest : Bracket) (outer : List Bracket) → rest.id ≡ b.id
+    → row_depth (row_in (trees pool) (rest_of pool rest)) ≤ row_depth (row_in (trees pool) (rest_of pool b)) → IsNested pool (b ∷ outer) → IsNested pool (rest ∷ outer)
+stays_down pool b rest outer same low h =
+    let down : row_depth (row_in (trees pool) (rest_of pool b)) + length (b ∷ outer) ≤ deepest (trees pool) = h.1 in
+    (subst (IsIn pool) (sym same) h.0, omega (arith, low, down), h.2)

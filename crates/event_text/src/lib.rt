@@ -1,6 +1,7 @@
 //! Conditions as text, and text as conditions.
 #![tactic(auto)]
 
+mod arguments;
 mod bracket;
 mod condition;
 mod definition;

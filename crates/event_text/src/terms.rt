@@ -1,29 +1,18 @@
 // Terms on their way out.
-ghost use Rattle.std.specs.Prelude.{◌≡◌, ◌≤◌, ◌<◌, ◌+◌, [], ◌∷◌, ◌++◌, length, map, MatchOption};
+ghost use Rattle.std.specs.Prelude.{◌≡◌, ◌≤◌, ◌<◌, ◌+◌, ◌∷◌, ◌++◌, length, map};
 ghost use Rattle.formula.specs.Pool.{trees, tree_of, row_in, AllBelow, IsIn};
 ghost use Rattle.formula.specs.Facts.{depth};
 ghost use Rattle.event_text.specs.Depths.{deepest};
-ghost use Rattle.event_text.specs.Rests.{pending, rest_of, IsNested};
+ghost use Rattle.event_text.specs.Rests.{pending, IsNested};
 ghost use Rattle.event_text.specs.Sending.{Goes, Nears};
-ghost use Rattle.event_text.specs.TermText.{function_text, name_at, row_text, term_text, truth_text};
+ghost use Rattle.event_text.specs.TermText.{function_text, name_at, row_text, term_text};
 
+use crate::arguments::{next_argument, put_truth, put_word_terms};
 use crate::bracket::Bracket;
 use crate::out::Out;
 use crate::writing_stack::WritingStack;
 use edge_io::Sink;
 use formula::{Definitions, Func, Node, TermId, TermPool};
-
-/// Puts T or F.
-fn put_truth<K: Sink>(out: &mut Out, sink: &mut K, b: bool)
-    ensures { Goes (K.written sink.old) (K.written sink.new) (K.faults sink.old)
-        (K.faults sink.new) out.old out.new (truth_text b) }
-{
-    if b {
-        out.put(sink, b"T");
-    } else {
-        out.put(sink, b"F");
-    }
-}
 
 /// Puts the name of the definition of number k, and nothing where there is none.
 fn put_name<K: Sink>(out: &mut Out, sink: &mut K, definitions: &Definitions, k: usize)
@@ -46,25 +35,6 @@ fn put_function<K: Sink>(out: &mut Out, sink: &mut K, definitions: &Definitions,
         Func::BuiltIn(built_in) => out.put(sink, built_in.name()),
         Func::Defined(k) => put_name(out, sink, definitions, k),
     }
-}
-
-/// The next argument of an open bracket, and the bracket behind it.
-fn next_argument(pool: &TermPool, bracket: Bracket) -> Option<(TermId, Bracket)>
-    requires { IsIn pool.now bracket.id }
-    ensures rest { MatchOption result (rest_of pool.now bracket ≡ []) (λ p. rest_of pool.now bracket
-        ≡ p.0 ∷ rest_of pool.now p.1) }
-    ensures below { MatchOption result (Unit {0}) (λ p. (p.0.place < bracket.id.place)
-        × (p.1.id ≡ bracket.id)) }
-{
-    let args = pool.arguments(bracket.id);
-    if bracket.at >= args.len() {
-        return None;
-    }
-    let behind = Bracket {
-        id: bracket.id,
-        at: bracket.at + 1,
-    };
-    Some((args[bracket.at], behind))
 }
 
 /// Puts a term up to its arguments: the whole of one that has no bracket, and else a bracket is
@@ -106,9 +76,9 @@ fn begin_term<K: Sink>(
     }
 }
 
-/// Puts what comes next in a bracket that was taken from the stack: its end, or an argument up to
+/// Puts what comes next in a bracket that was taken from the stack: its end, or one argument up to
 /// that one's arguments.
-fn go_on<K: Sink>(
+fn put_next<K: Sink>(
     out: &mut Out,
     sink: &mut K,
     pool: &TermPool,
@@ -135,6 +105,32 @@ fn go_on<K: Sink>(
     stack.open(behind);
     out.put(sink, b" ");
     begin_term(out, sink, pool, definitions, stack, id);
+}
+
+/// Puts what comes next in a bracket that was taken from the stack: its arguments up to the first
+/// that is not one word, and that one up to its arguments, or the bracket's end.
+fn go_on<K: Sink>(
+    out: &mut Out,
+    sink: &mut K,
+    pool: &TermPool,
+    definitions: &Definitions,
+    stack: &mut WritingStack,
+    bracket: Bracket,
+)
+    requires room { deepest (trees pool.now) ≤ stack.old.room }
+    requires nested { IsNested pool.now (bracket ∷ stack.old.brackets) }
+    ensures nears { Nears (K.written sink.old) (K.written sink.new) (K.faults sink.old)
+        (K.faults sink.new) out.old out.new (pending (map (λ d. d.name) definitions.now) pool.now
+        (bracket ∷ stack.old.brackets)) (pending (map (λ d. d.name) definitions.now) pool.now
+        stack.new.brackets) }
+    ensures shorter { length (pending (map (λ d. d.name) definitions.now) pool.now
+        stack.new.brackets) < length (pending (map (λ d. d.name) definitions.now) pool.now
+        (bracket ∷ stack.old.brackets)) }
+    ensures nested { IsNested pool.now stack.new.brackets }
+    ensures room { stack.old.room ≤ stack.new.room }
+{
+    let rest = put_word_terms(out, sink, pool, bracket);
+    put_next(out, sink, pool, definitions, stack, rest);
 }
 
 /// Puts a term. It takes no memory: its open brackets stand in `stack`, and not on the call stack.
