@@ -1,29 +1,30 @@
 // The keys of hashes.
 ghost use Rattle.std.specs.Prelude.{◌≡◌};
-ghost use Rattle.edge_io.specs.Seeds.{keyed_by, keyed_by_bytes};
+ghost use Rattle.edge_io.specs.Seeds.{keyed_by_bytes};
+ghost use Rattle.edge_io.specs.Hashing.{keyed};
 
+use crate::hashing::KeyedHasher;
 use std::hash::{BuildHasher, DefaultHasher, Hasher};
 
 /// Keys of hashes. A table that is made with them puts its entries where only the keys tell. Where they come of all bytes
 /// of an input, nobody can choose names in the input that share a place. No answer of a table depends on them.
 #[derive(Clone, Copy)]
 pub struct Keys {
-    /// A hasher that has taken the keys.
-    keyed: DefaultHasher,
+    /// A hasher that has the keys and has taken nothing.
+    keyed: KeyedHasher,
 }
 
 impl Keys {
     /// These two keys.
     pub fn new(key0: u64, key1: u64) -> Keys
-        ensures { result.keyed ≡ keyed_by key0 key1 }
+        ensures { result.keyed ≡ keyed key0 key1 }
     {
-        let mut keyed = DefaultHasher::new();
-        keyed.write_u64(key0);
-        keyed.write_u64(key1);
-        Keys { keyed }
+        Keys {
+            keyed: KeyedHasher::new(key0, key1),
+        }
     }
 
-    /// The keys of some bytes. Each of the bytes counts.
+    /// The keys of some bytes: two hashes of them all by SipHash. Each of the bytes counts.
     pub fn of(bytes: &[u8]) -> Keys
         ensures { result.keyed ≡ keyed_by_bytes bytes.now }
     {
@@ -36,11 +37,11 @@ impl Keys {
 }
 
 impl BuildHasher for Keys {
-    type Hasher = DefaultHasher;
+    type Hasher = KeyedHasher;
 
     ghost build_hasher = { λ k. k.keyed };
 
-    fn build_hasher(&self) -> DefaultHasher {
+    fn build_hasher(&self) -> KeyedHasher {
         self.keyed
     }
 }

@@ -21,7 +21,7 @@ use Rattle.fort_laws.specs.Clocks.{are_below, AreNotNegative, IsClock, FallsOnly
 use Rattle.fort_laws.specs.GoodStatements.{Stood}
 use Rattle.fort_laws.specs.Matches.{AllTrue}
 use Rattle.fort_laws.specs.Segments.{NoCheckFails, seen, IsSafe, KeepsUnsmashed, Arrives, at_end, at_assert}
-use Rattle.fort_laws.specs.Unfolded.{run_from}
+use Rattle.step_laws.specs.Unfolded.{run_from}
 use Rattle.fort_laws.specs.WholeRuns.{clock_of, IsTrueAt, AssertsAreSafe, ClocksHave, IsSafeIn, ComesToEnd, SafeRunsEnd}
 use Rattle.fort_laws.proofs.Falling.{clocks_fall_only_so_often}
 use Rattle.fort_laws.proofs.Near.{line_from}

@@ -35,7 +35,7 @@ use Rattle.fort_laws.proofs.FewSymbols.{answered}
 use Rattle.fort_laws.proofs.Near.{line_from}
 use Rattle.fort_laws.proofs.SafeRuns.{no_answers}
 use Rattle.fort_laws.proofs.SameValues.{Equal, all_equal, events_equal, same_senses}
-use Rattle.fort_laws.proofs.Unfolding.{runs_unfold}
+use Rattle.step_laws.proofs.Unfolding.{runs_unfold}
 
 module _ (program : Program) (p : Processor) (i : ℕ) (u : Routine) (order : IsInOrder program p i u) (fitting : FitsUnit u (notes_of program i))
     (good : (env : Environment) → LieApart program.units i u env → AreGood program i u env) (env : Environment) (st : Storage) (apart : IsApart program.units i u env) (fits : Fits p u env st)

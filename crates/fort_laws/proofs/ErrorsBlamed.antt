@@ -31,7 +31,7 @@ use Rattle.fort_laws.specs.Errors.{IsCut, IsInOrder, AreGood, IsUnderWay, Comes,
 use Rattle.fort_laws.specs.GoodStatements.{Stood}
 use Rattle.fort_laws.specs.Matches.{AllTrue, FirstFails, Errs, of_callee, errs}
 use Rattle.fort_laws.specs.Segments.{KeepsUnsmashed}
-use Rattle.fort_laws.specs.Unfolded.{run_from}
+use Rattle.step_laws.specs.Unfolded.{run_from}
 use Rattle.fort_laws.specs.WholeRuns.{clock_of, IsTrueAt}
 use Rattle.fort_laws.proofs.Descents.{true_left, true_right}
 use Rattle.fort_laws.proofs.Entering.{begun_placed, entry_stood, entry_true}
@@ -45,8 +45,8 @@ use Rattle.fort_laws.proofs.Matching.{all_true_append, fails_later}
 use Rattle.fort_laws.proofs.Near.{line_from}
 use Rattle.fort_laws.proofs.SafeRuns.{no_answers, end_is, none_at}
 use Rattle.fort_laws.proofs.SafeUnits.{smashed_have_types}
-use Rattle.fort_laws.proofs.Tied.{at_most_or}
-use Rattle.fort_laws.proofs.Unfolding.{runs_unfold}
+use Rattle.step_laws.proofs.Tied.{at_most_or}
+use Rattle.step_laws.proofs.Unfolding.{runs_unfold}
 
 same_erred : {A : Type 0} (k kind : Kind) (c card : ℕ) (after last : Storage) → ◌≡◌ {A = Outcome A} (Erred k c after) (Erred kind card last) → (k ≡ kind) × (c ≡ card) × (after ≡ last)
 same_erred k kind c card after last e = (cc, cc, cc)

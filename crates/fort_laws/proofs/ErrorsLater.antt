@@ -10,12 +10,12 @@ use Rattle.fort_model.specs.Processor.{Processor}
 use Rattle.fort_model.specs.Run.{run, from_point, go_to, at_line}
 use Rattle.fort_model.specs.Sites.{calls_before}
 use Rattle.fort_model.specs.Storage.{Storage, Environment}
-use Rattle.fort_laws.specs.Steps.{IsRunning}
-use Rattle.fort_laws.specs.Unfolded.{run_from}
+use Rattle.step_laws.specs.Steps.{IsRunning}
+use Rattle.step_laws.specs.Unfolded.{run_from}
 use Rattle.fort_laws.proofs.Matching.{followed}
-use Rattle.fort_laws.proofs.Tied.{Behaves, ends, errs, runs}
-use Rattle.fort_laws.proofs.TiedRuns.{tied_from}
-use Rattle.fort_laws.proofs.Unfolding.{from_bounded, runs_unfold}
+use Rattle.step_laws.proofs.Tied.{Behaves, ends, errs, runs}
+use Rattle.step_laws.proofs.TiedRuns.{tied_from}
+use Rattle.step_laws.proofs.Unfolding.{from_bounded, runs_unfold}
 
 -- what errs with some stock of steps errs with more
 erred_more : {A : Type 0} (act : ℕ → Outcome A) (n more bound : ℕ) → more + n < bound → (kind : Kind) (card : ℕ) (after : Storage) → Behaves bound act n → act n ≡ Erred kind card after → act (more + n) ≡ Erred kind card after

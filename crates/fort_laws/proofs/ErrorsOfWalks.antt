@@ -23,7 +23,7 @@ use Rattle.fort_model.specs.WalkStmt.{performed}
 use Rattle.fort_laws.specs.Errors.{IsRunError, IsOnArrival, Comes, RunsAs, arrives, fails_there, errs_on_way, RunErrs, ErrorsAreThoseOfWalks}
 use Rattle.fort_laws.specs.Matches.{FirstFails, Errs, of_callee, errs}
 use Rattle.fort_laws.specs.Segments.{seen}
-use Rattle.fort_laws.specs.Unfolded.{run_from}
+use Rattle.step_laws.specs.Unfolded.{run_from}
 use Rattle.fort_laws.proofs.ErrorsChoices.{choices_part}
 use Rattle.fort_laws.proofs.ErrorsOnArrival.{are_on_arrival, failing_kind, checks_stay}
 use Rattle.fort_laws.proofs.ErrorsParting.{Part, part_then, after, or_part, GoesOff, failing_stays, fails_behind, off_behind, one_failure, part_fails}

@@ -30,13 +30,13 @@ use Rattle.fort_laws.specs.GoodStatements.{Stood, IsGood, StatementsStep}
 use Rattle.fort_laws.specs.Matches.{AllTrue, FirstFails, Errs, of_callee, errs}
 use Rattle.fort_laws.specs.Segments.{seen, KeepsUnsmashed, StatementsKeep}
 use Rattle.fort_laws.specs.StepMatches.{StepMatches, goes, stops}
-use Rattle.fort_laws.specs.Unfolded.{run_from}
+use Rattle.step_laws.specs.Unfolded.{run_from}
 use Rattle.fort_laws.specs.Ways.{IsCutUp, AreExecutable}
 use Rattle.fort_laws.proofs.ErrorsOnArrival.{checks_fail, are_on_arrival}
 use Rattle.fort_laws.proofs.Matching.{followed, all_true_append, fails_later, fails_before}
 use Rattle.fort_laws.proofs.Near.{Near, near, near_all, complete, line_from, way_on}
 use Rattle.fort_laws.proofs.SafeRuns.{walk_is, run_is, end_is, none_at, returned, good_is_executable, no_answers}
-use Rattle.fort_laws.proofs.Unfolding.{runs_unfold}
+use Rattle.step_laws.proofs.Unfolding.{runs_unfold}
 
 module _ (fs : List Function) (values : Symbol → Value) (program : Program) (i : ℕ) (s : Scene) (dialects : s.processor.dialect ≡ program.dialect) where
   abbrev sight : Sight Value

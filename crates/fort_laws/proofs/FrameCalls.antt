@@ -20,7 +20,7 @@ use Rattle.fort_laws.proofs.FrameParts.{IsOpen}
 use Rattle.fort_laws.proofs.FrameRuns.{run_frame}
 use Rattle.fort_laws.proofs.FrameSeats.{old_cells, at_fit, inner, begun, long, same_below, new_at, Seated, Place, old, new, place_of, old_of, old_within, Root, common, dummy, root, actual_open, smashed_open, shared_below, inside_by, callee_apart, callee_shapes}
 use Rattle.fort_laws.proofs.StorageLaws.{width, widths, widths_apart, length-new_cells, copy_holds, at_passed, length-written_back, load-written_back, copies_hold}
-use Rattle.fort_laws.proofs.Tied.{at_most_or}
+use Rattle.step_laws.proofs.Tied.{at_most_or}
 
 pub copy_of : (t : Bool) (x : Taken) (e : Extent) → passed_by t x ≡ ByCopy e → x ≡ Cells e
 copy_of true (Cells f) e h = cc

@@ -27,7 +27,7 @@ use Rattle.fort_laws.specs.Actuals.{IsPart, IsTakenAs, AreTakenAs}
 use Rattle.fort_laws.specs.Frame.{IsPlaced, HasName, IsSoundUnit, IsDim, DimAgrees, DimsAgree, IsSoundCall}
 use Rattle.fort_laws.proofs.FrameEnter.{SameOrNot, same, other, same_or_not, fixed_good}
 use Rattle.fort_laws.proofs.FrameParts.{IsOpen, one_cell}
-use Rattle.fort_laws.proofs.Tied.{at_most_or}
+use Rattle.step_laws.proofs.Tied.{at_most_or}
 use Rattle.fort_laws.proofs.StorageLaws.{width, widths, seat, seat_at, widths_apart, length-new_cells, copy_holds, value_holds, passed_at}
 
 -- ---- names

@@ -2,10 +2,10 @@
 use Rattle.std.proofs.Common.{◌≡◌, ℕ, zero, suc, ◌+◌, ◌-◌, ◌≤◌, Bool, true, false, cond, refl, sym, ap, ◌∙◌, subst, arith}
 use Rattle.fort_model.specs.Outcome.{Outcome, Ended, Erred, Running, and_then, Act, ◌>>=◌, ◌>>◌, give}
 use Rattle.fort_model.specs.Storage.{Storage}
-use Rattle.fort_laws.specs.Steps.{IsRunning}
+use Rattle.step_laws.specs.Steps.{IsRunning}
 use Rattle.fort_laws.proofs.Kept.{Comes, Does}
-use Rattle.fort_laws.proofs.Tied.{Behaves, ends, errs, runs, Tied, tied_give}
-use Rattle.fort_laws.proofs.TiedRuns.{IsEnded, left_of, with_left}
+use Rattle.step_laws.proofs.Tied.{Behaves, ends, errs, runs, Tied, tied_give}
+use Rattle.step_laws.proofs.TiedRuns.{IsEnded, left_of, with_left}
 
 -- what a part with a stock n ended with, the other part ends with too, with a greater stock, and uses no more steps
 pub record Ahead {A : Type 0} (g : ℕ → Outcome A) (n : ℕ) (v : A) (after : Storage) (left more : ℕ) : Type 0 where

@@ -17,8 +17,8 @@ use Rattle.fort_model.specs.Perform.{write_cell, parameter, step_value, tests, g
 use Rattle.fort_model.specs.Processor.{Processor}
 use Rattle.fort_laws.specs.Lazy.{lazy_one}
 use Rattle.fort_laws.proofs.LazyFollows.{FollowsAll, follows_cond, all_then, all_before, all_give, sure}
-use Rattle.fort_laws.proofs.Tied.{tied_check, tied_step}
-use Rattle.fort_laws.proofs.TiedParts.{sure_ranged, sure_intrinsic, sure_operate, sure_write, sure_variable, sure_constant, sure_begin, sure_select}
+use Rattle.step_laws.proofs.Tied.{tied_check, tied_step}
+use Rattle.step_laws.proofs.TiedParts.{sure_ranged, sure_intrinsic, sure_operate, sure_write, sure_variable, sure_constant, sure_begin, sure_select}
 
 -- the scene with the lazy processor
 abbrev pub lazy_scene : Scene → Scene

@@ -30,8 +30,8 @@ use Rattle.fort_laws.proofs.FrameSeats.{begun, callee_apart, callee_shapes}
 use Rattle.fort_laws.proofs.LazyFollows.{Ahead, FollowsAt, FollowsAll, follows_both, follows_on, follows_stepped, all_give, sure, ended_with, Leaves}
 use Rattle.fort_laws.proofs.LazyParts.{lazy_scene}
 use Rattle.fort_laws.proofs.LazyStatements.{follows_perform}
-use Rattle.fort_laws.proofs.Tied.{tied_then, tied_before, tied_give, tied_stuck, tied_held, tied_put}
-use Rattle.fort_laws.proofs.TiedRuns.{tied_leave, fuels}
+use Rattle.step_laws.proofs.Tied.{tied_then, tied_before, tied_give, tied_stuck, tied_held, tied_put}
+use Rattle.step_laws.proofs.TiedRuns.{tied_leave, fuels}
 
 module _ (units : List Routine) (sound : AreSound units) (harmless : FunctionsSmashNothing units)
     (p : Processor) (strict : p.lazy ≡ false) where

@@ -28,8 +28,8 @@ use Rattle.fort_laws.proofs.Kept.{among_left, among_right, AreIn, listed_row, el
 use Rattle.fort_laws.proofs.LazyFollows.{FollowsAt, FollowsAll, follows_on, follows_cond, all_then, all_before, all_give, sure, IsSame, Any, Leaves, follows_then, follows_without}
 use Rattle.fort_laws.proofs.LazyParts.{lazy_scene, all_ranged, all_operate, all_power_on, all_intrinsic, all_parameter, all_step_value, all_go_on, all_begin, all_select}
 use Rattle.fort_laws.proofs.References.{sites_are_references, row_references}
-use Rattle.fort_laws.proofs.Tied.{tied_stuck, tied_step}
-use Rattle.fort_laws.proofs.TiedParts.{sure_value_of, sure_element, sure_assign, sure_result}
+use Rattle.step_laws.proofs.Tied.{tied_stuck, tied_step}
+use Rattle.step_laws.proofs.TiedParts.{sure_value_of, sure_element, sure_assign, sure_result}
 
 follows_valued : {a b : Act Taken} (st : Storage) (card : ℕ) → FollowsAt st a b → FollowsAt st (valued card a) (valued card b)
 follows_valued st card h = follows_on st h (λ x. sure _ (λ bound. sure_value_of bound card x))

@@ -77,11 +77,7 @@ pub mod Stepping
 pub mod StorageLaws
 pub mod StrictPrograms
 pub mod Tests
-pub mod Tied
-pub mod TiedParts
-pub mod TiedRuns
 pub mod TypedLines
-pub mod Unfolding
 pub mod UnitCalls
 pub mod ValidPaths
 pub mod WalkKeeps

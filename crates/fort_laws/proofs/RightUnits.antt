@@ -43,7 +43,7 @@ use Rattle.fort_laws.proofs.FrameEnter.{visible_env}
 use Rattle.fort_laws.proofs.FrameSeats.{clash}
 use Rattle.fort_laws.proofs.SafeUnits.{safe_units_end}
 use Rattle.fort_laws.proofs.Small.{both_hold, both_parts}
-use Rattle.fort_laws.proofs.Unfolding.{runs_unfold}
+use Rattle.step_laws.proofs.Unfolding.{runs_unfold}
 
 checked_all : (kind : Kind) (card : ℕ) (vs : List Value) → AllTrue (checks kind card vs) → list_all holds vs ≡ true
 checked_all kind card [] h = refl

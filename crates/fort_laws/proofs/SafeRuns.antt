@@ -43,12 +43,12 @@ use Rattle.fort_laws.specs.GoodStatements.{Stood, IsGood, StatementsStep}
 use Rattle.fort_laws.specs.Matches.{AllTrue, FirstFails}
 use Rattle.fort_laws.specs.Segments.{NoCheckFails, IsSafe, KeepsUnsmashed, StatementsKeep, Arrives, at_end, at_assert, SafeRunsArrive}
 use Rattle.fort_laws.specs.StepMatches.{StepMatches, goes, stops}
-use Rattle.fort_laws.specs.Unfolded.{run_from}
+use Rattle.step_laws.specs.Unfolded.{run_from}
 use Rattle.fort_laws.specs.Ways.{IsReturn, IsCutUp, AreExecutable, IsExecutable, Completed}
 use Rattle.fort_laws.proofs.MatchedStatements.{statements_match}
 use Rattle.fort_laws.proofs.Matching.{followed, fails_later, fails_before}
 use Rattle.fort_laws.proofs.Near.{known, Near, near, near_all, complete, line_from, way_on}
-use Rattle.fort_laws.proofs.Unfolding.{runs_unfold}
+use Rattle.step_laws.proofs.Unfolding.{runs_unfold}
 
 -- only checks
 abbrev OnlyChecks : List (Event Value) → Type 0

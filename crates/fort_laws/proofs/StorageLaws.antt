@@ -6,7 +6,7 @@ use Rattle.formula.specs.declared.value.Cell.TheVariants.{Undefined}
 use Rattle.fort_model.specs.Fits.{IsIn}
 use Rattle.fort_model.specs.Storage.{Storage, Extent, load, store, contents, write}
 use Rattle.fort_model.specs.Passing.{Taken, Passed, ByReference, ByCopy, ByValue, passed_by, passed, seats, new_cells, written_back}
-use Rattle.fort_laws.proofs.Tied.{at_most_or}
+use Rattle.step_laws.proofs.Tied.{at_most_or}
 
 -- ---- contents and writes
 

@@ -29,7 +29,7 @@ use Rattle.fort_laws.specs.Frame.{AreSound, SharesBlocks, FunctionsSmashNothing}
 use Rattle.fort_laws.specs.GoodStatements.{Stood, IsGood}
 use Rattle.fort_laws.specs.Matches.{AllTrue, FirstFails, Errs}
 use Rattle.fort_laws.specs.Segments.{seen, KeepsUnsmashed, HasValue}
-use Rattle.fort_laws.specs.Unfolded.{run_from}
+use Rattle.step_laws.specs.Unfolded.{run_from}
 use Rattle.fort_laws.specs.WholeRuns.{BlocksAreCommon}
 use Rattle.fort_laws.specs.Ways.{IsCutUp}
 

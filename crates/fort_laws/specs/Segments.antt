@@ -27,7 +27,7 @@ use Rattle.fort_model.specs.WalkStmt.{performed}
 use Rattle.fort_laws.specs.Called.{IsReferenceTo, IsCallTo}
 use Rattle.fort_laws.specs.GoodStatements.{Stood, HasScalarDims, ReferencesMatch, CallStatementsMatch, IsGood}
 use Rattle.fort_laws.specs.Matches.{AllTrue, FirstFails}
-use Rattle.fort_laws.specs.Unfolded.{run_from}
+use Rattle.step_laws.specs.Unfolded.{run_from}
 use Rattle.fort_laws.specs.Ways.{EndsByReturn, IsCutUp}
 
 -- the first false event of a walk, if there is one, is no check

@@ -14,7 +14,6 @@ mod places;
 mod programs;
 mod segments;
 mod statements;
-mod steps;
 mod symbols;
 mod trails;
 mod units;
@@ -47,9 +46,6 @@ pub use places::elements_lie_in_arrays;
 pub use programs::{programs_are_correct, strict_programs_are_correct};
 pub use segments::{safe_runs_arrive, safe_runs_end, statements_keep};
 pub use statements::statements_match;
-pub use steps::{
-    fewer_steps_are_not_enough, fuel_does_not_matter, more_steps_change_nothing, runs_unfold,
-};
 pub use symbols::{
     paths_make_asserts_safe, paths_make_entries_safe, safe_paths_end, walks_read_few_symbols,
 };

@@ -31,9 +31,7 @@ fn with_next(
     ensures front { IfOk result (λ found. IfSome found (λ _. IsFront (sight_of course.now.subject.now) paths.new.course.steps.items
         (length paths.new.course.steps.items) front.new)) }
 {
-    let Ok(_) = paths.advance() else {
-        return Err(NoMemory);
-    };
+    paths.advance();
     let Some(view) = paths.view() else {
         return Ok(None);
     };

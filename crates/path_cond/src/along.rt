@@ -83,9 +83,7 @@ pub(crate) fn add_paths(drafts: Drafts, plan: &Plan, flow: &UnitFlow) -> Result<
     };
     let mut walked = Walked::new(drafts);
     let mut number: u32 = 0;
-    let Ok(mut more) = paths.advance() else {
-        return Err(NoMemory);
-    };
+    let mut more = paths.advance();
     while more {
         let Some(path) = paths.view() else {
             unreachable!()
@@ -95,9 +93,7 @@ pub(crate) fn add_paths(drafts: Drafts, plan: &Plan, flow: &UnitFlow) -> Result<
             return Err(NoMemory);
         };
         walked = after;
-        let Ok(next) = paths.advance() else {
-            return Err(NoMemory);
-        };
+        let next = paths.advance();
         more = next;
     }
     Ok(walked.drafts())

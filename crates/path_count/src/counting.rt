@@ -17,17 +17,11 @@ pub fn count_paths(alloc: Global, graph: &Graph, room: u32) -> Result<Option<u32
         return Err(NoMemory);
     };
     for count in 0..room {
-        let Ok(more) = paths.advance() else {
-            return Err(NoMemory);
-        };
-        if !more {
+        if !paths.advance() {
             return Ok(Some(count));
         }
     }
-    let Ok(more) = paths.advance() else {
-        return Err(NoMemory);
-    };
-    if more {
+    if paths.advance() {
         return Ok(None);
     }
     Ok(Some(room))

@@ -82,6 +82,19 @@ module _ (graph : Graph) (cut : ℕ → Bool) (limit : ℕ) where
   choose_none s steps k c e =
       ap (λ ts. by_each graph cut s (ways graph cut s (fuel steps)) steps k c ts ++ rest graph cut limit s steps) (sym (none_of (targets k) c e))
 
+  -- where there is no room for one more step, no way goes on
+  no_fuel : (steps : List Step) → limit ≤ length steps → fuel steps ≡ 0
+  no_fuel steps le = omega arith
+
+  none_by_each : (s : ℕ) (steps : List Step) (k c : ℕ) (ts : List Target) → by_each graph cut s (ways graph cut s 0) steps k c ts ≡ []
+  none_by_each s steps k c [] = refl
+  none_by_each s steps k c (t ∷ ts) = none_by_each s steps k (suc c) ts
+
+  pub choose_no_room : (s : ℕ) (steps : List Step) (k c : ℕ) → limit ≤ length steps → left graph cut limit s steps Back ≡ left graph cut limit s steps (Choose k c)
+  choose_no_room s steps k c le =
+      ap (λ r. r ++ rest graph cut limit s steps)
+      (sym (ap (λ n. by_each graph cut s (ways graph cut s n) steps k c (drop c (targets k))) (no_fuel steps le) ∙ none_by_each s steps k c (drop c (targets k))))
+
   less_by_choice : (a b r w l m : ℕ) → l ≡ a → m ≡ 2 + b + r → w ≡ 2 + a + b → suc (l + m) < suc (1 + w + r)
   less_by_choice a b r w l m e f g = omega arith
 
@@ -110,6 +123,14 @@ module _ (graph : Graph) (cut : ℕ → Bool) (limit : ℕ) where
   pub enter_none : (s : ℕ) (steps : List Step) (p : ℕ) → slice_get graph.starts p ≡ None
       → left graph cut limit s steps Back ≡ behind_statement graph cut s (ways_on graph cut limit s) steps p (slice_get graph.starts p) ++ rest graph cut limit s steps
   enter_none s steps p e = ap (λ o. behind_statement graph cut s (ways_on graph cut limit s) steps p o ++ rest graph cut limit s steps) (sym e)
+
+  none_behind : (s : ℕ) (steps : List Step) (p : ℕ) (o : Option Target) → limit ≤ length steps → behind_statement graph cut s (ways_on graph cut limit s) steps p o ≡ []
+  none_behind s steps p None le = refl
+  none_behind s steps p (Some t) le = ap (λ n. ways graph cut s n (steps ++ At p ∷ []) t) (more_fuel steps (At p) ∙ no_fuel steps le)
+
+  pub enter_no_room : (s : ℕ) (steps : List Step) (p : ℕ) → limit ≤ length steps
+      → left graph cut limit s steps Back ≡ behind_statement graph cut s (ways_on graph cut limit s) steps p (slice_get graph.starts p) ++ rest graph cut limit s steps
+  enter_no_room s steps p le = ap (λ r. r ++ rest graph cut limit s steps) (sym (none_behind s steps p (slice_get graph.starts p) le))
 
   no_more : (a r w l m : ℕ) → l ≡ a → m ≡ 1 + r → w ≡ suc a → suc (l + m) ≤ suc (w + r)
   no_more a r w l m e f g = omega arith

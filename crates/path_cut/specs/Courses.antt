@@ -11,10 +11,10 @@ use Rattle.path_cut.specs.Work.{left, rest, work, rest_work, statement_work, sta
 
 -- what a search has left, and how much it has to do, at a stage
 abbrev pub all_left : Flow → Course → Stage → List Way
-all_left f c stage = left f.graph.now (is_marked f.marks.items) f.limit c.start c.steps.items stage
+all_left f c stage = left f.graph.now (is_marked f.marks.items) c.steps.room c.start c.steps.items stage
 
 abbrev pub work_of : Flow → Course → Stage → ℕ
-work_of f c stage = stage_work f.graph.now (is_marked f.marks.items) f.limit c.start c.steps.items stage
+work_of f c stage = stage_work f.graph.now (is_marked f.marks.items) c.steps.room c.start c.steps.items stage
 
 -- a turn from a stage keeps what is left and leaves less to do
 pub record Moves (f : Flow) (old : Course) (stage : Stage) (new : Course) : Type 0 where
@@ -24,17 +24,17 @@ pub record Moves (f : Flow) (old : Course) (stage : Stage) (new : Course) : Type
 -- a turn goes through the statement at a point
 pub record Enters (f : Flow) (old : Course) (p : ℕ) (new : Course) : Type 0 where
   pub kept : all_left f new new.stage ≡ behind_statement f.graph.now (is_marked f.marks.items) old.start
-      (ways_on f.graph.now (is_marked f.marks.items) f.limit old.start) old.steps.items p
+      (ways_on f.graph.now (is_marked f.marks.items) old.steps.room old.start) old.steps.items p
       (slice_get f.graph.now.starts p)
-      ++ rest f.graph.now (is_marked f.marks.items) f.limit old.start old.steps.items
-  pub less : work_of f new new.stage ≤ suc (statement_work f.graph.now (is_marked f.marks.items) f.limit
-      (work f.graph.now (is_marked f.marks.items) f.limit (f.limit - suc (length old.steps.items)))
+      ++ rest f.graph.now (is_marked f.marks.items) old.steps.room old.start old.steps.items
+  pub less : work_of f new new.stage ≤ suc (statement_work f.graph.now (is_marked f.marks.items) old.steps.room
+      (work f.graph.now (is_marked f.marks.items) old.steps.room (old.steps.room - suc (length old.steps.items)))
       (slice_get f.graph.now.starts p)
-      + rest_work f.graph.now (is_marked f.marks.items) f.limit old.start old.steps.items)
+      + rest_work f.graph.now (is_marked f.marks.items) old.steps.room old.start old.steps.items)
 
 -- the last step is taken away
 abbrev pub Undoes : Course → Step → Course → Type 0
-Undoes old x new = (new.start ≡ old.start) × (old.steps.items ≡ new.steps.items ++ x ∷ []) × (new.stage ≡ old.stage)
+Undoes old x new = (new.start ≡ old.start) × (old.steps ≡ record new.steps { items = new.steps.items ++ x ∷ [] }) × (new.stage ≡ old.stage)
 
 -- what is to be done once a step is undone
 abbrev pub stage_behind : Step → Stage
@@ -70,7 +70,7 @@ is_moving Over = false
 
 pub record Begins (old new : Course) : Type 0 where
   pub start : new.start ≡ old.start
-  pub steps : new.steps.items ≡ old.steps.items
+  pub steps : new.steps ≡ old.steps
   pub shared : new.shared ≡ length old.steps.items
   pub stage : new.stage ≡ resumed old.stage
 

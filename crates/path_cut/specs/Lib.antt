@@ -1,3 +1,4 @@
+pub mod Rooms
 pub mod Ways
 pub mod Work
 pub mod Courses

@@ -1,5 +1,5 @@
 -- The ways through a graph from a start to the next cut point, in order.
-use Rattle.std.specs.Prelude.{ℕ, zero, suc, ◌+◌, ◌-◌, ◌*◌, Bool, true, false, if◌then◌else◌, nat_lt, List, [], ◌∷◌, ◌++◌, length, Option, Some, None, slice_get, set, replicate, unwrap_or}
+use Rattle.std.specs.Prelude.{ℕ, zero, suc, ◌+◌, ◌-◌, Bool, true, false, List, [], ◌∷◌, ◌++◌, length, Option, Some, None, slice_get, set, replicate, unwrap_or}
 use Rattle.fort_model.specs.declared.graph.Fork.{Fork}
 use Rattle.fort_model.specs.declared.graph.Graph.{Graph}
 use Rattle.fort_model.specs.declared.graph.Target.{Target}
@@ -31,14 +31,9 @@ marked marks (q ∷ qs) = marked (set marks q true) qs
 abbrev pub marks_of : Graph → List Bool
 marks_of graph = marked (replicate graph.size false) graph.cuts
 
--- the greatest of a number and some others
-abbrev pub greatest_from : ℕ → List ℕ → ℕ
-greatest_from most [] = most
-greatest_from most (n ∷ ns) = greatest_from (if nat_lt most n then n else most) ns
-
--- more steps than a way has: ranks grow from statement to statement, and forks fall
+-- more steps than a way has: each statement stands on it once, and each fork
 abbrev pub limit_of : Graph → ℕ
-limit_of graph = (greatest_from 0 graph.ranks + 2) * (length graph.forks + 2)
+limit_of graph = graph.size + length graph.forks + 3
 
 module _ (graph : Graph) (cut : ℕ → Bool) where
   module _ (s : ℕ) where

@@ -1,12 +1,12 @@
 // Where the search for paths stands.
-ghost use Rattle.std.specs.Prelude.{◌≡◌, ◌<◌, ◌∷◌, ◌++◌, [], true, length, drop, slice_get, is_some, IfOk, OnOk};
+ghost use Rattle.std.specs.Prelude.{◌≡◌, ◌<◌, ◌∷◌, ◌++◌, [], true, length, drop, slice_get, is_some};
 ghost use Rattle.path_cut.specs.declared.course.Stage.TheVariants.{On, Choose, Back};
 ghost use Rattle.fort_model.specs.declared.graph.Target.TheVariants.{Point};
 ghost use Rattle.path_cut.specs.Courses.{Moves, Enters, Undoes, stage_behind, SharesFront, Begins, SharesSteps, is_moving, left_of, way_now};
 
 use crate::flow::Flow;
 use crate::step::Step;
-use edge_io::NoMemory;
+use crate::trail::Trail;
 use fort_model::Target;
 
 /// What is to be done next.
@@ -29,7 +29,7 @@ pub(crate) enum Stage {
 #[derive(Drop)]
 pub(crate) struct Course {
     pub(crate) start: usize,
-    pub(crate) steps: Vec<Step>,
+    pub(crate) steps: Trail,
     pub(crate) shared: usize,
     pub(crate) stage: Stage,
 }
@@ -46,98 +46,91 @@ fn behind(step: Step) -> Stage
 
 impl Course {
     // One step more, and then a target.
-    fn push(&mut self, step: Step, target: Target) -> Result<(), NoMemory>
-        ensures start { OnOk result (self.new.start ≡ self.old.start) }
-        ensures steps { OnOk result (self.new.steps.items ≡ self.old.steps.items ++ step ∷ []) }
-        ensures shared { OnOk result (self.new.shared ≡ self.old.shared) }
-        ensures stage { OnOk result (self.new.stage ≡ On target) }
+    fn push(&mut self, step: Step, target: Target)
+        requires { length self.old.steps.items < self.old.steps.room }
+        ensures start { self.new.start ≡ self.old.start }
+        ensures steps { self.new.steps ≡ record self.old.steps { items = self.old.steps.items ++ step ∷ [] } }
+        ensures shared { self.new.shared ≡ self.old.shared }
+        ensures stage { self.new.stage ≡ On target }
     {
-        let Ok(()) = self.steps.push(step) else {
-            return Err(NoMemory);
-        };
+        self.steps.push(step);
         self.stage = Stage::On(target);
-        Ok(())
     }
 
     // To the next target of a fork.
-    fn choose(&mut self, flow: &Flow, fork: u32, tried: usize) -> Result<(), NoMemory>
-        ensures moves { OnOk result (Moves flow.now self.old (Choose fork tried) self.new) }
-        ensures shares { OnOk result (SharesFront self.old self.new) }
+    fn choose(&mut self, flow: &Flow, fork: u32, tried: usize)
+        ensures moves { Moves flow.now self.old (Choose fork tried) self.new }
+        ensures shares { SharesFront self.old self.new }
     {
         let Some(target) = flow.turn(fork, tried) else {
             self.stage = Stage::Back;
-            return Ok(());
+            return;
         };
-        let Ok(()) = self.push(Step::Choice(fork, tried + 1), target) else {
-            return Err(NoMemory);
-        };
-        Ok(())
+        if !self.steps.has_room() {
+            self.stage = Stage::Back;
+            return;
+        }
+        self.push(Step::Choice(fork, tried + 1), target);
     }
 
     // To what the statement at a point leads to, if there is one.
-    fn enter(&mut self, flow: &Flow, point: u32) -> Result<(), NoMemory>
-        ensures moves { OnOk result (Enters flow.now self.old point self.new) }
-        ensures shares { OnOk result (SharesFront self.old self.new) }
+    fn enter(&mut self, flow: &Flow, point: u32)
+        ensures moves { Enters flow.now self.old point self.new }
+        ensures shares { SharesFront self.old self.new }
     {
         let Some(target) = flow.start(point) else {
             self.stage = Stage::Back;
-            return Ok(());
+            return;
         };
-        let Ok(()) = self.push(Step::At(point), target) else {
-            return Err(NoMemory);
-        };
-        Ok(())
+        if !self.steps.has_room() {
+            self.stage = Stage::Back;
+            return;
+        }
+        self.push(Step::At(point), target);
     }
 
     // On from a target.
-    fn go_on(&mut self, flow: &Flow, target: Target) -> Result<(), NoMemory>
-        ensures moves { OnOk result (Moves flow.now self.old (On target) self.new) }
-        ensures shares { OnOk result (SharesFront self.old self.new) }
+    fn go_on(&mut self, flow: &Flow, target: Target)
+        ensures moves { Moves flow.now self.old (On target) self.new }
+        ensures shares { SharesFront self.old self.new }
     {
-        if self.steps.len() as u128 >= flow.limit {
+        if !self.steps.has_room() {
             self.stage = Stage::Back;
-            return Ok(());
+            return;
         }
         match target {
             Target::Fork(fork) => {
                 self.stage = Stage::Choose(fork, 0);
-                Ok(())
             }
             Target::Point(point) => self.pass(flow, point),
         }
     }
 
     // Through a point, or to its end.
-    fn pass(&mut self, flow: &Flow, point: u32) -> Result<(), NoMemory>
-        requires { length self.old.steps.items < flow.now.limit }
-        ensures moves { OnOk result (Moves flow.now self.old (On (Point point)) self.new) }
-        ensures shares { OnOk result (SharesFront self.old self.new) }
+    fn pass(&mut self, flow: &Flow, point: u32)
+        requires { length self.old.steps.items < self.old.steps.room }
+        ensures moves { Moves flow.now self.old (On (Point point)) self.new }
+        ensures shares { SharesFront self.old self.new }
     {
         if flow.is_cut(point) {
             self.stage = Stage::Ended(point);
-            return Ok(());
+            return;
         }
-        let Ok(()) = self.enter(flow, point) else {
-            return Err(NoMemory);
-        };
-        Ok(())
+        self.enter(flow, point);
     }
 
     // To the next start, if there is one.
-    fn begin_next(&mut self, flow: &Flow) -> Result<(), NoMemory>
+    fn begin_next(&mut self, flow: &Flow)
         requires { self.old.steps.items ≡ [] }
-        ensures moves { OnOk result (Moves flow.now self.old Back self.new) }
-        ensures shares { OnOk result (SharesFront self.old self.new) }
+        ensures moves { Moves flow.now self.old Back self.new }
+        ensures shares { SharesFront self.old self.new }
     {
         let Some(point) = flow.cut(self.start) else {
             self.stage = Stage::Over;
-            return Ok(());
+            return;
         };
         self.start += 1;
-        let Ok(()) = self.enter(flow, point) else {
-            return Err(NoMemory);
-        };
-        Ok(())
+        self.enter(flow, point);
     }
 
     // Takes the last step away.
@@ -160,29 +153,29 @@ impl Course {
     }
 
     // Undoes the last step, if there is one, and stands before what comes behind it.
-    fn back(&mut self, flow: &Flow) -> Result<(), NoMemory>
-        ensures moves { OnOk result (Moves flow.now self.old Back self.new) }
-        ensures shares { OnOk result (SharesFront self.old self.new) }
+    fn back(&mut self, flow: &Flow)
+        ensures moves { Moves flow.now self.old Back self.new }
+        ensures shares { SharesFront self.old self.new }
     {
-        if self.steps.is_empty() {
-            return self.begin_next(flow);
+        if self.steps.len() == 0 {
+            self.begin_next(flow);
+            return;
         }
         let step = self.undo();
         self.stage = behind(step);
-        Ok(())
     }
 
     // One turn of the search.
-    fn turn(&mut self, flow: &Flow) -> Result<(), NoMemory>
+    fn turn(&mut self, flow: &Flow)
         requires { is_moving self.old.stage ≡ true }
-        ensures moves { OnOk result (Moves flow.now self.old self.old.stage self.new) }
-        ensures shares { OnOk result (SharesFront self.old self.new) }
+        ensures moves { Moves flow.now self.old self.old.stage self.new }
+        ensures shares { SharesFront self.old self.new }
     {
         match self.stage {
             Stage::On(target) => self.go_on(flow, target),
             Stage::Choose(fork, tried) => self.choose(flow, fork, tried),
             Stage::Back => self.back(flow),
-            Stage::Ended(_) | Stage::Over => Ok(()),
+            Stage::Ended(_) | Stage::Over => {}
         }
     }
 
@@ -206,21 +199,18 @@ impl Course {
         self.shared = self.steps.len();
     }
 
-    /// To the end of the next path, if there is one. After a refusal nothing is known of the paths
-    /// that are left.
-    pub(crate) fn advance(&mut self, flow: &Flow) -> Result<bool, NoMemory>
-        ensures found { IfOk result (λ b. b ≡ is_some (slice_get (left_of flow.now self.old) 0)) }
-        ensures way { OnOk result (way_now self.new ≡ slice_get (left_of flow.now self.old) 0) }
-        ensures left { OnOk result (left_of flow.now self.new ≡ drop 1 (left_of flow.now self.old)) }
-        ensures shared { OnOk result (SharesSteps self.old self.new) }
+    /// To the end of the next path, if there is one. It takes no memory.
+    pub(crate) fn advance(&mut self, flow: &Flow) -> bool
+        ensures found { result ≡ is_some (slice_get (left_of flow.now self.old) 0) }
+        ensures way { way_now self.new ≡ slice_get (left_of flow.now self.old) 0 }
+        ensures left { left_of flow.now self.new ≡ drop 1 (left_of flow.now self.old) }
+        ensures shared { SharesSteps self.old self.new }
     {
         self.begin();
         while self.is_moving() {
-            let Ok(()) = self.turn(flow) else {
-                return Err(NoMemory);
-            };
+            self.turn(flow);
         }
-        Ok(self.has_ended())
+        self.has_ended()
     }
 
     // Whether a path has ended.

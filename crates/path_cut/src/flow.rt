@@ -1,18 +1,16 @@
 // A graph to be walked through.
 ghost use Rattle.std.specs.Prelude.{◌≡◌, ◌+◌, ◌<◌, ◌^◌, false, replicate, IfOk, IfSome, slice_get};
-ghost use Rattle.path_cut.specs.Ways.{targets_of, is_marked, marks_of, marked, limit_of};
+ghost use Rattle.path_cut.specs.Ways.{targets_of, is_marked, marks_of, marked};
 
-use crate::limits::limit;
 use edge_io::NoMemory;
 use fort_model::{Graph, Target};
 use std::alloc::Global;
 
-/// A graph with marks on the statements that have an ASSERT, and more steps than a way has.
+/// A graph with marks on the statements that have an ASSERT.
 #[derive(Drop)]
 pub(crate) struct Flow<'a> {
     pub(crate) graph: &'a Graph,
     pub(crate) marks: Vec<bool>,
-    pub(crate) limit: u128,
 }
 
 // No marks.
@@ -44,16 +42,10 @@ impl<'a> Flow<'a> {
     pub(crate) fn new(alloc: Global, graph: &'a Graph) -> Result<Flow<'a>, NoMemory>
         ensures graph { IfOk result (λ f. f.graph.now ≡ graph.now) }
         ensures marks { IfOk result (λ f. f.marks.items ≡ marks_of graph.now) }
-        ensures limit { IfOk result (λ f. f.limit ≡ limit_of graph.now) }
     {
         let mut marks = unmarked(alloc, graph.size)?;
         mark(&mut marks, graph.cuts.as_slice());
-        let limit = limit(graph);
-        Ok(Flow {
-            graph,
-            marks,
-            limit,
-        })
+        Ok(Flow { graph, marks })
     }
 
     /// Whether paths end at a point.

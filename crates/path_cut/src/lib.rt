@@ -6,6 +6,7 @@ mod flow;
 mod limits;
 mod paths;
 mod step;
+mod trail;
 
 pub use paths::{PathView, Paths};
 pub use step::Step;

@@ -1,12 +1,14 @@
 // The paths through a graph, one at a time.
-ghost use Rattle.std.specs.Prelude.{◌≡◌, drop, slice_get, is_some, option_map, IfOk, IfSome, OnOk};
+ghost use Rattle.std.specs.Prelude.{◌≡◌, drop, slice_get, is_some, option_map, IfOk, IfSome};
 ghost use Rattle.std.specs.Borrow.{sem};
 ghost use Rattle.path_cut.specs.Ways.{ways_of};
 ghost use Rattle.path_cut.specs.Cursor.{ways_left, way_at, way_seen, SharesView};
 
 use crate::course::{Course, Stage};
 use crate::flow::Flow;
+use crate::limits::limit;
 use crate::step::Step;
+use crate::trail::Trail;
 use edge_io::NoMemory;
 use fort_model::{Graph, Target};
 use std::alloc::Global;
@@ -30,29 +32,32 @@ pub struct Paths<'a> {
 }
 
 impl<'a> Paths<'a> {
-    /// Before the first path.
+    /// Before the first path. All memory is taken here.
     pub fn new(alloc: Global, graph: &'a Graph) -> Result<Paths<'a>, NoMemory>
         ensures { IfOk result (λ p. ways_left p ≡ ways_of graph.now) }
     {
         let Ok(flow) = Flow::new(alloc, graph) else {
             return Err(NoMemory);
         };
+        let Ok(steps) = Trail::new(alloc, limit(graph)) else {
+            return Err(NoMemory);
+        };
         let course = Course {
             start: 0,
-            steps: Vec::new(alloc),
+            steps,
             shared: 0,
             stage: Stage::On(Target::Point(0)),
         };
         Ok(Paths { flow, course })
     }
 
-    /// To the next path: false where there is none, and then for good. It takes time for the steps
-    /// that the path before has not. After `NoMemory` nothing is known of the paths left.
-    pub fn advance(&mut self) -> Result<bool, NoMemory>
-        ensures found { IfOk result (λ b. b ≡ is_some (slice_get (ways_left self.old) 0)) }
-        ensures way { OnOk result (way_at self.new ≡ slice_get (ways_left self.old) 0) }
-        ensures left { OnOk result (ways_left self.new ≡ drop 1 (ways_left self.old)) }
-        ensures shared { OnOk result (SharesView self.old self.new) }
+    /// To the next path: false where there is none, and then for good. It takes no memory, and time
+    /// for the steps that the path before has not.
+    pub fn advance(&mut self) -> bool
+        ensures found { result ≡ is_some (slice_get (ways_left self.old) 0) }
+        ensures way { way_at self.new ≡ slice_get (ways_left self.old) 0 }
+        ensures left { ways_left self.new ≡ drop 1 (ways_left self.old) }
+        ensures shared { SharesView self.old self.new }
     {
         self.course.advance(&self.flow)
     }

@@ -6,5 +6,5 @@ mod runs;
 mod settings;
 
 pub use entries::Entry;
-pub use runs::{Run, performed};
+pub use runs::{Run, begun, performed};
 pub use settings::setting_of;

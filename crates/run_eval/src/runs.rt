@@ -4,8 +4,8 @@ ghost use Rattle.run_eval.specs.Performed.{IsBegun, IsPerformed, IsRunDeck, entr
 
 use crate::entries::{Entry, entries_of};
 use edge_io::{List, NoMemory};
-use fort_notes::RunCard;
-use fort_syntax::Unit;
+use fort_notes::{Given, RunCard};
+use fort_syntax::{Name, Unit};
 use run_frames::runs_are_rests;
 use run_shapes::Code;
 use run_start::{RunRefusal, Runnable, start};
@@ -53,17 +53,19 @@ fn entries_begun(alloc: Global, deck: &Runnable<'_>, state: &State) -> Result<Li
     }
 }
 
-/// The run that a card asks for, before its first step.
-fn begun(
+/// The run of the unit of a name from what is given, before its first step. All its memory is taken
+/// here.
+pub fn begun(
     alloc: Global,
     deck: &Runnable<'_>,
     setting: &Setting,
-    card: &RunCard,
+    unit: &Name,
+    given: &[Given],
 ) -> Result<Run, RunRefusal>
     requires { IsRunDeck deck.now }
-    ensures { IsBegun deck.now setting.now card.now.unit card.now.start result }
+    ensures { IsBegun deck.now setting.now unit.now given.now result }
 {
-    match start(alloc, deck, setting, &card.unit, card.start.as_slice()) {
+    match start(alloc, deck, setting, unit, given) {
         Ok(state) => {
             let Ok(entries) = entries_begun(alloc, deck, &state) else {
                 return Err(RunRefusal::NoMemory);
@@ -89,7 +91,7 @@ pub fn performed(
     requires { IsRunDeck deck.now }
     ensures { IsPerformed deck.now setting.now card.now result }
 {
-    match begun(alloc, deck, setting, card) {
+    match begun(alloc, deck, setting, &card.unit, card.start.as_slice()) {
         Ok(run) => {
             let mut run = run;
             runs_are_rests();

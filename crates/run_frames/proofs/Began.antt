@@ -5,8 +5,8 @@ use Rattle.fort_syntax.specs.declared.unit.Unit.{Unit as Routine}
 use Rattle.fort_model.specs.Processor.{Processor}
 use Rattle.fort_model.specs.Outcome.{Outcome, Ended, Erred, Running, and_then, give}
 use Rattle.fort_model.specs.Run.{run}
-use Rattle.fort_laws.specs.Unfolded.{run_from}
-use Rattle.fort_laws.proofs.Unfolding.{runs_unfold}
+use Rattle.step_laws.specs.Unfolded.{run_from}
+use Rattle.step_laws.proofs.Unfolding.{runs_unfold}
 use Rattle.run_frames.specs.Frames.{Runs}
 use Rattle.run_frames.specs.Configs.{RunsAreRests}
 

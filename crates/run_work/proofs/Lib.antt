@@ -3,3 +3,4 @@ pub mod Obeyed
 pub mod Ended
 pub mod Entering
 pub mod Going
+pub mod Summed

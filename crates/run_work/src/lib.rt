@@ -2,6 +2,7 @@
 #![tactic(auto)]
 
 mod acting;
+mod at_once;
 mod obeying;
 mod proceeding;
 mod program;

@@ -1,18 +1,19 @@
 -- In the graph of a unit the limit suffices.
-use Rattle.std.proofs.Common.{◌≡◌, ℕ, zero, suc, ◌+◌, ◌-◌, ◌*◌, ◌<◌, ◌≤◌, Bool, true, false, Option, Some, None, List, length, slice_get, get_or, refl, sym, ap, ◌∙◌, subst, arith}
+use Rattle.std.proofs.Common.{◌≡◌, ℕ, zero, suc, ◌+◌, ◌-◌, ◌<◌, ◌≤◌, Bool, true, false, Option, Some, None, List, length, slice_get, get_or, refl, sym, ap, ◌∙◌, subst, arith}
 use Rattle.fort_syntax.specs.declared.dialect.Dialect.{Dialect}
 use Rattle.fort_syntax.specs.declared.unit.Line.{Line}
 use Rattle.fort_syntax.specs.declared.unit.Unit.{Unit as Routine}
 use Rattle.fort_model.specs.Flow.{leads_by, leads_at}
-use Rattle.fort_model.specs.Graphs.{goes_to, follow, IsGraphOf}
+use Rattle.fort_model.specs.Graphs.{goes_to, follow, IsGraphOf, IsWithin}
 use Rattle.fort_model.specs.Paths.{cut_at, Edge}
 use Rattle.fort_model.specs.declared.graph.Graph.{Graph}
 use Rattle.fort_model.specs.declared.graph.Target.{Target}
 use Rattle.fort_model.specs.declared.graph.Target.TheVariants.{Point}
 use Rattle.fort_model.proofs.GraphLeads.{graphs_lead}
 use Rattle.fort_notes.specs.Assertions.{Notes}
-use Rattle.path_cut.specs.Ways.{is_marked, marks_of, greatest_from, limit_of}
-use Rattle.way_laws.proofs.Fuel.{fuel, fuel_some, limit_is, each_below, enough, or_enough, start_enough, enough_at, start_by, or_by, chain}
+use Rattle.path_cut.specs.Ways.{is_marked, marks_of, limit_of}
+use Rattle.way_laws.proofs.Fuel.{greatest_from, fuel, fuel_some, each_below, enough, or_enough, start_enough, enough_at, start_by, or_by, chain}
+use Rattle.way_laws.proofs.Few.{few_suffice}
 use Rattle.way_laws.proofs.Marks.{marks_agree, unmarked_goes_on}
 
 module _ (dialect : Dialect) (u : Routine) (notes : Notes) (graph : Graph) (h : IsGraphOf dialect u notes graph) where
@@ -80,14 +81,20 @@ module _ (dialect : Dialect) (u : Routine) (notes : Notes) (graph : Graph) (h : 
   from_any : (q : ℕ) → enough graph cut (fuel count top) (Point q)
   from_any q = let more : top ≤ rank q + top = omega arith in level top q more
 
+  -- so many levels suffice from any target
+  from_target : (t : Target) → IsWithin graph.size count t → enough graph cut (suc (count + fuel count top)) t
+  from_target t w =
+      let le : count + fuel count top ≤ suc (count + fuel count top) = omega arith in
+      enough_at graph cut (count + fuel count top) (suc (count + fuel count top)) t le
+      (chain graph cut graph.size (fuel count top) h.falling count t w (λ cs q f. from_any q))
+
   -- from what a statement leads to, one step less than the limit suffices
   pub from_statement : (p : ℕ) (t : Target) → slice_get graph.starts p ≡ Some t → enough graph cut (limit_of graph - 1) t
   from_statement p t s =
-      let e = limit_is count top in
-      let le : count + fuel count top ≤ (top + 2) * (count + 2) - 1 = omega arith in
-      enough_at graph cut (count + fuel count top) (limit_of graph - 1) t le
-      (chain graph cut graph.size (fuel count top) h.falling count t (h.within p t s) (λ cs q f. from_any q))
+      let le : graph.size + count + 2 ≤ graph.size + count + 3 - 1 = omega arith in
+      enough_at graph cut (graph.size + count + 2) (limit_of graph - 1) t le
+      (few_suffice graph cut (count + fuel count top) h.within h.falling from_target t (h.within p t s))
 
   -- and the limit is not nothing
   pub limit_some : limit_of graph ≡ suc (limit_of graph - 1)
-  limit_some = let e = limit_is count top in omega arith
+  limit_some = omega arith

@@ -1,7 +1,6 @@
 -- How many steps suffice.
-use Rattle.std.proofs.Common.{◌≡◌, ℕ, zero, suc, ◌+◌, ◌-◌, ◌*◌, ◌<◌, ◌≤◌, Bool, true, false, Option, Some, None, List, [], ◌∷◌, slice_get, get_or, refl, ap, ◌∙◌, subst, arith}
+use Rattle.std.proofs.Common.{◌≡◌, ℕ, zero, suc, ◌+◌, ◌-◌, ◌<◌, ◌≤◌, Bool, true, false, Option, Some, None, List, [], ◌∷◌, slice_get, get_or, refl, ap, ◌∙◌, subst, arith}
 use Rattle.std.specs.Prelude.{if◌then◌else◌, nat_lt}
-use Rattle.std.proofs.Math.Nat.{suc-mul}
 use Rattle.std.proofs.lemmas.Bool.Decides.{nat_tests}
 use Rattle.fort_model.specs.Graphs.{taken, goes_to, follow, IsWithin}
 use Rattle.fort_model.specs.Lists.{IsAmong}
@@ -9,9 +8,14 @@ use Rattle.fort_model.specs.declared.graph.Fork.{Fork}
 use Rattle.fort_model.specs.declared.graph.Graph.{Graph}
 use Rattle.fort_model.specs.declared.graph.Target.{Target}
 use Rattle.fort_model.specs.declared.graph.Target.TheVariants.{Point, Fork as AtFork}
-use Rattle.path_cut.specs.Ways.{targets_of, greatest_from}
+use Rattle.path_cut.specs.Ways.{targets_of}
 
 -- ---- the greatest rank
+
+-- the greatest of a number and some others
+abbrev pub greatest_from : ℕ → List ℕ → ℕ
+greatest_from most [] = most
+greatest_from most (n ∷ ns) = greatest_from (if nat_lt most n then n else most) ns
 
 more_of : (m n : ℕ) → (m ≤ (if nat_lt m n then n else m)) × (n ≤ (if nat_lt m n then n else m))
 more_of m n = by (nat_lt m n) refl
@@ -35,21 +39,12 @@ each_below (n ∷ ns) m zero =
     omega arith
 each_below (n ∷ ns) m (suc q) = each_below ns (if nat_lt m n then n else m) q
 
--- ---- products
+-- ---- steps for levels
 
 -- so many steps for each level
 abbrev pub fuel : ℕ → ℕ → ℕ
 fuel f zero = f + 2
 fuel f (suc j) = f + 2 + fuel f j
-
-pub fuel_is : (f j : ℕ) → fuel f j ≡ suc j * (f + 2)
-fuel_is f zero = let e = suc-mul 0 (f + 2) in let k : 0 * (f + 2) ≡ 0 = grind arith in omega arith
-fuel_is f (suc j) = let e = suc-mul (suc j) (f + 2) in let r = fuel_is f j in omega arith
-
-pub limit_is : (f m : ℕ) → (m + 2) * (f + 2) ≡ f + 2 + fuel f m
-limit_is f m =
-    let e : m + 2 ≡ suc (suc m) = omega arith in
-    ap (λ k. k * (f + 2)) e ∙ (let g = suc-mul (suc m) (f + 2) in let r = fuel_is f m in omega arith)
 
 pub fuel_some : (f j : ℕ) → 1 ≤ fuel f j
 fuel_some f zero = omega arith
@@ -100,7 +95,7 @@ module _ (graph : Graph) (cut : ℕ → Bool) where
   pub enough_at : (n m : ℕ) (t : Target) → n ≤ m → enough n t → enough m t
   enough_at n m t le h = let e : m - n + n ≡ m = omega arith in subst (λ j. enough j t) e (enough_up (m - n) n t h)
 
-  each_by : (P : Target → Type 0) (ts : List Target) → ((i : ℕ) (t : Target) → slice_get ts i ≡ Some t → P t) → each_enough P ts
+  pub each_by : (P : Target → Type 0) (ts : List Target) → ((i : ℕ) (t : Target) → slice_get ts i ≡ Some t → P t) → each_enough P ts
   each_by P [] f = tt
   each_by P (t ∷ ts) f = (f 0 t refl, each_by P ts (λ i x e. f (suc i) x e))
 
@@ -114,7 +109,7 @@ module _ (graph : Graph) (cut : ℕ → Bool) where
 
   -- ---- along forks
 
-  weaker : (size k n : ℕ) (t : Target) → k ≤ n → IsWithin size k t → IsWithin size n t
+  pub weaker : (size k n : ℕ) (t : Target) → k ≤ n → IsWithin size k t → IsWithin size n t
   weaker size k n (Point q) le w = w
   weaker size k n (AtFork j) le w = omega arith
 

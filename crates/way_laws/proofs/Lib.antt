@@ -1,6 +1,8 @@
 pub mod Marks
 pub mod Trails
 pub mod Fuel
+pub mod Counting
+pub mod Few
 pub mod Enough
 pub mod Lists
 pub mod Listed

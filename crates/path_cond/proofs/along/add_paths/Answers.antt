@@ -20,15 +20,15 @@ pub loop-more-init : goal.loop-more-init
 loop-more-init c =
     let plan = c.args.plan.now in
     let graph = c.args.flow.now.graph.now in
-    let more = c.in-Ok-advance.more in
-    let paths = c.advance.new.self in
+    let more = c.advance-more.result in
+    let paths = c.advance-more.new.self in
     record {
       passed = subst (λ (d : Drafts). Passed plan graph c.args.drafts d 0 more (way_at paths) (ways_left paths)) (sym c.new-walked.ensures.same)
-          (none_passed plan graph c.args.drafts more (way_at paths) (ways_left c.in-Ok.paths) (ways_left paths) c.requires.drafts c.in-Ok.ensures c.in-Ok-advance.ensures.found
-          c.in-Ok-advance.ensures.way c.in-Ok-advance.ensures.left);
+          (none_passed plan graph c.args.drafts more (way_at paths) (ways_left c.in-Ok.paths) (ways_left paths) c.requires.drafts c.in-Ok.ensures c.advance-more.ensures.found
+          c.advance-more.ensures.way c.advance-more.ensures.left);
       front = (
         c.in-Ok.paths.course.steps.items,
-        c.in-Ok-advance.ensures.shared.front,
+        c.advance-more.ensures.shared.front,
         c.new-walked.ensures.front plan.setting.now c.in-Ok.paths.course.steps.items (length c.in-Ok.paths.course.steps.items),
       );
     }
@@ -73,12 +73,12 @@ loop-more-preserved c =
     record {
       passed =
           one_passed c.args.plan.now c.args.flow.now.graph.now c.args.drafts (drafts_of c.loop-more.walked) (drafts_of after) c.loop-more.number (c.loop-more.number + 1) c.loop-more.more
-          c.in-Ok-advance-2.next (way_at c.loop-more.paths) (way_at c.advance-in-loop-more.new.self) (way_seen c.in-Some.path) (ways_left c.loop-more.paths)
-          (ways_left c.advance-in-loop-more.new.self) c.loop-more.invariant.passed here one c.in-Ok-add_path.ensures.adds c.in-Ok-advance-2.ensures.found c.in-Ok-advance-2.ensures.way
-          c.in-Ok-advance-2.ensures.left;
+          c.advance-next.result (way_at c.loop-more.paths) (way_at c.advance-next.new.self) (way_seen c.in-Some.path) (ways_left c.loop-more.paths)
+          (ways_left c.advance-next.new.self) c.loop-more.invariant.passed here one c.in-Ok-add_path.ensures.adds c.advance-next.ensures.found c.advance-next.ensures.way
+          c.advance-next.ensures.left;
       front = (
         c.loop-more.paths.course.steps.items,
-        c.in-Ok-advance-2.ensures.shared.front,
+        c.advance-next.ensures.shared.front,
         subst (λ (steps : List Step). IsFront c.args.plan.now.setting.now steps (length steps) after.front) (sym (steps_seen c.loop-more.paths (way_seen c.in-Some.path) here))
             c.in-Ok-add_path.ensures.front,
       );

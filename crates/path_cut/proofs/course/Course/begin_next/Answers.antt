@@ -9,4 +9,4 @@ returns-in_default-clause-moves c =
 pub returns-clause-moves : goal.returns-clause-moves
 returns-clause-moves c =
     back_start c.args.flow.now c.args.self.now (record c.args.self.now { start = c.args.self.now.start + 1 }) c.enter.new.self c.in-Some.point c.requires
-    (sym c.in-Some.ensures.cut) (omega arith) refl c.in-Ok.ensures.moves
+    (sym c.in-Some.ensures.cut) (omega arith) refl c.enter.ensures.moves

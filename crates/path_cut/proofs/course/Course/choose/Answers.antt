@@ -1,5 +1,5 @@
-use Rattle.std.proofs.Common.{◌+◌, refl, sym, arith}
-use Rattle.path_cut.proofs.Moving.{choose_on, choose_back}
+use Rattle.std.proofs.Common.{◌+◌, length, refl, sym, arith}
+use Rattle.path_cut.proofs.Moving.{choose_on, choose_back, choose_full, no_room}
 use Rattle.path_cut.proofs.course.Course.choose.Goals as goal
 
 pub returns-in_default-clause-moves : goal.returns-in_default-clause-moves
@@ -9,4 +9,9 @@ returns-in_default-clause-moves c =
 pub returns-clause-moves : goal.returns-clause-moves
 returns-clause-moves c =
     choose_on c.args.flow.now c.args.self.now c.push.new.self c.args.fork c.args.tried (c.args.tried + 1) c.in-Some.target
-    (sym c.in-Some.ensures.target) (omega arith) c.in-Ok.ensures.start c.in-Ok.ensures.steps c.in-Ok.ensures.stage
+    (sym c.in-Some.ensures.target) (omega arith) c.push.ensures.start c.push.ensures.steps c.push.ensures.stage
+
+pub returns-then-not-has_room-clause-moves : goal.returns-then-not-has_room-clause-moves
+returns-then-not-has_room-clause-moves c =
+    choose_full c.args.flow.now c.args.self.now _ c.args.fork c.args.tried
+    (no_room c.has_room.result (length c.args.self.now.steps.items) c.args.self.now.steps.room c.if-not-has_room.true c.has_room.ensures.1) refl refl refl

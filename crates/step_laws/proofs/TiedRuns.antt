@@ -8,9 +8,9 @@ use Rattle.fort_model.specs.Outcome.{Outcome, Ended, Erred, Running, Act, held}
 use Rattle.fort_model.specs.Processor.{Processor}
 use Rattle.fort_model.specs.Run.{run, run_within, from_point, leave, go_to, at_line}
 use Rattle.fort_model.specs.Storage.{Storage, Environment}
-use Rattle.fort_laws.specs.Steps.{IsRunning, FuelDoesNotMatter, MoreStepsChangeNothing, FewerStepsAreNotEnough}
-use Rattle.fort_laws.proofs.Tied.{Behaves, ends, errs, runs, Tied, tied_then, tied_before, tied_give, tied_stuck, tied_held, tied_put, tied_after_step, tied_step_then, at_most_or}
-use Rattle.fort_laws.proofs.TiedParts.{tied_perform}
+use Rattle.step_laws.specs.Steps.{IsRunning, FuelDoesNotMatter, MoreStepsChangeNothing, FewerStepsAreNotEnough}
+use Rattle.step_laws.proofs.Tied.{Behaves, ends, errs, runs, Tied, tied_then, tied_before, tied_give, tied_stuck, tied_held, tied_put, tied_after_step, tied_step_then, at_most_or}
+use Rattle.step_laws.proofs.TiedParts.{tied_perform}
 
 -- ---- outcomes
 

@@ -1,6 +1,6 @@
 // Steps and fuel of runs.
-ghost use Rattle.fort_laws.specs.Unfolded.{RunsUnfold};
-ghost use Rattle.fort_laws.specs.Steps.{FuelDoesNotMatter, MoreStepsChangeNothing, FewerStepsAreNotEnough};
+ghost use Rattle.step_laws.specs.Unfolded.{RunsUnfold};
+ghost use Rattle.step_laws.specs.Steps.{FuelDoesNotMatter, MoreStepsChangeNothing, FewerStepsAreNotEnough};
 
 /// A run comes to the same for every depth of recursion above its stock of steps. So the depth is
 /// no part of what a run means. It does nothing.

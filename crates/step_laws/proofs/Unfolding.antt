@@ -5,10 +5,10 @@ use Rattle.fort_model.specs.Outcome.{held}
 use Rattle.fort_model.specs.Processor.{Processor}
 use Rattle.fort_model.specs.Run.{run, run_within, from_point}
 use Rattle.fort_model.specs.Storage.{Environment}
-use Rattle.fort_laws.specs.Unfolded.{run_from, run_on, run_whole, RunsUnfold}
-use Rattle.fort_laws.proofs.Tied.{Tied, tied_then, tied_before, tied_give, tied_held, tied_put, tied_after_step, tied_step_then}
-use Rattle.fort_laws.proofs.TiedParts.{tied_perform}
-use Rattle.fort_laws.proofs.TiedRuns.{tied_run, tied_from, tied_go_to, tied_at_line, tied_leave}
+use Rattle.step_laws.specs.Unfolded.{run_from, run_on, run_whole, RunsUnfold}
+use Rattle.step_laws.proofs.Tied.{Tied, tied_then, tied_before, tied_give, tied_held, tied_put, tied_after_step, tied_step_then}
+use Rattle.step_laws.proofs.TiedParts.{tied_perform}
+use Rattle.step_laws.proofs.TiedRuns.{tied_run, tied_from, tied_go_to, tied_at_line, tied_leave}
 
 module _ (p : Processor) (units : List Routine) where
   -- below a bound, a run with the bound as its fuel is the run

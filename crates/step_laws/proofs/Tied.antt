@@ -3,7 +3,7 @@ use Rattle.std.proofs.Common.{◌≡◌, ℕ, zero, suc, ◌+◌, ◌-◌, ◌<�
 use Rattle.fort_syntax.specs.declared.condition.Kind.{Kind}
 use Rattle.fort_model.specs.Outcome.{Outcome, Ended, Erred, Running, and_then, Act, ◌>>=◌, ◌>>◌, give, fail, check, step, stuck, held, put}
 use Rattle.fort_model.specs.Storage.{Storage}
-use Rattle.fort_laws.specs.Steps.{IsRunning}
+use Rattle.step_laws.specs.Steps.{IsRunning}
 
 -- what a part of a run comes to, by its stock, where stocks stay below a bound: it ends with every stock from
 -- `used` on, or errs with every such stock, and is running with smaller ones; or it is running with all up to n

@@ -28,7 +28,7 @@ use Rattle.fort_model.specs.Outcome.{Act, ◌>>=◌, ◌>>◌, held}
 use Rattle.fort_model.specs.Passing.{Taken, Cells, Fresh, Passed, Caller, call}
 use Rattle.fort_model.specs.Evaluate.{Scene, read, value_of, valued, ranged, constant, divisor, operate, power_on, intrinsic_value, numbers, subscripts_in, element, fresh, call_at, apply, taken, values, actuals, evaluate}
 use Rattle.fort_model.specs.Perform.{write_cell, assign, variable, parameter, step_value, tests, go_on, pass_over, begin, select, result, perform}
-use Rattle.fort_laws.proofs.Tied.{Tied, tied_then, tied_before, tied_give, tied_stuck, tied_held, tied_put, tied_check, tied_cond, tied_step}
+use Rattle.step_laws.proofs.Tied.{Tied, tied_then, tied_before, tied_give, tied_stuck, tied_held, tied_put, tied_check, tied_cond, tied_step}
 
 -- ---- parts without calls
 

@@ -1,5 +1,0 @@
-use Rattle.fort_laws.proofs.TiedRuns.{fewer_steps_are_not_enough as law}
-use Rattle.fort_laws.proofs.steps.fewer_steps_are_not_enough.Goals as goal
-
-pub returns : goal.returns
-returns c = law

@@ -1,5 +1,0 @@
-use Rattle.fort_laws.proofs.Unfolding.{runs_unfold as law}
-use Rattle.fort_laws.proofs.steps.runs_unfold.Goals as goal
-
-pub returns : goal.returns
-returns c = law

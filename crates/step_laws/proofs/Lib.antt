@@ -1,0 +1,4 @@
+pub mod Tied
+pub mod TiedParts
+pub mod TiedRuns
+pub mod Unfolding
