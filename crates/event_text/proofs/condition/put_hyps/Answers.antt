@@ -7,14 +7,14 @@ use Rattle.event_text.proofs.Sent.{goes}
 use Rattle.event_text.proofs.condition.put_hyps.Goals as goal
 
 pub put_terms-requires-clause-ids : goal.put_terms-requires-clause-ids
-put_terms-requires-clause-ids g c = AllBelow-rest (length c.args.pool.now) c.turn_to.result c.args.ids.now c.requires.ids
+put_terms-requires-clause-ids g c = AllBelow-rest (length c.args.pool.now) c.turn_to-known.result c.args.ids.now c.requires.ids
 
 pub returns-clause-goes : goal.returns-clause-goes
 returns-clause-goes g c =
     let names = map (λ d. d.name) c.args.definitions.now in
     let ts = trees c.args.pool.now in
     let ids = c.args.ids.now in
-    let known = c.turn_to.result in
+    let known = c.turn_to-known.result in
     subst (Goes _ _ _ _ _ _)
-    (ap (λ text. text ++ row_text names (row_in ts (take (length ids - known) (drop known ids)))) (c.as_bytes.ensures ∙ c.turn_to.ensures.text) ∙ row_text-rest names ts known ids)
+    (ap (λ text. text ++ row_text names (row_in ts (take (length ids - known) (drop known ids)))) (c.as_bytes.ensures ∙ c.turn_to-known.ensures.text) ∙ row_text-rest names ts known ids)
     (goes c.put.ensures c.put_terms.ensures.goes)
