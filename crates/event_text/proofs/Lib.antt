@@ -1,6 +1,7 @@
 pub mod Depths
 pub mod First
 pub mod FoundNames
+pub mod KeptEnds
 pub mod Lines
 pub mod Names
 pub mod OneCondition

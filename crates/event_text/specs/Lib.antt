@@ -1,6 +1,7 @@
 pub mod Conditions
 pub mod Depths
 pub mod EventText
+pub mod KeptTexts
 pub mod Laws
 pub mod Readable
 pub mod Rests

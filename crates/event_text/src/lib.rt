@@ -2,10 +2,14 @@
 #![tactic(auto)]
 
 mod bracket;
+mod closed;
 mod condition;
 mod definition;
 mod events;
 mod fault;
+mod kept;
+mod kept_terms;
+mod kept_text;
 mod laws;
 mod marks;
 mod out;

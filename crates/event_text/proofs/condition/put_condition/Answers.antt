@@ -13,7 +13,7 @@ returns-clause-goes g c =
     let pool = c.args.pool.now in
     let tree = condition_tree pool c.args.condition.now in
     let names = map (λ d. d.name) c.args.definitions.now in
-    let front = goes (goes (goes c.put.ensures (c.put_lemma_name.ensures pool)) c.put-2.ensures) c.put_terms.ensures.goes in
+    let front = goes (goes (goes c.put.ensures (c.put_lemma_name.ensures pool)) c.put-2.ensures) c.put_hyps.ensures.goes in
     let whole = goes (goes (goes (goes (goes front c.put-3.ensures) c.put_term.ensures.goes) c.put-4.ensures) (c.put_note.ensures pool)) c.put-5.ensures in
     subst (Goes _ _ _ _ _ _)
     (ap
