@@ -1,20 +1,18 @@
 -- A walk goes on.
-use Rattle.std.proofs.Common.{◌≡◌, ℕ, zero, suc, ◌+◌, ◌<◌, List, [], ◌∷◌, ◌++◌, length, map, refl, sym, ap, ◌∙◌, subst, arith, append_assoc}
-use Rattle.std.proofs.lemmas.Grind.{common_steps}
+use Rattle.std.proofs.Common.{◌≡◌, ℕ, suc, ◌+◌, List, [], ◌∷◌, ◌++◌, length, refl, sym, ap, ◌∙◌, subst, arith, append_assoc}
 use Rattle.formula.specs.declared.node.Node.{Node}
-use Rattle.formula.specs.declared.node.TermId.{TermId}
-use Rattle.formula.specs.Pool.{AllBelow, Grows, IsIn, tree_of}
+use Rattle.formula.specs.Pool.{AllBelow, Grows}
 use Rattle.formula.specs.Tree.{Tree, symbol}
 use Rattle.formula.proofs.Grown.{Grows-refl, Grows-same, Grows-trans, IsIn-Grows, tree_of-Grows}
 use Rattle.fort_model.specs.Events.{Event, Check, Take}
-use Rattle.fort_model.specs.Seen.{Named, Answers, Seen, See, ◌>>=◌, later, symbols_of_calls}
+use Rattle.fort_model.specs.Seen.{Named, See, ◌>>=◌, later, symbols_of_calls}
 use Rattle.fort_model.specs.Senses.{of_terms}
 use Rattle.fort_model.specs.Symbols.{ByCall, word_of}
 use Rattle.fort_model.specs.WalkStmt.{with_name}
 use Rattle.walk_names.specs.declared.names.Names.{Names}
 use Rattle.walk_names.specs.declared.names.Logged.{Logged}
 use Rattle.walk_names.specs.Names.{AreLogged, Extends, IsNames, IsSame, IsSet, entry_of, named, named_by, past, pasts}
-use Rattle.walk_names.proofs.NameTables.{extends_more, extends_not, named_grows, names_grow, pasts_grows, same_grows}
+use Rattle.walk_names.proofs.NameTables.{extends_more, extends_not, same_grows}
 use Rattle.walk_state.proofs.Counted.{numbers_grow, numbers_none}
 use Rattle.walk_state.specs.declared.walk.Met.{Met}
 use Rattle.walk_state.specs.declared.walk.Met.TheVariants.{Check as Checked, Take as Taken}

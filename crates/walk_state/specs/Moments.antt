@@ -5,7 +5,7 @@ use Rattle.formula.specs.declared.node.TermId.{TermId}
 use Rattle.formula.specs.Pool.{Grows, IsIn, tree_of}
 use Rattle.formula.specs.Tree.{Tree, num}
 use Rattle.fort_model.specs.Events.{Event, Check, Take}
-use Rattle.fort_model.specs.Seen.{Named, Answers, Seen, See, symbols_of_calls}
+use Rattle.fort_model.specs.Seen.{Named, Answers, See, symbols_of_calls}
 use Rattle.fort_model.specs.Senses.{of_terms}
 use Rattle.walk_names.specs.Names.{Extends, IsNames, entry_of, named, past}
 use Rattle.walk_state.specs.declared.walk.Met.{Met}
