@@ -15,7 +15,7 @@ use Rattle.path_ends.proofs.Checked.{met_same}
 use Rattle.path_ends.specs.declared.clock.Clock.{Clock}
 use Rattle.path_fronts.proofs.Carrying.{GoesOn, ready_before}
 use Rattle.path_fronts.proofs.Leading.{leads_first, nothing_on}
-use Rattle.path_fronts.specs.Fronts.{AreMarks, ArePlaces, IsFront, Leads, Reaches, set_out_at, total}
+use Rattle.path_fronts.specs.Fronts.{AreCounted, AreMarks, ArePlaces, IsFront, Leads, Reaches, set_out_at, total}
 use Rattle.path_fronts.specs.declared.front.Front.{Front}
 use Rattle.path_fronts.specs.declared.front.Mark.{Mark}
 use Rattle.path_openings.specs.Openings.{HasBegun, Sets, clock_from, set_from}
@@ -46,6 +46,7 @@ module _ (plan : Plan) (pool : List Node) (start : ℕ) (b0 b1 : Begun) (clock :
     well = on.kept;
     clock = sets.inside;
     places = subst (λ (ms : List Mark). ArePlaces steps 0 ms) (sym none) tt;
+    counted = subst (λ (ms : List Mark). AreCounted b1.walk.pool ms) (sym none) tt;
     told = λ mark more e. sets.framed;
     parts = λ p r. sets.parts p (ready_back p r);
     marked = λ p r.

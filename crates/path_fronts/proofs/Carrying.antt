@@ -11,7 +11,7 @@ use Rattle.fort_model.specs.Seen.{Named}
 use Rattle.path_cut.specs.declared.step.Step.{Step}
 use Rattle.path_ends.proofs.Checked.{clock_grows, clock_in_grows}
 use Rattle.path_fronts.proofs.Marks.{marks_on}
-use Rattle.path_fronts.specs.Fronts.{AreMarks, ArePlaces, HasEntry, IsFront, Reaches, set_out_at, total}
+use Rattle.path_fronts.specs.Fronts.{AreCounted, AreMarks, ArePlaces, HasEntry, IsFront, Reaches, set_out_at, total}
 use Rattle.shared_fronts.specs.Firsts.{HasAt}
 use Rattle.path_fronts.specs.declared.front.Front.{Front}
 use Rattle.path_fronts.specs.declared.front.Mark.{Mark}
@@ -24,6 +24,7 @@ use Rattle.walk_names.specs.Names.{Extends, IsKept, named}
 use Rattle.walk_names.specs.declared.names.Names.{Names}
 use Rattle.walk_setting.specs.Settings.{seen_from}
 use Rattle.walk_setting.specs.declared.setting.Setting.{Setting}
+use Rattle.walk_state.proofs.Counted.{numbers_grow}
 use Rattle.walk_state.specs.Moments.{Follows, Moment, events_in, moment}
 use Rattle.walk_state.specs.declared.walk.Met.{Met}
 use Rattle.walk_state.specs.declared.walk.Walk.{Walk}
@@ -57,7 +58,12 @@ places_below steps m n (mark ∷ marks) le h =
     let less : mark.place < n = omega (arith, lt, le) in ((less, h.0.1), h.1)
 
 pub front_below : (s : Setting) (steps : List Step) (m n : ℕ) (f : Front) → m ≤ n → IsFront s steps m f → IsFront s steps n f
-front_below s steps m n f le h = record { well = h.well; clock = h.clock; places = places_below steps m n f.marks le h.places; told = h.told; parts = h.parts; marked = h.marked }
+front_below s steps m n f le h = record { well = h.well; clock = h.clock; places = places_below steps m n f.marks le h.places; counted = h.counted; told = h.told; parts = h.parts; marked = h.marked }
+
+-- the numbers of calls before marks, with a pool that grows
+counted_grows : (old new : List Node) (marks : List Mark) → Grows old new → AreCounted old marks → AreCounted new marks
+counted_grows old new [] g h = tt
+counted_grows old new (mark ∷ marks) g h = (numbers_grow old new mark.calls g h.0, counted_grows old new marks g h.1)
 
 -- a walk met more, and its names were not marked
 pub record GoesOn (m1 m2 : Moment) : Type 0 where
@@ -76,6 +82,7 @@ front_on s steps bound f w ready h on goes =
       well = on.kept;
       clock = clock_in_grows f.walk.pool w.pool f.clock on.grows h.clock;
       places = h.places;
+      counted = counted_grows f.walk.pool w.pool f.marks on.grows h.counted;
       told = λ mark more e. frame_on f.walk w s.book.now.unit.now f.entry.items (moment f.walk).now on (h.told mark more e);
       parts = λ p r. clock_grows f.walk.pool w.pool f.clock on.grows h.clock ∙ h.parts p (before p r);
       marked = λ p r.
@@ -119,9 +126,10 @@ pub front_marked : (s : Setting) (steps : List Step) (k card : ℕ) (f : Front) 
 front_marked s steps k card f names kept entry h reaches has =
     let less : k < suc k = omega arith in
     record {
-      well = record { names = kept.kept; met = h.well.met };
+      well = record { names = kept.kept; met = h.well.met; calls = h.well.calls };
       clock = h.clock;
       places = ((less, has), h.places);
+      counted = (h.well.calls, h.counted);
       told = λ mark more e. told_marked s f names (mark_at f k card) kept entry;
       parts = h.parts;
       marked = λ p r.

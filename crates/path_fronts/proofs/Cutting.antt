@@ -15,7 +15,7 @@ use Rattle.fort_model.specs.WalkCalls.{Sight}
 use Rattle.path_cut.specs.declared.step.Step.{Step}
 use Rattle.path_ends.specs.Ends.{IsClockIn, clock_trees}
 use Rattle.path_ends.specs.declared.clock.Clock.{Clock}
-use Rattle.path_fronts.specs.Fronts.{AreMarks, ArePlaces, HasEntry, IsAt, IsFront, IsMark, Leads, set_out_at}
+use Rattle.path_fronts.specs.Fronts.{AreCounted, AreMarks, ArePlaces, HasEntry, IsAt, IsFront, IsMark, Leads, set_out_at}
 use Rattle.shared_fronts.specs.Firsts.{firsts}
 use Rattle.path_fronts.specs.declared.front.Front.{Front}
 use Rattle.path_fronts.specs.declared.front.Mark.{Mark}
@@ -25,7 +25,7 @@ use Rattle.walk_names.proofs.NameTables.{extends_not}
 use Rattle.walk_names.specs.Names.{Extends, IsBack, IsNames, named, past}
 use Rattle.walk_setting.specs.Settings.{seen_from}
 use Rattle.walk_setting.specs.declared.setting.Setting.{Setting}
-use Rattle.walk_state.specs.Moments.{AreMet, IsWalk, Moment, answers_after, event_in, events_in, moment}
+use Rattle.walk_state.specs.Moments.{AreMet, HasNumbers, IsWalk, Moment, answers_after, event_in, events_in, moment}
 use Rattle.walk_state.specs.declared.walk.Met.{Met}
 use Rattle.walk_state.specs.declared.walk.Met.TheVariants.{Check as Checked, Take as Taken}
 use Rattle.walk_state.specs.declared.walk.Walk.{Walk}
@@ -62,13 +62,14 @@ moment_cut w m0 front w0 w1 mark k h c =
       answers = ((λ j. answers_after (c.calls j)) ∙ sym k.answers) i;
     }
 
-pub walk_cut : (w : Sight Tree) (m0 : Moment) (front : List (ℕ × List ℕ)) (w0 w1 : Walk) (mark : Mark) → IsMark w m0 front (moment w0).past (moment w0).events mark → IsWalk w0 → IsCut w0 mark w1 → IsWalk w1
-walk_cut w m0 front w0 w1 mark k h c =
+pub walk_cut : (w : Sight Tree) (m0 : Moment) (front : List (ℕ × List ℕ)) (w0 w1 : Walk) (mark : Mark) → IsMark w m0 front (moment w0).past (moment w0).events mark → IsWalk w0 → HasNumbers w0.pool mark.calls → IsCut w0 mark w1 → IsWalk w1
+walk_cut w m0 front w0 w1 mark k h numbers c =
     let back = c.names w0.pool k.at.now k.at.past h.names k.names in
     record {
       names = subst (λ (nodes : List Node). IsNames nodes w1.names) (sym c.pool) back.kept;
       met = subst (λ (nodes : List Node). AreMet (length nodes) w1.met.items) (sym c.pool)
           (subst (λ (ms : List Met). AreMet (length w0.pool) ms) (sym c.met) (met_cut (length w0.pool) mark.met w0.met.items h.met));
+      calls = subst (λ (nodes : List Node). HasNumbers nodes w1.calls) (sym c.pool) (subst (λ (n : ℕ). HasNumbers w0.pool n) (sym c.calls) numbers);
     }
 
 -- a front that went back to its last mark
@@ -83,6 +84,9 @@ module _ (s : Setting) (steps : List Step) (bound : ℕ) (f0 f1 : Front) (mark :
   marks_there : (p : Program) → IsReady f0.walk.pool s.scene.now p
       → AreMarks (seen_from s p) (set_out_at (seen_from s p) f0.start) steps (moment f0.walk).past (moment f0.walk).events (mark ∷ f1.marks)
   marks_there p r = subst (λ (marks : List Mark). AreMarks (seen_from s p) (set_out_at (seen_from s p) f0.start) steps (moment f0.walk).past (moment f0.walk).events marks) ms (h.marked p r)
+
+  counted_there : AreCounted f0.walk.pool (mark ∷ f1.marks)
+  counted_there = subst (λ (marks : List Mark). AreCounted f0.walk.pool marks) ms h.counted
 
   moment_there : (p : Program) (r : IsReady f0.walk.pool s.scene.now p) → moment f1.walk ≡ (marks_there p r).0.at
   moment_there p r = moment_cut (seen_from s p) (set_out_at (seen_from s p) f0.start) (firsts mark.place steps) f0.walk f1.walk mark (marks_there p r).0 h.well c
@@ -103,7 +107,7 @@ module _ (s : Setting) (steps : List Step) (bound : ℕ) (f0 f1 : Front) (mark :
       (subst (λ (m : Moment). Leads w (set_out_at w f0.start) (firsts mark.place steps) mark.card m) (sym (moment_there p q)) (marks_there p q).0.leads)
 
   well_there : IsWalk f1.walk
-  well_there = walk_cut (seen_from s ready.0) (set_out_at (seen_from s ready.0) f0.start) (firsts mark.place steps) f0.walk f1.walk mark (marks_there ready.0 ready.1).0 h.well c
+  well_there = walk_cut (seen_from s ready.0) (set_out_at (seen_from s ready.0) f0.start) (firsts mark.place steps) f0.walk f1.walk mark (marks_there ready.0 ready.1).0 h.well counted_there.0 c
 
   table_there : f1.walk.names.table ≡ f0.walk.names.table
   table_there =
@@ -124,6 +128,7 @@ module _ (s : Setting) (steps : List Step) (bound : ℕ) (f0 f1 : Front) (mark :
       well = well_there;
       clock = subst (λ (o : Option Clock). IsClockIn (length f1.walk.pool) o) (sym clock) (subst (λ (nodes : List Node). IsClockIn (length nodes) f0.clock) (sym c.pool) h.clock);
       places = places_there.1;
+      counted = subst (λ (nodes : List Node). AreCounted nodes f1.marks) (sym c.pool) counted_there.1;
       told = λ mark more e. told_there;
       parts = λ p r. (λ i. clock_trees (c.pool i) (clock i)) ∙ (h.parts p (ready_there p r) ∙ (λ i. clock_from (seen_from s p) (sym start i)));
       marked = marked_there;

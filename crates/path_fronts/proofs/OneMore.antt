@@ -62,6 +62,7 @@ moved s before steps mark n f lt same at =
         well = at.front.well;
         clock = at.front.clock;
         places = places_moved n before steps mark.place f.marks same le at.front.places;
+        counted = at.front.counted;
         told = at.front.told;
         parts = at.front.parts;
         marked = λ p r.

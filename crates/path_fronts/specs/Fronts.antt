@@ -2,6 +2,7 @@
 use Rattle.std.specs.Prelude.{◌≡◌, ℕ, ◌<◌, List, [], ◌∷◌, ◌++◌, length}
 use Rattle.entry_frames.specs.Entries.{IsFrame}
 use Rattle.formula.specs.Tree.{Tree}
+use Rattle.formula.specs.declared.node.Node.{Node}
 use Rattle.fort_model.specs.Events.{Event}
 use Rattle.fort_model.specs.Program.{Program}
 use Rattle.fort_model.specs.Seen.{Named}
@@ -17,7 +18,7 @@ use Rattle.path_starts.specs.Starts.{begun_with}
 use Rattle.shared_fronts.specs.Firsts.{HasAt, firsts}
 use Rattle.walk_setting.specs.Settings.{seen_from}
 use Rattle.walk_setting.specs.declared.setting.Setting.{Setting}
-use Rattle.walk_state.specs.Moments.{IsWalk, Moment, answers_after, at_first, moment}
+use Rattle.walk_state.specs.Moments.{HasNumbers, IsWalk, Moment, answers_after, at_first, moment}
 use Rattle.way_walks.specs.Along.{Gone, gone, stops}
 
 -- what some statements come to behind a moment, with what was met before
@@ -52,6 +53,11 @@ abbrev pub ArePlaces : List Step → ℕ → List Mark → Type 0
 ArePlaces steps bound [] = Unit {0}
 ArePlaces steps bound (mark ∷ marks) = ((mark.place < bound) × HasAt steps mark.place) × ArePlaces steps mark.place marks
 
+-- a pool has the numbers of the calls before each mark
+abbrev pub AreCounted : List Node → List Mark → Type 0
+AreCounted pool [] = Unit {0}
+AreCounted pool (mark ∷ marks) = HasNumbers pool mark.calls × AreCounted pool marks
+
 -- the moment at a start, the entry or an ASSERT of a number from 1, where what holds there was taken
 abbrev pub set_out_at : Sight Tree → ℕ → Moment
 set_out_at w start = set_from w start (begun_with at_first (entry_facts w) (at_entry w))
@@ -66,6 +72,7 @@ pub record IsFront (s : Setting) (steps : List Step) (bound : ℕ) (f : Front) :
   pub well : IsWalk f.walk
   pub clock : IsClockIn (length f.walk.pool) f.clock
   pub places : ArePlaces steps bound f.marks
+  pub counted : AreCounted f.walk.pool f.marks
   pub told : (mark : Mark) (more : List Mark) → f.marks ≡ mark ∷ more → HasEntry s f
   pub parts : (p : Program) → IsReady f.walk.pool s.scene.now p → clock_trees f.walk.pool f.clock
       ≡ clock_from (seen_from s p) f.start

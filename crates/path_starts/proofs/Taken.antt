@@ -12,7 +12,8 @@ use Rattle.walk_names.specs.Names.{Extends, IsNames, named, past}
 use Rattle.walk_state.specs.declared.walk.Met.{Met}
 use Rattle.walk_state.specs.declared.walk.Met.TheVariants.{Check as Checked, Take as Taken'}
 use Rattle.walk_state.specs.declared.walk.Walk.{Walk}
-use Rattle.walk_state.specs.Moments.{AreMet, Did, Follows, IsWalk, Moment, answers_after, events_in, met, moment, with_names}
+use Rattle.walk_state.specs.Moments.{AreMet, Did, Follows, HasNumbers, IsWalk, Moment, answers_after, events_in, met, moment, with_names}
+use Rattle.walk_state.proofs.Counted.{numbers_grow}
 use Rattle.walk_state.proofs.Parts.{follows_then, grew}
 
 takes_both : (ts us : List Tree) → takes (ts ++ us) ≡ takes ts ++ takes us
@@ -75,7 +76,7 @@ pub renamed : (w later : Walk) (now : Named Tree) → IsWalk w → Grows w.pool 
     → past later.pool later.names ≡ past w.pool w.names → Extends w.names.table later.names.table → later.met.items ≡ w.met.items → later.calls ≡ w.calls → Renamed w later now
 renamed w later now h g kept stand before extends ms calls = record {
   on = record {
-    kept = record { names = kept; met = subst (AreMet (length later.pool)) (sym ms) (met_grows w.pool later.pool w.met.items g h.met) };
+    kept = record { names = kept; met = subst (AreMet (length later.pool)) (sym ms) (met_grows w.pool later.pool w.met.items g h.met); calls = subst (HasNumbers later.pool) (sym calls) (numbers_grow w.pool later.pool w.calls g h.calls) };
     grows = g;
     extends = extends;
   };

@@ -1,24 +1,23 @@
 -- A walk goes on.
-use Rattle.std.proofs.Common.{◌≡◌, ℕ, zero, suc, ◌+◌, ◌<◌, List, [], ◌∷◌, ◌++◌, length, map, refl, sym, ap, ◌∙◌, subst, arith, append_assoc}
-use Rattle.std.proofs.lemmas.Grind.{common_steps}
+use Rattle.std.proofs.Common.{◌≡◌, ℕ, suc, ◌+◌, List, [], ◌∷◌, ◌++◌, length, refl, sym, ap, ◌∙◌, subst, arith, append_assoc}
 use Rattle.formula.specs.declared.node.Node.{Node}
-use Rattle.formula.specs.declared.node.TermId.{TermId}
-use Rattle.formula.specs.Pool.{AllBelow, Grows, IsIn, tree_of}
+use Rattle.formula.specs.Pool.{AllBelow, Grows}
 use Rattle.formula.specs.Tree.{Tree, symbol}
-use Rattle.formula.proofs.Grown.{Grows-refl, Grows-trans, IsIn-Grows, tree_of-Grows}
+use Rattle.formula.proofs.Grown.{Grows-refl, Grows-same, Grows-trans, IsIn-Grows, tree_of-Grows}
 use Rattle.fort_model.specs.Events.{Event, Check, Take}
-use Rattle.fort_model.specs.Seen.{Named, Answers, Seen, See, ◌>>=◌, later, symbols_of_calls}
+use Rattle.fort_model.specs.Seen.{Named, See, ◌>>=◌, later, symbols_of_calls}
 use Rattle.fort_model.specs.Senses.{of_terms}
 use Rattle.fort_model.specs.Symbols.{ByCall, word_of}
 use Rattle.fort_model.specs.WalkStmt.{with_name}
 use Rattle.walk_names.specs.declared.names.Names.{Names}
 use Rattle.walk_names.specs.declared.names.Logged.{Logged}
 use Rattle.walk_names.specs.Names.{AreLogged, Extends, IsNames, IsSame, IsSet, entry_of, named, named_by, past, pasts}
-use Rattle.walk_names.proofs.NameTables.{extends_more, extends_not, named_grows, names_grow, pasts_grows, same_grows}
+use Rattle.walk_names.proofs.NameTables.{extends_more, extends_not, same_grows}
+use Rattle.walk_state.proofs.Counted.{numbers_grow, numbers_none}
 use Rattle.walk_state.specs.declared.walk.Met.{Met}
 use Rattle.walk_state.specs.declared.walk.Met.TheVariants.{Check as Checked, Take as Taken}
 use Rattle.walk_state.specs.declared.walk.Walk.{Walk}
-use Rattle.walk_state.specs.Moments.{AreMet, Did, Follows, IsWalk, Moment, answers_after, at_first, event_in, events_in, met, moment, with_answers, with_event, with_names}
+use Rattle.walk_state.specs.Moments.{AreMet, Did, Follows, HasNumbers, IsWalk, Moment, answers_after, at_first, event_in, events_in, met, moment, with_answers, with_event, with_names}
 
 -- ---- what was met, with a pool that grows
 
@@ -31,6 +30,10 @@ events_grow : (old new : List Node) (ms : List Met) → Grows old new → AreMet
 events_grow old new [] g h = refl
 events_grow old new (Checked kind card id ∷ ms) g h = λ i. Check kind card (tree_of-Grows old new id g h.0 i) ∷ events_grow old new ms g h.1 i
 events_grow old new (Taken id ∷ ms) g h = λ i. Take (tree_of-Grows old new id g h.0 i) ∷ events_grow old new ms g h.1 i
+
+-- the numbers of the calls, with a pool that grows
+calls_grow : (w later : Walk) → Grows w.pool later.pool → later.calls ≡ w.calls → IsWalk w → HasNumbers later.pool later.calls
+calls_grow w later g calls h = subst (HasNumbers later.pool) (sym calls) (numbers_grow w.pool later.pool w.calls g h.calls)
 
 -- names that are as they were have the same table
 same_table : (old new : Names) → new ≡ old → Extends old.table new.table
@@ -49,6 +52,7 @@ grew w later h g names ms calls =
         kept = record {
           names = subst (IsNames later.pool) (sym names) s.kept;
           met = subst (AreMet (length later.pool)) (sym ms) (met_grows w.pool later.pool w.met.items g h.met);
+          calls = calls_grow w later g calls h;
         };
         grows = g;
         extends = same_table w.names later.names names;
@@ -79,13 +83,14 @@ events_push : (nodes : List Node) (ms : List Met) (m : Met) → events_in nodes 
 events_push nodes [] m = refl
 events_push nodes (x ∷ ms) m = ap (λ (es : List (Event Tree)). event_in nodes x ∷ es) (events_push nodes ms m)
 
-pub follows_push : (w later : Walk) (m : Met) → IsWalk w → AreMet (length w.pool) (m ∷ []) → later.pool ≡ w.pool → later.names ≡ w.names → later.met.items ≡ w.met.items ++ m ∷ [] → Follows w later
-follows_push w later m h k pool names ms = record {
+pub follows_push : (w later : Walk) (m : Met) → IsWalk w → AreMet (length w.pool) (m ∷ []) → later.pool ≡ w.pool → later.names ≡ w.names → later.met.items ≡ w.met.items ++ m ∷ [] → later.calls ≡ w.calls → Follows w later
+follows_push w later m h k pool names ms calls = record {
   kept = record {
     names = subst (λ (ns : Names). IsNames later.pool ns) (sym names) (subst (λ (nodes : List Node). IsNames nodes w.names) (sym pool) h.names);
     met = subst (AreMet (length later.pool)) (sym ms) (subst (λ (nodes : List Node). AreMet (length nodes) (w.met.items ++ m ∷ [])) (sym pool) (met_push (length w.pool) w.met.items m h.met k));
+    calls = calls_grow w later (Grows-same w.pool later.pool pool) calls h;
   };
-  grows = record { added = []; is = pool ∙ (let whole : w.pool ≡ w.pool ++ [] = grind (arith, common_steps) in whole) };
+  grows = Grows-same w.pool later.pool pool;
   extends = same_table w.names later.names names;
 }
 
@@ -100,9 +105,9 @@ moment_push w ms m e = λ i. record {
 
 -- ---- a name that is set
 
-pub follows_set : (w later : Walk) (x : List ℕ) (t : Tree) → IsWalk w → Grows w.pool later.pool → IsSet w.pool w.names later.pool later.names x t → later.met.items ≡ w.met.items → Follows w later
-follows_set w later x t h g s ms = record {
-  kept = record { names = s.kept; met = subst (AreMet (length later.pool)) (sym ms) (met_grows w.pool later.pool w.met.items g h.met) };
+pub follows_set : (w later : Walk) (x : List ℕ) (t : Tree) → IsWalk w → Grows w.pool later.pool → IsSet w.pool w.names later.pool later.names x t → later.met.items ≡ w.met.items → later.calls ≡ w.calls → Follows w later
+follows_set w later x t h g s ms calls = record {
+  kept = record { names = s.kept; met = subst (AreMet (length later.pool)) (sym ms) (met_grows w.pool later.pool w.met.items g h.met); calls = calls_grow w later g calls h };
   grows = g;
   extends = s.extends;
 }
@@ -116,9 +121,9 @@ moment_set w later x t h g s ms calls = λ i. record {
   answers = answers_after (calls i);
 }
 
-pub follows_same : (w later : Walk) → IsWalk w → Grows w.pool later.pool → IsSame w.pool w.names later.pool later.names → later.met.items ≡ w.met.items → Follows w later
-follows_same w later h g s ms = record {
-  kept = record { names = s.kept; met = subst (AreMet (length later.pool)) (sym ms) (met_grows w.pool later.pool w.met.items g h.met) };
+pub follows_same : (w later : Walk) → IsWalk w → Grows w.pool later.pool → IsSame w.pool w.names later.pool later.names → later.met.items ≡ w.met.items → later.calls ≡ w.calls → Follows w later
+follows_same w later h g s ms calls = record {
+  kept = record { names = s.kept; met = subst (AreMet (length later.pool)) (sym ms) (met_grows w.pool later.pool w.met.items g h.met); calls = calls_grow w later g calls h };
   grows = g;
   extends = s.extends;
 }
@@ -135,6 +140,20 @@ pub answer_now : (n m : ℕ) → m ≡ n + 1 → (x : List ℕ) → answers_afte
 answer_now n m e x =
     let count : suc (n + 0) ≡ m = omega (arith, e) in
     ap (λ (k : ℕ). symbol (word_of (ByCall x k))) count
+
+-- a walk that goes on behind one more call, whose number its pool has
+pub record Called (w0 w1 : Walk) : Type 0 where
+  pub on : Follows w0 w1
+  pub next : moment w1 ≡ with_answers (moment w0) (later (moment w0).answers)
+
+pub called : (w0 w1 : Walk) (n : ℕ) → IsWalk w0 → Grows w0.pool w1.pool → w1.names ≡ w0.names → w1.met.items ≡ w0.met.items → n ≡ w0.calls + 1 → w1.calls ≡ n → HasNumbers w1.pool n → Called w0 w1
+called w0 w1 n h g names ms next calls numbers =
+    let same : Walk = record { pool = w1.pool; names = w1.names; met = w1.met; calls = w0.calls; alloc = w1.alloc } in
+    let grown = grew w0 same h g names ms refl in
+    record {
+      on = record { kept = record { names = grown.on.kept.names; met = grown.on.kept.met; calls = subst (HasNumbers w1.pool) (sym calls) numbers }; grows = g; extends = grown.on.extends };
+      next = λ i. record { now = (grown.same i).now; past = (grown.same i).past; events = (grown.same i).events; answers = answers_next w0.calls w1.calls (calls ∙ next) i };
+    }
 
 pub answers_first : answers_after 0 ≡ symbols_of_calls of_terms
 answers_first = λ j i x. symbols_of_calls of_terms (none i j) x
@@ -176,6 +195,7 @@ begun w table terms log ms calls = record {
       log = subst (λ (l : List Logged). AreLogged (length w.pool) (length w.names.terms.items) l) (sym log) tt;
     };
     met = subst (AreMet (length w.pool)) (sym ms) tt;
+    calls = subst (HasNumbers w.pool) (sym calls) (numbers_none w.pool);
   };
   at =
       (λ i. record { now = named_by w.pool (table i) (terms i); past = pasts w.pool (table i) (terms i) (log i); events = events_in w.pool (ms i); answers = answers_after (calls i) })

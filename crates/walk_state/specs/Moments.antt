@@ -1,10 +1,11 @@
 -- Where a walk is, and what a part of it does there.
-use Rattle.std.specs.Prelude.{◌≡◌, ℕ, ◌+◌, ◌<◌, List, [], ◌∷◌, ◌++◌, length, map}
+use Rattle.std.specs.Prelude.{◌≡◌, ℕ, suc, pos, ◌+◌, ◌<◌, List, [], ◌∷◌, ◌++◌, length, map}
 use Rattle.formula.specs.declared.node.Node.{Node}
-use Rattle.formula.specs.Pool.{Grows, tree_of}
-use Rattle.formula.specs.Tree.{Tree}
+use Rattle.formula.specs.declared.node.TermId.{TermId}
+use Rattle.formula.specs.Pool.{Grows, IsIn, tree_of}
+use Rattle.formula.specs.Tree.{Tree, num}
 use Rattle.fort_model.specs.Events.{Event, Check, Take}
-use Rattle.fort_model.specs.Seen.{Named, Answers, Seen, See, symbols_of_calls}
+use Rattle.fort_model.specs.Seen.{Named, Answers, See, symbols_of_calls}
 use Rattle.fort_model.specs.Senses.{of_terms}
 use Rattle.walk_names.specs.Names.{Extends, IsNames, entry_of, named, past}
 use Rattle.walk_state.specs.declared.walk.Met.{Met}
@@ -69,10 +70,17 @@ AreMet n [] = Unit {0}
 AreMet n (Checked kind card id ∷ rest) = (id.place < n) × AreMet n rest
 AreMet n (Taken id ∷ rest) = (id.place < n) × AreMet n rest
 
--- the terms of a walk are of its pool
+-- a pool has the numbers from 1 to this one: at k stands k + 1. So it has no fewer terms
+pub record HasNumbers (pool : List Node) (n : ℕ) : Type 0 where
+  pub at : ℕ → TermId
+  pub inside : (k : ℕ) → k < n → IsIn pool (at k)
+  pub are : (k : ℕ) → k < n → tree_of pool (at k) ≡ num (pos (suc k))
+
+-- the terms of a walk are of its pool, which has the numbers of the calls
 pub record IsWalk (w : Walk) : Type 0 where
   pub names : IsNames w.pool w.names
   pub met : AreMet (length w.pool) w.met.items
+  pub calls : HasNumbers w.pool w.calls
 
 -- a walk went on: its pool grew, and its table of names has those that it had, at their places
 pub record Follows (old new : Walk) : Type 0 where

@@ -7,14 +7,14 @@ ghost use Rattle.fort_model.specs.WalkStmt.{with_name};
 ghost use Rattle.fort_syntax.specs.declared.name.Name.{Name as Text};
 ghost use Rattle.formula.specs.Tree.{Tree, symbol};
 ghost use Rattle.fort_model.specs.Symbols.{ByCall, word_of};
-ghost use Rattle.walk_state.specs.Moments.{Follows, IsWalk, at_first, moment, with_answers, with_event, with_names};
+ghost use Rattle.walk_state.specs.Moments.{Follows, HasNumbers, IsWalk, at_first, moment, with_answers, with_event, with_names};
 
 use edge_io::{Keys, NoMemory};
 use formula::{TermId, TermPool};
 use fort_syntax::{Kind, Name};
 use std::alloc::Global;
 use walk_names::Names;
-use walk_terms::call_symbol;
+use walk_terms::{call_symbol, natural};
 
 /// What a walk meets: a check of a kind at a card, or a fact.
 #[derive(Clone, Copy, Debug)]
@@ -32,6 +32,15 @@ pub struct Walk {
     pub met: Vec<Met>,
     pub calls: u32,
     pub alloc: Global,
+}
+
+/// A number in 32 bits, where the pool has all numbers up to it: there are not that many terms.
+fn in_32_bits(pool: &TermPool, number: u64) -> u32
+    requires { HasNumbers pool.now number }
+    ensures { result ≡ number }
+{
+    let _ = pool.count();
+    number as u32
 }
 
 impl Walk {
@@ -104,8 +113,8 @@ impl Walk {
         Ok(())
     }
 
-    /// Goes on behind one more call, and tells its number, which counts from 1. A walk of 2^32 - 1
-    /// calls refuses to grow, as the pool of their symbols does.
+    /// Goes on behind one more call, and tells its number, which counts from 1. The number becomes a
+    /// term, so that there are no more calls than terms and the count needs no test.
     pub fn next_call(&mut self) -> Result<u32, NoMemory>
         requires { IsWalk self.old }
         ensures on { Follows self.old self.new }
@@ -114,10 +123,11 @@ impl Walk {
         ensures answer { IfOk result (λ k. (x : Text) → (moment self.old).answers 0 x
             ≡ symbol (word_of (ByCall x k))) }
     {
-        if self.calls == u32::MAX {
+        let number = u64::from(self.calls) + 1;
+        let Ok(_) = natural(&mut self.pool, number) else {
             return Err(NoMemory);
-        }
-        self.calls += 1;
+        };
+        self.calls = in_32_bits(&self.pool, number);
         Ok(self.calls)
     }
 

@@ -8,7 +8,7 @@ pub returns-in_default-clause-on : goal.returns-in_default-clause-on
 returns-in_default-clause-on c = (grew c.args.self.now _ c.requires.well (Grows-refl c.args.self.now.pool) refl c.in_default.ensures.items refl).on
 
 pub returns-clause-on : goal.returns-clause-on
-returns-clause-on c = follows_push c.args.self.now _ (Check c.args.kind c.args.card c.args.goal) c.requires.well (c.requires.goal, tt) refl refl c.in-Ok.ensures.items
+returns-clause-on c = follows_push c.args.self.now _ (Check c.args.kind c.args.card c.args.goal) c.requires.well (c.requires.goal, tt) refl refl c.in-Ok.ensures.items refl
 
 pub returns-clause-met : goal.returns-clause-met
 returns-clause-met c = moment_push c.args.self.now c.push.new.self.items (Check c.args.kind c.args.card c.args.goal) c.in-Ok.ensures.items

@@ -5,10 +5,10 @@ use Rattle.walk_state.proofs.Parts.{follows_same, follows_set, moment_set}
 use Rattle.walk_state.proofs.walk.Walk.set.Goals as goal
 
 pub returns-in_default-clause-on : goal.returns-in_default-clause-on
-returns-in_default-clause-on c = follows_same c.args.self.now _ c.requires.well c.set.ensures.grows c.in_default.ensures.same refl
+returns-in_default-clause-on c = follows_same c.args.self.now _ c.requires.well c.set.ensures.grows c.in_default.ensures.same refl refl
 
 pub returns-clause-on : goal.returns-clause-on
-returns-clause-on c = follows_set c.args.self.now _ c.args.name.now (tree_of c.args.self.now.pool c.args.term) c.requires.well c.set.ensures.grows c.in-Ok.ensures.set refl
+returns-clause-on c = follows_set c.args.self.now _ c.args.name.now (tree_of c.args.self.now.pool c.args.term) c.requires.well c.set.ensures.grows c.in-Ok.ensures.set refl refl
 
 pub returns-clause-set : goal.returns-clause-set
 returns-clause-set c =
