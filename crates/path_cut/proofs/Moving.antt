@@ -35,7 +35,7 @@ module _ (f : Flow) where
   work_with s steps stage = stage_work f.graph.now marked steps.room s steps.items stage
 
   -- steps with one more
-  abbrev more : Roomy → Step → Roomy
+  abbrev pub more : Roomy → Step → Roomy
   more steps x = record steps { items = steps.items ++ x ∷ [] }
 
   -- a turn to a course with such a start, steps and stage

@@ -1,5 +1,6 @@
 -- What a search for ways does.
 use Rattle.std.specs.Prelude.{◌≡◌, ℕ, suc, ◌+◌, ◌-◌, ◌<◌, ◌≤◌, Bool, true, false, List, [], ◌∷◌, ◌++◌, length, take, Option, Some, None, slice_get}
+use Rattle.fort_model.specs.declared.graph.Target.{Target}
 use Rattle.path_cut.specs.declared.course.Course.{Course}
 use Rattle.path_cut.specs.declared.course.Stage.{Stage}
 use Rattle.path_cut.specs.declared.course.Stage.TheVariants.{On, Choose, Back, Ended, Over}
@@ -20,6 +21,11 @@ work_of f c stage = stage_work f.graph.now (is_marked f.marks.items) c.steps.roo
 pub record Moves (f : Flow) (old : Course) (stage : Stage) (new : Course) : Type 0 where
   pub kept : all_left f new new.stage ≡ all_left f old stage
   pub less : work_of f new new.stage < work_of f old stage
+
+-- a course from which the search goes on at a target, if there is one
+abbrev pub going : Course → Option Target → Course
+going c None = c
+going c (Some t) = record c { stage = On t }
 
 -- a turn goes through the statement at a point
 pub record Enters (f : Flow) (old : Course) (p : ℕ) (new : Course) : Type 0 where

@@ -1,8 +1,8 @@
 // Where the search for paths stands.
-ghost use Rattle.std.specs.Prelude.{◌≡◌, ◌<◌, ◌∷◌, ◌++◌, [], true, length, drop, slice_get, is_some};
+ghost use Rattle.std.specs.Prelude.{◌≡◌, ◌<◌, ◌∷◌, ◌++◌, [], true, length, drop, slice_get, is_some, MatchOption};
 ghost use Rattle.path_cut.specs.declared.course.Stage.TheVariants.{On, Choose, Back};
 ghost use Rattle.fort_model.specs.declared.graph.Target.TheVariants.{Point};
-ghost use Rattle.path_cut.specs.Courses.{Moves, Enters, Undoes, stage_behind, SharesFront, Begins, SharesSteps, is_moving, left_of, way_now};
+ghost use Rattle.path_cut.specs.Courses.{Moves, Enters, Undoes, going, SharesFront, Begins, SharesSteps, is_moving, left_of, way_now};
 
 use crate::flow::Flow;
 use crate::step::Step;
@@ -32,16 +32,6 @@ pub(crate) struct Course {
     pub(crate) steps: Trail,
     pub(crate) shared: usize,
     pub(crate) stage: Stage,
-}
-
-// What is to be done once a step is undone.
-fn behind(step: Step) -> Stage
-    ensures { result ≡ stage_behind step }
-{
-    match step {
-        Step::At(_) => Stage::Back,
-        Step::Choice(fork, tried) => Stage::Choose(fork, tried),
-    }
 }
 
 impl Course {
@@ -89,34 +79,52 @@ impl Course {
         self.push(Step::At(point), target);
     }
 
-    // On from a target.
-    fn go_on(&mut self, flow: &Flow, target: Target)
-        ensures moves { Moves flow.now self.old (On target) self.new }
+    // Through the statement at a point, or to the end of a path there. It answers what comes next,
+    // if anything does.
+    fn pass(&mut self, flow: &Flow, point: u32) -> Option<Target>
+        requires { length self.old.steps.items < self.old.steps.room }
+        ensures moves { Moves flow.now self.old (On (Point point)) (going self.new result) }
+        ensures shares { SharesFront self.old self.new }
+    {
+        if flow.is_cut(point) {
+            self.stage = Stage::Ended(point);
+            return None;
+        }
+        let Some(target) = flow.start(point) else {
+            self.stage = Stage::Back;
+            return None;
+        };
+        self.steps.push(Step::At(point));
+        Some(target)
+    }
+
+    // Through one point, or to a fork. It answers what comes next, if anything does.
+    fn step(&mut self, flow: &Flow, target: Target) -> Option<Target>
+        ensures moves { Moves flow.now self.old (On target) (going self.new result) }
         ensures shares { SharesFront self.old self.new }
     {
         if !self.steps.has_room() {
             self.stage = Stage::Back;
-            return;
+            return None;
         }
         match target {
             Target::Fork(fork) => {
                 self.stage = Stage::Choose(fork, 0);
+                None
             }
             Target::Point(point) => self.pass(flow, point),
         }
     }
 
-    // Through a point, or to its end.
-    fn pass(&mut self, flow: &Flow, point: u32)
-        requires { length self.old.steps.items < self.old.steps.room }
-        ensures moves { Moves flow.now self.old (On (Point point)) self.new }
+    // On from a target, through points, up to a fork or to the end of a path.
+    fn go_on(&mut self, flow: &Flow, target: Target)
+        ensures moves { Moves flow.now self.old (On target) self.new }
         ensures shares { SharesFront self.old self.new }
     {
-        if flow.is_cut(point) {
-            self.stage = Stage::Ended(point);
-            return;
+        let mut next = target;
+        while let Some(behind) = self.step(flow, next) {
+            next = behind;
         }
-        self.enter(flow, point);
     }
 
     // To the next start, if there is one.
@@ -133,15 +141,14 @@ impl Course {
         self.enter(flow, point);
     }
 
-    // Takes the last step away.
-    fn undo(&mut self) -> Step
-        requires { 0 < length self.old.steps.items }
-        ensures undone { Undoes self.old result self.new }
+    // Takes the last step away, if there is one.
+    fn undo(&mut self) -> Option<Step>
+        ensures undone { MatchOption result ((self.old.steps.items ≡ []) × (self.new ≡ self.old))
+            (λ x. Undoes self.old x self.new) }
         ensures shares { SharesFront self.old self.new }
     {
-        let step = match self.steps.pop() {
-            Some(step) => step,
-            None => unreachable!(),
+        let Some(step) = self.steps.pop() else {
+            return None;
         };
         let left = self.steps.len();
         self.shared = if left < self.shared {
@@ -149,20 +156,22 @@ impl Course {
         } else {
             self.shared
         };
-        step
+        Some(step)
     }
 
-    // Undoes the last step, if there is one, and stands before what comes behind it.
+    // Undoes the last steps up to a choice, and stands before what comes behind that; where there is
+    // none, to the next start.
     fn back(&mut self, flow: &Flow)
         ensures moves { Moves flow.now self.old Back self.new }
         ensures shares { SharesFront self.old self.new }
     {
-        if self.steps.len() == 0 {
-            self.begin_next(flow);
-            return;
+        while let Some(step) = self.undo() {
+            if let Step::Choice(fork, tried) = step {
+                self.stage = Stage::Choose(fork, tried);
+                return;
+            }
         }
-        let step = self.undo();
-        self.stage = behind(step);
+        self.begin_next(flow);
     }
 
     // One turn of the search.
