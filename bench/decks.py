@@ -240,6 +240,43 @@ def long_definition():
     return cards
 
 
+# ---- one thing that is long or deep
+
+
+def many_arguments():
+    """A definition by an AND of 60,000 arguments, which the OUTPUT uses."""
+    return note(["DEFN", "A", "()", "(AND", *["T"] * 59999, "T)"]) + unit("P(I)", ["      I=1"], output_terms=("(A)",))
+
+
+def many_parameters():
+    """A definition of 30,000 parameters."""
+    names = [text + "Q" for text in map(name, range(30000))]
+    return note(["DEFN", "A", "(" + names[0], *names[1:-1], names[-1] + ")", names[-1]]) + unit("P(I)", ["      I=1"])
+
+
+def nested():
+    """Each MAX0 of 656 operands is a term of 655 brackets that stand one in another; each statement's stands in the next one's."""
+    return unit("P(J)", [card for _ in range(25) for card in statement("J=MAX0(J" + ",1" * 655 + ")")])
+
+
+def operands():
+    """The longest sum that a statement has room for, on no path."""
+    return unit("P(I)", ["      GOTO1"] + statement("J=I" + "+I" * 658) + ["    1 CONTINUE"])
+
+
+def puts():
+    """20 elements of an array of 1,000,000 are set, and 170 are read."""
+    set_ = [f"      A({number + 1})={number}" for number in range(20)]
+    read = [f"      J=A({number % 20 + 1})" for number in range(170)]
+    return unit("P(I)", set_ + read, declared=["INTEGER A(1000000)"])
+
+
+def doublings():
+    """17 doublings, so that the last sum is one of 131,072 where it is written out; tried with 100 values."""
+    tries = [f"C$ TRY P (I {number % 3})" for number in range(100)]
+    return unit("P(I)", ["      I=I+I"] * 17) + tries
+
+
 MANY = "REFUSED 46 ManyPaths CARD "
 HEAVY = "REFUSED 48 Heavy CARD "
 
@@ -265,6 +302,12 @@ DECKS = [
     Deck("paths-with", "vc", None, "4,096 paths with 30,000 statements each", paths_with),
     Deck("conditions", "vc", None, "81,920 conditions", conditions),
     Deck("long-definition", "vc", None, "one definition of 85,000 numbers under 77,700 conditions", long_definition),
+    Deck("arguments", "vc", None, "a definition by an AND of 60,000 arguments", many_arguments),
+    Deck("parameters", "vc", None, "a definition of 30,000 parameters", many_parameters),
+    Deck("nested", "vc", None, "25 statements whose terms nest 16,375 brackets", nested),
+    Deck("operands", "vc", None, "a sum of 659 operands", operands),
+    Deck("puts", "vc", None, "20 elements of an array of 1,000,000 are set, 170 read", puts),
+    Deck("doublings", "try", None, "17 doublings, with 100 TRYs", doublings),
 ]
 
 

@@ -118,3 +118,27 @@ returns-in_err-value-clause-on c =
     let f = c.take_facts.new.walk in
     follows_then m n f c.next_call.ensures.on
     (follows_then n a f c.enter_unit.ensures.on (follows_then a b f c.smash_names.ensures.on c.take_facts.ensures.on))
+
+pub returns-in_err-leave_unit-clause-on : goal.returns-in_err-leave_unit-clause-on
+returns-in_err-leave_unit-clause-on c =
+    let m = c.args.walk.now in
+    let n = c.next_call.new.self in
+    let a = c.enter_unit.new.walk in
+    let b = c.smash_names.new.walk in
+    let f = c.take_facts.new.walk in
+    let e = c.leave_unit.new.walk in
+    follows_then m n e c.next_call.ensures.on
+    (follows_then n a e c.enter_unit.ensures.on
+    (follows_then a b e c.smash_names.ensures.on (follows_then b f e c.take_facts.ensures.on c.leave_unit.ensures.on)))
+
+pub returns-clause-on : goal.returns-clause-on
+returns-clause-on c =
+    let m = c.args.walk.now in
+    let n = c.next_call.new.self in
+    let a = c.enter_unit.new.walk in
+    let b = c.smash_names.new.walk in
+    let f = c.take_facts.new.walk in
+    let e = c.leave_unit.new.walk in
+    follows_then m n e c.next_call.ensures.on
+    (follows_then n a e c.enter_unit.ensures.on
+    (follows_then a b e c.smash_names.ensures.on (follows_then b f e c.take_facts.ensures.on c.leave_unit.ensures.on)))
