@@ -53,7 +53,13 @@ fn unit_of<'a>(units: &'a [Unit], name: &Name) -> Option<&'a Unit> {
 }
 
 /// Puts what a machine tells that gets a card's steps in portions.
-fn put_machine(desk: &Desk<'_>, text: &mut Vec<u8>, machine: Machine, card: &RunCard, size: u64) -> Result<()>
+fn put_machine(
+    desk: &Desk<'_>,
+    text: &mut Vec<u8>,
+    machine: Machine,
+    card: &RunCard,
+    size: u64,
+) -> Result<()>
     requires { IsMachine machine }
 {
     let mut machine = machine;
@@ -97,7 +103,13 @@ fn put_size(
 }
 
 /// Puts the line of a card and a size.
-fn put_line(desk: &Desk<'_>, text: &mut Vec<u8>, number: u64, card: &RunCard, size: u64) -> Result<()>
+fn put_line(
+    desk: &Desk<'_>,
+    text: &mut Vec<u8>,
+    number: u64,
+    card: &RunCard,
+    size: u64,
+) -> Result<()>
     requires { CanRun desk.now.dialect desk.now.found.now.deck.units desk.now.found.now.order }
 {
     put(text, b"RUN ")?;

@@ -20,7 +20,7 @@ use test_rows::{Answer, Subject, try_rows};
 struct Machines;
 
 /// The dialect of a word.
-fn dialect(word: &String) -> Result<Dialect> {
+fn dialect_of(word: &String) -> Result<Dialect> {
     match word.as_str() {
         "66" => Ok(Dialect::Common),
         "77" => Ok(Dialect::SeventySeven),
@@ -29,7 +29,7 @@ fn dialect(word: &String) -> Result<Dialect> {
 }
 
 /// The sizes of portions.
-fn sizes(alloc: Global, words: &[String]) -> Result<Vec<u64>> {
+fn sizes_of(alloc: Global, words: &[String]) -> Result<Vec<u64>> {
     let mut sizes = Vec::new(alloc);
     for word in words {
         sizes.push(word.as_str().parse::<u64>()?)?;
@@ -60,8 +60,8 @@ impl Subject for Machines {
         let [word, others @ ..] = words else {
             bail!("no words");
         };
-        let sizes = sizes(alloc, others)?;
-        let text = text_of(alloc, dialect(word)?, sizes.as_slice(), input)?;
+        let sizes = sizes_of(alloc, others)?;
+        let text = text_of(alloc, dialect_of(word)?, sizes.as_slice(), input)?;
         Ok(Answer { status: 0, text })
     }
 }

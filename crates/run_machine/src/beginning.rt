@@ -21,7 +21,13 @@ fn begun_with(alloc: Global, kept: &Kept, starts: &Starts) -> Result<Run, RunRef
         ranks: &kept.ranks,
         starts,
     };
-    match begun(alloc, &deck, &kept.setting, &kept.unit, kept.start.as_slice()) {
+    match begun(
+        alloc,
+        &deck,
+        &kept.setting,
+        &kept.unit,
+        kept.start.as_slice(),
+    ) {
         Ok(began) => Ok(began),
         Err(refusal) => Err(refusal),
     }

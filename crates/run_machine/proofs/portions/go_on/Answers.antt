@@ -28,5 +28,5 @@ returns-clause-stands c =
     let new : Run = record { unit = old.unit; entries = old.entries; state = c.proceed.new.m } in
     let can = c.proceed.ensures.can in
     let went =
-        subst (λ (us : List Routine). WentOf us k.code k.setting c.args.steps old.state c.proceed.new.m) c.as_slice.ensures c.proceed.ensures.went in
+    subst (λ (us : List Routine). WentOf us k.code k.setting c.args.steps old.state c.proceed.new.m) c.as_slice.ensures c.proceed.ensures.went in
     stands_on k old new c.args.gone c.args.steps c.requires.stands went refl refl c.proceed.ensures.tells can.most can.room can.own_within
