@@ -1,0 +1,5 @@
+mod HeldCells
+pub mod Gone
+pub mod Showing
+mod Copies
+mod FirstRun
