@@ -39,13 +39,9 @@ use Rattle.run_ranks.proofs.Entries.{keeps as entries_keep, ready as entries_rea
 use Rattle.run_ranks.proofs.Plain.{at_stage, lines_keep, tests_keep}
 use Rattle.run_jumps.specs.Rounds.{IsReadyToTest, did_test, did_round, then_so, amount_to, step_to, went_round}
 use Rattle.run_jumps.proofs.Taken.{taken, plain}
-use Rattle.run_work.specs.Ways.{CanWork, SteppedOf}
+use Rattle.run_work.specs.Ways.{CanWork, IsTaken, SteppedOf}
 use Rattle.run_work.specs.declared.program.Program.{Program}
 use Rattle.run_work.proofs.Units.{unit_is, can_on, its_code, past}
-
--- a step that keeps the room
-abbrev pub IsTaken : Program → State → State → Type 0
-IsTaken p old new = SteppedOf p.units.now p.code.now p.setting.now old new × CanWork p new
 
 -- ---- a unit is entered
 

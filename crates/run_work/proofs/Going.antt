@@ -32,19 +32,28 @@ module _ (units : List Routine) (code : Code) (setting : Setting) where
   pub went_none : (m : State) → WentOf units code setting 0 m m
   went_none m w world same c st shows = record { place = c; held = st; shows = shows; went = λ r n. ap (λ k. told (rest r c st k)) (let same : 0 + n ≡ n = omega arith in same) }
 
-  -- one more step, and the work behind it
-  pub went_more : (k : ℕ) (a b c d : State) → WentOf units code setting k a b → SteppedOf units code setting b c → Same code setting c d → WentOf units code setting (k + 1) a d
-  went_more k a b c d ab bc cd w world same p st shows =
+  -- a step, and the work behind it
+  pub went_one : (a b c : State) → SteppedOf units code setting a b → Same code setting b c → WentOf units code setting 1 a c
+  went_one a b c ab bc w world same p st shows =
+      let one = ab w world same p st shows in
+      let two = bc w world one.place one.held one.shows in
+      record {
+        place = two.place;
+        held = two.held;
+        shows = two.shows;
+        went = λ r n. ap (λ j. told (rest r p st j)) (let more : 1 + n ≡ suc n = omega arith in more) ∙ ap told (one.one r n) ∙ ap told (sym (two.same r n));
+      }
+
+  -- one more of these
+  pub went_then : (k : ℕ) (a b c : State) → WentOf units code setting k a b → WentOf units code setting 1 b c → WentOf units code setting (k + 1) a c
+  went_then k a b c ab bc w world same p st shows =
       let one = ab w world same p st shows in
       let two = bc w world same one.place one.held one.shows in
-      let three = cd w world two.place two.held two.shows in
       record {
-        place = three.place;
-        held = three.held;
-        shows = three.shows;
-        went = λ r n.
-            ap (λ j. told (rest r p st j)) (let same : k + 1 + n ≡ k + suc n = omega arith in same)
-            ∙ one.went r (suc n) ∙ ap told (two.one r n) ∙ ap told (sym (three.same r n));
+        place = two.place;
+        held = two.held;
+        shows = two.shows;
+        went = λ r n. ap (λ j. told (rest r p st j)) (let more : k + 1 + n ≡ k + (1 + n) = omega arith in more) ∙ one.went r (1 + n) ∙ two.went r n;
       }
 
   -- work before the steps

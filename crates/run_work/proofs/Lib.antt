@@ -4,3 +4,5 @@ pub mod Ended
 pub mod Entering
 pub mod Going
 pub mod Summed
+pub mod Followed
+pub mod Rounded

@@ -1,26 +1,24 @@
 -- Instructions of the assignment of a sum do together what each does.
-use Rattle.std.proofs.Common.{◌≡◌, ℕ, ◌+◌, ◌<◌, ◌≤◌, ◌^◌, true, List, ◌∷◌, Option, Some, None, slice_get, refl, sym, ap, ◌∙◌, subst, arith}
-use Rattle.std.specs.Prelude.{Result, Ok, Err, unwrap_or}
+use Rattle.std.proofs.Common.{◌≡◌, ℕ, ◌+◌, ◌<◌, ◌≤◌, ◌^◌, true, ℤ, List, ◌∷◌, Option, Some, None, slice_get, refl, sym, ap, ◌∙◌, subst, arith}
+use Rattle.std.specs.Prelude.{Ok, unwrap_or}
 use Rattle.formula.specs.declared.value.Cell.{Cell}
-use Rattle.fort_syntax.specs.declared.condition.Kind.{Kind}
-use Rattle.fort_model.specs.Storage.{store}
-use Rattle.fort_model.specs.declared.bounds.Bounds.{Bounds}
+use Rattle.formula.specs.declared.value.Cell.TheVariants.{Int}
 use Rattle.fort_syntax.specs.declared.dialect.BinOp.{BinOp}
-use Rattle.fort_syntax.specs.declared.dialect.BinOp.TheVariants as op
-use Rattle.run_held.specs.Sums.{constant_to, operated_to}
+use Rattle.fort_model.specs.Storage.{store}
+use Rattle.run_held.specs.Sums.{operated_to}
 use Rattle.run_shapes.specs.declared.instr.Instr.{Instr}
 use Rattle.run_shapes.specs.declared.instr.Instr.TheVariants as instr
 use Rattle.run_shapes.specs.declared.unit_code.UnitCode.{UnitCode}
 use Rattle.run_state.specs.Deeds.{extent_at, with_cells}
 use Rattle.run_state.specs.declared.machine.Item.{Item}
 use Rattle.run_state.specs.declared.machine.Item.TheVariants.{Cells, Fresh}
-use Rattle.run_state.specs.declared.machine.Setting.{Setting}
 use Rattle.run_state.specs.declared.machine.Stage.TheVariants as stage
 use Rattle.run_state.specs.declared.machine.State.{State}
-use Rattle.run_elements.specs.Elements.{answered, read_to}
-use Rattle.run_work.specs.AtOnce.{MayAct, assigned_at, is_assignment, made_of, operand_to, plain_to, slot_of, sum_to, value_of}
+use Rattle.run_elements.specs.Elements.{answered}
+use Rattle.run_work.specs.AtOnce.{IsOperand, IsSumIn, IsSumOf, assigned_at, first_of, is_assignment, slot_of}
 use Rattle.run_work.specs.Obeying.{obeyed}
 use Rattle.run_work.specs.Ways.{CanWork}
+use Rattle.run_work.specs.declared.at_once.Assigned.{Assigned}
 use Rattle.run_work.specs.declared.program.Program.{Program}
 use Rattle.run_work.proofs.Units.{works_then}
 use Rattle.run_work.proofs.Obeyed.{IsActed, does_its_work}
@@ -29,98 +27,39 @@ use Rattle.run_work.proofs.Obeyed.{IsActed, does_its_work}
 abbrev pub at : ℕ → List Item → State → State
 at k vs m = record m { frame = record m.frame { place = k }; values = record m.values { items = vs } }
 
-value_is : (r : Result Cell Kind) (c : Cell) → value_of r ≡ Some c → r ≡ Ok c
-value_is (Ok v) c e = ap (λ o. Ok (unwrap_or o c)) e
-value_is (Err kind) c e = absurd (cc)
-
--- an operand puts its value behind the others
-pushed : (p : Program) (unit : UnitCode) (m : State) (c : Cell) (k : ℕ) (vs : List Item) (i : Instr) → operand_to p.setting.now i m ≡ Some c
-    → obeyed p unit i (at k vs m) ≡ at k (Fresh c ∷ vs) m
-pushed p unit m c j vs (instr.Number n) e = ap (λ r. answered 0 r (at j vs m)) (value_is (constant_to p.setting.now.bounds n) c e)
-pushed p unit m c j vs instr.One e = absurd (cc)
-pushed p unit m c j vs (instr.Truth b) e = absurd (cc)
-pushed p unit m c j vs (instr.Place slot) e = absurd (cc)
-pushed p unit m c j vs (instr.Load slot) e = ap (λ r. answered 0 r (at j vs m)) (value_is (read_to m.cells.items (extent_at m slot).first) c e)
-pushed p unit m c j vs instr.Value e = absurd (cc)
-pushed p unit m c j vs instr.Negate e = absurd (cc)
-pushed p unit m c j vs (instr.Raise n) e = absurd (cc)
-pushed p unit m c j vs (instr.Operation o) e = absurd (cc)
-pushed p unit m c j vs (instr.Comparison o) e = absurd (cc)
-pushed p unit m c j vs instr.Negation e = absurd (cc)
-pushed p unit m c j vs (instr.SkipFalse k) e = absurd (cc)
-pushed p unit m c j vs instr.Both e = absurd (cc)
-pushed p unit m c j vs (instr.SkipTrue k) e = absurd (cc)
-pushed p unit m c j vs instr.Either e = absurd (cc)
-pushed p unit m c j vs (instr.BuiltIn f n) e = absurd (cc)
-pushed p unit m c j vs instr.Forget e = absurd (cc)
-pushed p unit m c j vs instr.Assigned e = absurd (cc)
-pushed p unit m c j vs (instr.Array slot n) e = absurd (cc)
-pushed p unit m c j vs (instr.Tests card place) e = absurd (cc)
-pushed p unit m c j vs (instr.Jump q) e = absurd (cc)
-pushed p unit m c j vs instr.Turn e = absurd (cc)
-pushed p unit m c j vs (instr.Signs place) e = absurd (cc)
-pushed p unit m c j vs (instr.Ways q r) e = absurd (cc)
-pushed p unit m c j vs (instr.Choose place n) e = absurd (cc)
-pushed p unit m c j vs (instr.BeginDo slot q) e = absurd (cc)
-pushed p unit m c j vs instr.ResultOf e = absurd (cc)
-pushed p unit m c j vs instr.Stop e = absurd (cc)
-pushed p unit m c j vs (instr.Refer place) e = absurd (cc)
-pushed p unit m c j vs (instr.Go card q) e = absurd (cc)
-
--- what a sum is made of
-record IsSum (s : Setting) (a b i : Instr) (m : State) (c : Cell) : Type 0 where
-  sign : BinOp
-  left : Cell
-  right : Cell
-  is : i ≡ instr.Operation sign
-  left_is : operand_to s a m ≡ Some left
-  right_is : operand_to s b m ≡ Some right
-  made : operated_to s.bounds sign left right ≡ Ok c
-
-plain_is : (b : Bounds) (sign : BinOp) (v w c : Cell) → plain_to b sign v w ≡ Some c → operated_to b sign v w ≡ Ok c
-plain_is b op.Add v w c e = value_is (operated_to b op.Add v w) c e
-plain_is b op.Sub v w c e = value_is (operated_to b op.Sub v w) c e
-plain_is b op.Mul v w c e = absurd (cc)
-plain_is b op.Div v w c e = absurd (cc)
-
-sum_by : (s : Setting) (a b : Instr) (m : State) (c : Cell) (sign : BinOp) (v w : Option Cell) → operand_to s a m ≡ v → operand_to s b m ≡ w
-    → made_of s.bounds sign v w ≡ Some c → IsSum s a b (instr.Operation sign) m c
-sum_by s a b m c sign (Some v) (Some w) av bw e =
-    record { sign = sign; left = v; right = w; is = refl; left_is = av; right_is = bw; made = plain_is s.bounds sign v w c e }
-sum_by s a b m c sign (Some v) None av bw e = absurd (cc)
-sum_by s a b m c sign None w av bw e = absurd (cc)
-
-sum_is : (s : Setting) (a b : Instr) (m : State) (c : Cell) (i : Instr) → sum_to s a b i m ≡ Some c → IsSum s a b i m c
-sum_is s x y m c (instr.Number n) e = absurd (cc)
-sum_is s x y m c instr.One e = absurd (cc)
-sum_is s x y m c (instr.Truth b) e = absurd (cc)
-sum_is s x y m c (instr.Place slot) e = absurd (cc)
-sum_is s x y m c (instr.Load slot) e = absurd (cc)
-sum_is s x y m c instr.Value e = absurd (cc)
-sum_is s x y m c instr.Negate e = absurd (cc)
-sum_is s x y m c (instr.Raise n) e = absurd (cc)
-sum_is s x y m c (instr.Operation o) e = sum_by s x y m c o (operand_to s x m) (operand_to s y m) refl refl e
-sum_is s x y m c (instr.Comparison o) e = absurd (cc)
-sum_is s x y m c instr.Negation e = absurd (cc)
-sum_is s x y m c (instr.SkipFalse k) e = absurd (cc)
-sum_is s x y m c instr.Both e = absurd (cc)
-sum_is s x y m c (instr.SkipTrue k) e = absurd (cc)
-sum_is s x y m c instr.Either e = absurd (cc)
-sum_is s x y m c (instr.BuiltIn f n) e = absurd (cc)
-sum_is s x y m c instr.Forget e = absurd (cc)
-sum_is s x y m c instr.Assigned e = absurd (cc)
-sum_is s x y m c (instr.Array slot n) e = absurd (cc)
-sum_is s x y m c (instr.Tests card place) e = absurd (cc)
-sum_is s x y m c (instr.Jump q) e = absurd (cc)
-sum_is s x y m c instr.Turn e = absurd (cc)
-sum_is s x y m c (instr.Signs place) e = absurd (cc)
-sum_is s x y m c (instr.Ways q r) e = absurd (cc)
-sum_is s x y m c (instr.Choose place n) e = absurd (cc)
-sum_is s x y m c (instr.BeginDo slot q) e = absurd (cc)
-sum_is s x y m c instr.ResultOf e = absurd (cc)
-sum_is s x y m c instr.Stop e = absurd (cc)
-sum_is s x y m c (instr.Refer place) e = absurd (cc)
-sum_is s x y m c (instr.Go card q) e = absurd (cc)
+-- an operand puts its number behind the others
+pushed : (p : Program) (unit : UnitCode) (m : State) (n : ℤ) (i : Instr) → IsOperand p.setting.now.bounds (first_of m) m.cells.items i n → (k : ℕ) (vs : List Item)
+    → obeyed p unit i (at k vs m) ≡ at k (Fresh (Int n) ∷ vs) m
+pushed p unit m x (instr.Number number) e k vs = ap (λ r. answered 0 r (at k vs m)) e
+pushed p unit m x instr.One e j vs = absurd e
+pushed p unit m x (instr.Truth b) e j vs = absurd e
+pushed p unit m x (instr.Place slot) e j vs = absurd e
+pushed p unit m x (instr.Load slot) e k vs = ap (λ r. answered 0 r (at k vs m)) e
+pushed p unit m x instr.Value e j vs = absurd e
+pushed p unit m x instr.Negate e j vs = absurd e
+pushed p unit m x (instr.Raise n) e j vs = absurd e
+pushed p unit m x (instr.Operation o) e j vs = absurd e
+pushed p unit m x (instr.Comparison o) e j vs = absurd e
+pushed p unit m x instr.Negation e j vs = absurd e
+pushed p unit m x (instr.SkipFalse k) e j vs = absurd e
+pushed p unit m x instr.Both e j vs = absurd e
+pushed p unit m x (instr.SkipTrue k) e j vs = absurd e
+pushed p unit m x instr.Either e j vs = absurd e
+pushed p unit m x (instr.BuiltIn f n) e j vs = absurd e
+pushed p unit m x instr.Forget e j vs = absurd e
+pushed p unit m x instr.Assigned e j vs = absurd e
+pushed p unit m x (instr.Array slot n) e j vs = absurd e
+pushed p unit m x (instr.Tests card place) e j vs = absurd e
+pushed p unit m x (instr.Jump q) e j vs = absurd e
+pushed p unit m x instr.Turn e j vs = absurd e
+pushed p unit m x (instr.Signs place) e j vs = absurd e
+pushed p unit m x (instr.Ways q r) e j vs = absurd e
+pushed p unit m x (instr.Choose place n) e j vs = absurd e
+pushed p unit m x (instr.BeginDo slot q) e j vs = absurd e
+pushed p unit m x instr.ResultOf e j vs = absurd e
+pushed p unit m x instr.Stop e j vs = absurd e
+pushed p unit m x (instr.Refer place) e j vs = absurd e
+pushed p unit m x (instr.Go card q) e j vs = absurd e
 
 slot_is : (slot : ℕ) (i : Instr) → slot_of i ≡ Some slot → i ≡ instr.Place slot
 slot_is j (instr.Number n) e = absurd (cc)
@@ -201,39 +140,42 @@ module _ (p : Program) (m : State) (can : CanWork p m) (e : m.stage ≡ stage.In
       → IsActed p (at k (Cells (extent_at m slot) ∷ Fresh c ∷ vs) m) (with_cells (store m.cells.items (extent_at m slot).first c) (at (k + 1) vs m))
   last_done k slot c vs now within stands = does_its_work p (at k (Cells (extent_at m slot) ∷ Fresh c ∷ vs) m) now e within near instr.Assigned unit there stands
 
-  module _ (a b i t s : Instr) (k slot : ℕ) (c : Cell) (at_place : m.frame.place ≡ k) (within : k + 5 ≤ m.frame.stop)
-      (one : slice_get unit.instrs k ≡ Some a) (two : slice_get unit.instrs (k + 1) ≡ Some b) (three : slice_get unit.instrs (k + 2) ≡ Some i)
-      (four : slice_get unit.instrs (k + 3) ≡ Some t) (five : slice_get unit.instrs (k + 4) ≡ Some s) (slot_told : slot_of t ≡ Some slot)
-      (assigns : is_assignment s ≡ true) (sums : sum_to p.setting.now a b i m ≡ Some c) where
+  module _ (k : ℕ) (done : Assigned) (at_place : m.frame.place ≡ k) (within : k + 5 ≤ m.frame.stop) (s : IsSumIn p.setting.now.bounds (first_of m) m.cells.items unit k done) where
     abbrev vs : List Item
     vs = m.values.items
 
-    abbrev is_sum : IsSum p.setting.now a b i m c
-    is_sum = sum_is p.setting.now a b m c i sums
+    abbrev slot : ℕ
+    slot = done.slot
+
+    abbrev c : Cell
+    c = Int done.number
+
+    abbrev sums : IsSumOf p.setting.now.bounds (first_of m) m.cells.items s.a s.b s.sign done.number
+    sums = s.sums
 
     abbrev left : Cell
-    left = is_sum.left
+    left = Int sums.left
 
     abbrev right : Cell
-    right = is_sum.right
+    right = Int sums.right
 
     here : at k vs m ≡ m
     here = ap (λ k. at k vs m) (sym at_place)
 
     first_done : IsActed p (at k vs m) (at (k + 1) (Fresh left ∷ vs) m)
-    first_done = one_done k vs (Fresh left ∷ vs) a (subst (CanWork p) (sym here) can) (omega arith) one (pushed p unit m left (k + 1) vs a is_sum.left_is)
+    first_done = one_done k vs (Fresh left ∷ vs) s.a (subst (CanWork p) (sym here) can) (omega arith) s.first_is (pushed p unit m sums.left s.a sums.left_is (k + 1) vs)
 
     second_done : IsActed p (at k vs m) (at (k + 2) (Fresh right ∷ Fresh left ∷ vs) m)
     second_done =
         let same : k + 1 + 1 ≡ k + 2 = omega arith in
         acted_then p (at k vs m) (at (k + 1) (Fresh left ∷ vs) m) (at (k + 2) (Fresh right ∷ Fresh left ∷ vs) m) first_done refl
         (subst (λ j. IsActed p (at (k + 1) (Fresh left ∷ vs) m) (at j (Fresh right ∷ Fresh left ∷ vs) m)) same
-        (one_done (k + 1) (Fresh left ∷ vs) (Fresh right ∷ Fresh left ∷ vs) b first_done.0.1 (omega arith) two (pushed p unit m right (k + 1 + 1) (Fresh left ∷ vs) b is_sum.right_is)))
+        (one_done (k + 1) (Fresh left ∷ vs) (Fresh right ∷ Fresh left ∷ vs) s.b first_done.0.1 (omega arith) s.second_is (pushed p unit m sums.right s.b sums.right_is (k + 1 + 1) (Fresh left ∷ vs))))
 
-    added : obeyed p unit i (at (k + 2 + 1) (Fresh right ∷ Fresh left ∷ vs) m) ≡ at (k + 2 + 1) (Fresh c ∷ vs) m
+    added : obeyed p unit s.sign (at (k + 2 + 1) (Fresh right ∷ Fresh left ∷ vs) m) ≡ at (k + 2 + 1) (Fresh c ∷ vs) m
     added =
-        ap (λ j. obeyed p unit j (at (k + 2 + 1) (Fresh right ∷ Fresh left ∷ vs) m)) is_sum.is
-        ∙ ap (λ r. answered 2 r (at (k + 2 + 1) (Fresh right ∷ Fresh left ∷ vs) m)) (operated_so is_sum.sign is_sum.made)
+        ap (λ j. obeyed p unit j (at (k + 2 + 1) (Fresh right ∷ Fresh left ∷ vs) m)) sums.is
+        ∙ ap (λ r. answered 2 r (at (k + 2 + 1) (Fresh right ∷ Fresh left ∷ vs) m)) (operated_so sums.sign sums.made)
       where
         operated_so : (o : BinOp) → operated_to p.setting.now.bounds o left right ≡ Ok c → operated_to p.setting.now.bounds o left right ≡ Ok c
         operated_so o e = e
@@ -243,24 +185,23 @@ module _ (p : Program) (m : State) (can : CanWork p m) (e : m.stage ≡ stage.In
         let same : k + 2 + 1 ≡ k + 3 = omega arith in
         acted_then p (at k vs m) (at (k + 2) (Fresh right ∷ Fresh left ∷ vs) m) (at (k + 3) (Fresh c ∷ vs) m) second_done refl
         (subst (λ j. IsActed p (at (k + 2) (Fresh right ∷ Fresh left ∷ vs) m) (at j (Fresh c ∷ vs) m)) same
-        (one_done (k + 2) (Fresh right ∷ Fresh left ∷ vs) (Fresh c ∷ vs) i second_done.0.1 (omega arith) three added))
+        (one_done (k + 2) (Fresh right ∷ Fresh left ∷ vs) (Fresh c ∷ vs) s.sign second_done.0.1 (omega arith) s.third_is added))
 
     fourth_done : IsActed p (at k vs m) (at (k + 4) (Cells (extent_at m slot) ∷ Fresh c ∷ vs) m)
     fourth_done =
         let same : k + 3 + 1 ≡ k + 4 = omega arith in
         acted_then p (at k vs m) (at (k + 3) (Fresh c ∷ vs) m) (at (k + 4) (Cells (extent_at m slot) ∷ Fresh c ∷ vs) m) third_done refl
         (subst (λ j. IsActed p (at (k + 3) (Fresh c ∷ vs) m) (at j (Cells (extent_at m slot) ∷ Fresh c ∷ vs) m)) same
-        (one_done (k + 3) (Fresh c ∷ vs) (Cells (extent_at m slot) ∷ Fresh c ∷ vs) t third_done.0.1 (omega arith) four
-        (ap (λ j. obeyed p unit j (at (k + 3 + 1) (Fresh c ∷ vs) m)) (slot_is slot t slot_told))))
+        (one_done (k + 3) (Fresh c ∷ vs) (Cells (extent_at m slot) ∷ Fresh c ∷ vs) s.taken third_done.0.1 (omega arith) s.fourth_is
+        (ap (λ j. obeyed p unit j (at (k + 3 + 1) (Fresh c ∷ vs) m)) (slot_is slot s.taken s.slot_is))))
 
     all_done : IsActed p (at k vs m) (assigned_at slot c (k + 5) m)
     all_done =
         let same : k + 4 + 1 ≡ k + 5 = omega arith in
         acted_then p (at k vs m) (at (k + 4) (Cells (extent_at m slot) ∷ Fresh c ∷ vs) m) (assigned_at slot c (k + 5) m) fourth_done refl
         (subst (λ j. IsActed p (at (k + 4) (Cells (extent_at m slot) ∷ Fresh c ∷ vs) m) (assigned_at slot c j m)) same
-        (last_done (k + 4) slot c vs fourth_done.0.1 (omega arith) (five ∙ ap Some (assignment_is s assigns))))
+        (last_done (k + 4) slot c vs fourth_done.0.1 (omega arith) (s.fifth_is ∙ ap Some (assignment_is s.last s.assigns))))
 
-    pub sum_assigned : MayAct true p m (assigned_at slot c (k + 5) m)
-    sum_assigned =
-        let done : IsActed p m (assigned_at slot c (k + 5) m) = subst (λ x. IsActed p x (assigned_at slot c (k + 5) m)) here all_done in
-        (done.0.0, done.0.1, done.1)
+    -- the five instructions do together what the assignment does
+    pub sum_assigned : IsActed p m (assigned_at slot c (k + 5) m)
+    sum_assigned = subst (λ x. IsActed p x (assigned_at slot c (k + 5) m)) here all_done

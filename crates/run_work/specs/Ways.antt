@@ -5,7 +5,7 @@ use Rattle.fort_model.specs.Storage.{Storage}
 use Rattle.run_frames.specs.Configs.{Config}
 use Rattle.run_shapes.specs.Coded.{IsCodeOf}
 use Rattle.run_shapes.specs.declared.unit_code.Code.{Code}
-use Rattle.run_state.specs.Rests.{GoesOn, HasGone, is_over_in}
+use Rattle.run_state.specs.Rests.{GoesOn, HasGone, IsSettled, is_over_in}
 use Rattle.run_state.specs.Shows.{World, IsWorldOf, Shows}
 use Rattle.run_state.specs.declared.machine.Setting.{Setting}
 use Rattle.run_state.specs.declared.machine.Stage.{Stage}
@@ -44,6 +44,24 @@ module _ (units : List Routine) (code : Code) (setting : Setting) where
   abbrev pub WentOf : ℕ → State → State → Type 0
   WentOf k old new = (w : World) → IsWorldOf code setting w → w.units ≡ units → (c : Config) (st : Storage)
       → Shows w code old c st → HasGone w code c st new k
+
+-- a step that keeps the room
+abbrev pub IsTaken : Program → State → State → Type 0
+IsTaken p old new = SteppedOf p.units.now p.code.now p.setting.now old new × CanWork p new
+
+-- a step was taken, and all work up to where one more is wanted was done
+abbrev pub IsTakenOn : Program → State → State → Type 0
+IsTakenOn p old new = WentOf p.units.now p.code.now p.setting.now 1 old new × CanWork p new × IsSettled p.code.now new
+
+-- it was, or the run is over
+abbrev pub MayTake : Bool → Program → State → State → Type 0
+MayTake true p old new = IsTakenOn p old new
+MayTake false p old new = (new ≡ old) × IsTrue (is_over_in old.stage)
+
+-- it was, or nothing was done
+abbrev pub MayTakeSoon : Bool → Program → State → State → Type 0
+MayTakeSoon true p old new = IsTakenOn p old new
+MayTakeSoon false p old new = new ≡ old
 
 -- a step, where one was wanted
 abbrev pub MayStepOf : Bool → List Routine → Code → Setting → State → State → Type 0

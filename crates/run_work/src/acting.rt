@@ -4,7 +4,6 @@ ghost use Rattle.run_state.specs.Rests.{Works};
 ghost use Rattle.run_state.specs.declared.machine.Stage.TheVariants as stage;
 ghost use Rattle.run_work.specs.Ways.{CanWork, Stays, is_inside};
 
-use crate::at_once::assign_sum;
 use crate::obeying::obey;
 use crate::program::Program;
 use run_shapes::{Instr, UnitCode};
@@ -59,21 +58,6 @@ fn is_inside(m: &State) -> bool
     }
 }
 
-/// Does the assignment of a sum, or else what stands next in a statement of a unit.
-#[inline(always)]
-fn act_first(m: &mut State, p: &Program<'_>, unit: &UnitCode)
-    requires can { CanWork p.now m.old }
-    requires inside { m.old.stage ≡ stage.Inside }
-    requires coded { slice_get p.now.code.now.units m.old.frame.unit ≡ Some unit.now }
-    ensures works { Works p.now.code.now p.now.setting.now m.old m.new }
-    ensures can { CanWork p.now m.new }
-    ensures stays { Stays m.old m.new }
-{
-    if !assign_sum(m, p, unit) {
-        act_next(m, p, unit);
-    }
-}
-
 /// Works in a statement of a unit, up to a call, to a step or to its end.
 pub(crate) fn act_on(m: &mut State, p: &Program<'_>, unit: &UnitCode)
     requires can { CanWork p.now m.old }
@@ -82,7 +66,7 @@ pub(crate) fn act_on(m: &mut State, p: &Program<'_>, unit: &UnitCode)
     ensures works { Works p.now.code.now p.now.setting.now m.old m.new }
     ensures can { CanWork p.now m.new }
 {
-    act_first(m, p, unit);
+    act_next(m, p, unit);
     while is_inside(m) {
         act_next(m, p, unit);
     }

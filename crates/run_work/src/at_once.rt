@@ -1,77 +1,31 @@
-// Assignments of sums and differences, whose instructions are done at once.
-ghost use Rattle.std.specs.Prelude.{◌≡◌, None, Some, MatchOption, slice_get};
-ghost use Rattle.run_state.specs.declared.machine.Stage.TheVariants as stage;
-ghost use Rattle.run_work.specs.AtOnce.{MayAct, assigned_at, is_assignment, made_of, operand_to, plain_to, slot_of, sum_to, value_of};
+// Statements that are done at once.
+ghost use Rattle.std.specs.Prelude.{◌≡◌, ◌+◌, ◌<◌, ◌≤◌, ◌^◌, IfSome, Some, length, slice_get};
+ghost use Rattle.formula.specs.declared.value.Cell.TheVariants.{Int};
+ghost use Rattle.run_ranks.specs.Laws.{line_begun};
+ghost use Rattle.run_work.specs.AtOnce.{IsSumIn, MayWorkOn, assigned_at, first_of, is_assignment, line_of, slot_of};
 ghost use Rattle.run_work.specs.Ways.{CanWork};
 
+use crate::operands::sum;
 use crate::program::Program;
-use crate::quick::{added, taken_off};
+use crate::ways::{follow, way_in};
 use fort_model::Bounds;
-use fort_syntax::{BinOp, Kind};
-use run_elements::read;
-use run_held::{Held, constant};
+use run_held::Held;
 use run_shapes::{Instr, UnitCode};
-use run_state::{Setting, State};
+use run_state::{Stage, State};
 
-/// A value, where there is no error.
-#[inline(always)]
-fn value_of(value: Result<Held, Kind>) -> Option<Held>
-    ensures { result ≡ value_of value }
-{
-    match value {
-        Ok(held) => Some(held),
-        Err(_) => None,
-    }
+/// A statement: its card, and where its instructions stand among those of its unit.
+#[derive(Clone, Copy, Debug)]
+pub(crate) struct Piece {
+    pub card: usize,
+    pub start: usize,
+    pub stop: usize,
 }
 
-/// The value that a constant or a defined name puts behind the others.
-#[inline(always)]
-fn operand(m: &State, setting: &Setting, instr: &Instr) -> Option<Held>
-    ensures { result ≡ operand_to setting.now instr.now m.now }
-{
-    match *instr {
-        Instr::Load(slot) => value_of(read(&m.cells, m.extent(slot).first)),
-        Instr::Number(number) => value_of(constant(setting.bounds, number)),
-        _ => None,
-    }
-}
-
-/// A sum or a difference, where it is no error.
-#[inline(always)]
-fn plain(bounds: Bounds, sign: BinOp, left: &Held, right: &Held) -> Option<Held>
-    ensures { result ≡ plain_to bounds sign left.now right.now }
-{
-    match sign {
-        BinOp::Add => value_of(added(bounds, left.num(), right.num())),
-        BinOp::Sub => value_of(taken_off(bounds, left.num(), right.num())),
-        _ => None,
-    }
-}
-
-/// What an operator makes so of two operands.
-#[inline(always)]
-fn made_of(m: &State, setting: &Setting, sign: BinOp, a: &Instr, b: &Instr) -> Option<Held>
-    ensures { result ≡ made_of setting.now.bounds sign (operand_to setting.now a.now m.now)
-        (operand_to setting.now b.now m.now) }
-{
-    let Some(left) = operand(m, setting, a) else {
-        return None;
-    };
-    let Some(right) = operand(m, setting, b) else {
-        return None;
-    };
-    plain(setting.bounds, sign, &left, &right)
-}
-
-/// The value that two operands and an operator put behind the others.
-#[inline(always)]
-fn sum(m: &State, setting: &Setting, a: &Instr, b: &Instr, sign: &Instr) -> Option<Held>
-    ensures { result ≡ sum_to setting.now a.now b.now sign.now m.now }
-{
-    match *sign {
-        Instr::Operation(sign) => made_of(m, setting, sign, a, b),
-        _ => None,
-    }
+/// A slot and the number that its name gets.
+#[derive(Clone, Copy, Debug)]
+pub(crate) struct Assigned {
+    pub slot: usize,
+    pub number: i64,
 }
 
 /// The slot of the name whose cells are taken.
@@ -96,64 +50,70 @@ fn is_assignment(instr: &Instr) -> bool
     }
 }
 
-/// A name gets a value, and the flow goes on at an instruction.
-#[inline(always)]
-fn assign_at(m: &mut State, slot: usize, value: Held, place: usize)
-    ensures { m.new ≡ assigned_at slot value place m.old }
-{
-    let extent = m.extent(slot);
-    m.cells.store(extent.first, value);
-    m.frame.place = place;
-}
-
 /// An instruction of a unit.
 #[inline(always)]
-fn instr_at<'a>(unit: &'a UnitCode, place: usize) -> Option<&'a Instr>
-    ensures { MatchOption result (slice_get unit.now.instrs place ≡ None)
-        (λ instr. slice_get unit.now.instrs place ≡ Some instr.now) }
+pub(crate) fn instr_in<'a>(unit: &'a UnitCode, place: usize) -> &'a Instr
+    requires { place < length unit.now.instrs }
+    ensures { slice_get unit.now.instrs place ≡ Some result.now }
 {
-    match unit.instrs.as_slice().get(place) {
+    &unit.instrs.as_slice()[place]
+}
+
+/// What the assignment of a sum or difference assigns that stands at a place, where it makes no error.
+#[inline(always)]
+fn sum_at(m: &State, bounds: Bounds, unit: &UnitCode, place: usize) -> Option<Assigned>
+    requires within { place + 5 < length unit.now.instrs }
+    requires near { place + 5 < 2 ^ 64 }
+    ensures { IfSome result (IsSumIn bounds (first_of m.now) m.now.cells.items unit.now place) }
+{
+    if !is_assignment(instr_in(unit, place + 4)) {
+        return None;
+    }
+    let Some(slot) = slot_of(instr_in(unit, place + 3)) else {
+        return None;
+    };
+    let a = instr_in(unit, place);
+    let b = instr_in(unit, place + 1);
+    let sign = instr_in(unit, place + 2);
+    match sum(m, bounds, a, b, sign) {
+        Some(number) => Some(Assigned { slot, number }),
         None => None,
-        Some(instr) => Some(instr),
     }
 }
 
-/// Does the assignment of a sum or difference where one stands next that makes no error. It tells whether one did.
+/// A statement begins, and its assignment is done.
 #[inline(always)]
-pub(crate) fn assign_sum(m: &mut State, p: &Program<'_>, unit: &UnitCode) -> bool
-    requires can { CanWork p.now m.old }
-    requires inside { m.old.stage ≡ stage.Inside }
-    requires coded { slice_get p.now.code.now.units m.old.frame.unit ≡ Some unit.now }
-    ensures { MayAct result p.now m.old m.new }
+fn assign(m: &mut State, piece: Piece, done: Assigned)
+    requires { piece.start + 5 < 2 ^ 64 }
+    ensures { m.new ≡ assigned_at done.slot (Int done.number) (piece.start + 5) (line_begun (line_of piece) m.old) }
 {
-    let place = m.frame.place;
-    if m.frame.stop.saturating_sub(place) < 5 {
+    let first = m.extent(done.slot).first;
+    m.cells.store(first, Held::int(done.number));
+    m.stage = Stage::Inside;
+    m.frame.place = piece.start + 5;
+    m.frame.stop = piece.stop;
+    m.frame.card = piece.card;
+}
+
+/// Does the statement that begins, where it is the assignment of a sum or difference behind which a step is wanted. It tells whether it is.
+#[inline(always)]
+pub(crate) fn sum_done(m: &mut State, p: &Program<'_>, unit: &UnitCode, piece: Piece) -> bool
+    requires can { CanWork p.now (line_begun (line_of piece) m.old) }
+    requires long { piece.start + 6 ≤ piece.stop }
+    requires coded { slice_get p.now.code.now.units m.old.frame.unit ≡ Some unit.now }
+    ensures { MayWorkOn result p.now (line_begun (line_of piece) m.old) m.old m.new }
+{
+    let start = piece.start;
+    if unit.instrs.as_slice().len().saturating_sub(start) < 6 {
         return false;
     }
-    let Some(a) = instr_at(unit, place) else {
+    let Some(done) = sum_at(m, p.setting.bounds, unit, start) else {
         return false;
     };
-    let Some(b) = instr_at(unit, place + 1) else {
+    let Some(way) = way_in(unit, instr_in(unit, start + 5)) else {
         return false;
     };
-    let Some(sign) = instr_at(unit, place + 2) else {
-        return false;
-    };
-    let Some(taken) = instr_at(unit, place + 3) else {
-        return false;
-    };
-    let Some(assigned) = instr_at(unit, place + 4) else {
-        return false;
-    };
-    let Some(slot) = slot_of(taken) else {
-        return false;
-    };
-    if !is_assignment(assigned) {
-        return false;
-    }
-    let Some(value) = sum(m, p.setting, a, b, sign) else {
-        return false;
-    };
-    assign_at(m, slot, value, place + 5);
+    assign(m, piece, done);
+    follow(m, way);
     true
 }

@@ -4,10 +4,14 @@
 mod acting;
 mod at_once;
 mod obeying;
+mod operands;
 mod proceeding;
 mod program;
 mod quick;
+mod rounds;
 mod stepping;
+mod taking;
+mod ways;
 mod working;
 
 pub use proceeding::proceed;

@@ -3,7 +3,7 @@ ghost use Rattle.run_state.specs.Rests.{IsSettled, Tells};
 ghost use Rattle.run_work.specs.Ways.{CanWork, WentOf};
 
 use crate::program::Program;
-use crate::stepping::step;
+use crate::taking::take;
 use crate::working::settle;
 use run_state::State;
 
@@ -16,10 +16,9 @@ fn take_steps(m: &mut State, p: &Program<'_>, steps: u64)
     ensures settled { IsSettled p.now.code.now m.new }
 {
     for _ in 0..steps {
-        if !step(m, p) {
+        if !take(m, p) {
             break;
         }
-        settle(m, p);
     }
 }
 

@@ -43,7 +43,7 @@ pub(crate) fn number(m: &mut State, setting: &Setting, number: u64)
 
 /// A sum.
 #[inline(always)]
-pub(crate) fn added(bounds: Bounds, a: i64, b: i64) -> Result<Held, Kind>
+fn added(bounds: Bounds, a: i64, b: i64) -> Result<Held, Kind>
     ensures { result ≡ ranged_to bounds (a +ℤ b) }
 {
     ranged(bounds, i128::from(a) + i128::from(b))
@@ -51,7 +51,7 @@ pub(crate) fn added(bounds: Bounds, a: i64, b: i64) -> Result<Held, Kind>
 
 /// A difference.
 #[inline(always)]
-pub(crate) fn taken_off(bounds: Bounds, a: i64, b: i64) -> Result<Held, Kind>
+fn taken_off(bounds: Bounds, a: i64, b: i64) -> Result<Held, Kind>
     ensures { result ≡ ranged_to bounds (a -ℤ b) }
 {
     ranged(bounds, i128::from(a) - i128::from(b))
