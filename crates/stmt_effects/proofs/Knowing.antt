@@ -129,3 +129,11 @@ told_more nodes s known pc line k is card does h n x other at there =
     (λ m l i. tt)
     (λ l i. let same : line ≡ l = cc in subst (λ (l : Line). IsKnown nodes s l k.card k.effect) same (known_as nodes s line k.card k.effect card does))
     n x at other there
+
+-- what was found out of a statement is kept
+pub known_more : (old new : List Node) (s : Setting) (table : List Name) (e : Effects) (all : List Known) (order : Order) (pc : ℕ) (line : Line) (k : Known) → Grows old new
+    → slice_get s.book.now.unit.now.lines pc ≡ Some line → k.card ≡ line.card → HasEffect new s line.stmt k.effect → all ≡ kept_at e.known.items pc k
+    → (IsOrder s.book.now.unit.now.names table e.order → IsOrder s.book.now.unit.now.names table order) → AreKnown old s table e
+    → AreTold new s all × IsOrder s.book.now.unit.now.names table order
+known_more old new s table e all order pc line k g is card does kept stays h =
+    (subst (λ (known : List Known). AreTold new s known) (sym kept) (told_more new s e.known.items pc line k is card does (told_grows old new s e.known.items g h.told)), stays h.order)
