@@ -1,7 +1,8 @@
 -- A walk at a start, and at the end of a way.
-use Rattle.std.proofs.Common.{◌≡◌, ℕ, Option, List, [], ◌∷◌, ◌++◌, refl, sym, ap, ◌∙◌, subst}
+use Rattle.std.proofs.Common.{◌≡◌, ℕ, Option, None, List, [], ◌∷◌, ◌++◌, length, refl, sym, ap, ◌∙◌, subst}
 use Rattle.formula.specs.Tree.{Tree}
 use Rattle.formula.specs.declared.node.Node.{Node}
+use Rattle.formula.proofs.Grown.{Grows-trans}
 use Rattle.fort_model.specs.Conditions.{sight}
 use Rattle.fort_model.specs.Events.{Event}
 use Rattle.fort_model.specs.Paths.{cut_at}
@@ -12,9 +13,14 @@ use Rattle.fort_model.specs.Walk.{arrive, at_entry, entry_facts, notes_here}
 use Rattle.fort_syntax.specs.declared.unit.Unit.{Unit as Routine}
 use Rattle.path_cut.specs.declared.step.Step.{Step}
 use Rattle.path_ends.proofs.Checked.{met_same}
+use Rattle.path_ends.specs.Ends.{IsClockIn, clock_trees}
 use Rattle.path_ends.specs.declared.clock.Clock.{Clock}
 use Rattle.path_fronts.proofs.Carrying.{GoesOn, ready_before}
+use Rattle.stmt_effects.proofs.Knowing.{known_unasked, told_grows, told_nothing}
 use Rattle.path_fronts.proofs.Leading.{leads_first, nothing_on}
+use Rattle.stmt_effects.specs.Effects.{AreTold}
+use Rattle.stmt_effects.specs.declared.effects.Effects.{Effects}
+use Rattle.stmt_effects.specs.declared.effects.Order.TheVariants.{Unasked}
 use Rattle.path_fronts.specs.Fronts.{AreCounted, AreMarks, ArePlaces, IsFront, Leads, Reaches, set_out_at, total}
 use Rattle.path_fronts.specs.declared.front.Front.{Front}
 use Rattle.path_fronts.specs.declared.front.Mark.{Mark}
@@ -27,24 +33,49 @@ use Rattle.path_starts.specs.Starts.{begun_with}
 use Rattle.path_fronts.proofs.Stepped.{arrived_events, events_along}
 use Rattle.path_fronts.specs.Steps.{HasStart, behind}
 use Rattle.walk_setting.specs.Settings.{seen_from}
-use Rattle.walk_state.specs.Moments.{Did, Follows, Moment, at_first, moment}
+use Rattle.walk_setting.specs.declared.setting.Setting.{Setting}
+use Rattle.walk_state.specs.Moments.{Did, Follows, IsWalk, Moment, at_first, moment}
 use Rattle.way_walks.specs.Along.{along, gone, stops}
 
-abbrev pub front_of : Begun → Option Clock → List Mark → ℕ → Front
-front_of b clock marks start = record { walk = b.walk; entry = b.entry; clock = clock; marks = marks; start = start }
+abbrev pub unasked : Effects → Effects
+unasked e = record { known = e.known; order = Unasked }
+
+abbrev pub front_of : Begun → Option Clock → List Mark → Effects → ℕ → Front
+front_of b clock marks e start = record { walk = b.walk; entry = b.entry; clock = clock; marks = marks; effects = unasked e; start = start }
+
+-- a walk that has no mark, of whose unit nothing is known
+pub new_front : (f : Front) → IsWalk f.walk → f.clock ≡ None → f.marks ≡ [] → f.start ≡ 0 → f.effects.known.items ≡ [] → f.effects.order ≡ Unasked → (s : Setting) (steps : List Step) (bound : ℕ)
+    → IsFront s steps bound f
+new_front f well clock marks start known order s steps bound = record {
+  well = well;
+  clock = subst (λ (o : Option Clock). IsClockIn (length f.walk.pool) o) (sym clock) tt;
+  known = known_unasked f.walk.pool s f.walk.names.table f.effects (told_nothing f.walk.pool s f.effects.known.items known) order;
+  places = subst (λ (ms : List Mark). ArePlaces steps bound ms) (sym marks) tt;
+  counted = subst (λ (ms : List Mark). AreCounted f.walk.pool ms) (sym marks) tt;
+  told = λ mark more e. no_marks mark more (sym marks ∙ e);
+  parts = λ p r. (λ i. clock_trees f.walk.pool (clock i)) ∙ (λ i. clock_from (seen_from s p) (sym start i));
+  marked = λ p r.
+      let w = seen_from s p in
+      subst (λ (ms : List Mark). AreMarks w (set_out_at w f.start) steps (moment f.walk).past (moment f.walk).events ms) (sym marks) tt;
+}
+  where
+    no_marks : {A : Type 0} (mark : Mark) (more : List Mark) → [] ≡ mark ∷ more → A
+    no_marks mark more e = absurd (cc)
 
 module _ (plan : Plan) (pool : List Node) (start : ℕ) (b0 b1 : Begun) (clock : Option Clock) (marks : List Mark) (none : marks ≡ []) (begun : HasBegun plan pool b0) (on : Follows b0.walk b1.walk)
-    (sets : Sets plan start b0.walk b1 clock) (ready : (p : Program) × IsReady pool plan.setting.now.scene.now p) where
+    (sets : Sets plan start b0.walk b1 clock) (ready : (p : Program) × IsReady pool plan.setting.now.scene.now p) (e : Effects) (known : AreTold pool plan.setting.now e.known.items) where
   ready_there : IsReady b0.walk.pool plan.setting.now.scene.now ready.0
   ready_there = ready_stays pool b0.walk.pool begun.grows plan.setting.now.scene.now ready.0 ready.1
 
   ready_back : (p : Program) → IsReady b1.walk.pool plan.setting.now.scene.now p → IsReady b0.walk.pool plan.setting.now.scene.now p
   ready_back p r = ready_before b0.walk.pool b1.walk.pool on.grows plan.setting.now.scene.now ready.0 p ready_there r
 
-  pub begun_front : (steps : List Step) → IsFront plan.setting.now steps 0 (front_of b1 clock marks start)
+  pub begun_front : (steps : List Step) → IsFront plan.setting.now steps 0 (front_of b1 clock marks e start)
   begun_front steps = record {
     well = on.kept;
     clock = sets.inside;
+    known = known_unasked b1.walk.pool plan.setting.now b1.walk.names.table (unasked e)
+        (told_grows pool b1.walk.pool plan.setting.now e.known.items (Grows-trans pool b0.walk.pool b1.walk.pool begun.grows on.grows) known) refl;
     places = subst (λ (ms : List Mark). ArePlaces steps 0 ms) (sym none) tt;
     counted = subst (λ (ms : List Mark). AreCounted b1.walk.pool ms) (sym none) tt;
     told = λ mark more e. sets.framed;
@@ -54,7 +85,7 @@ module _ (plan : Plan) (pool : List Node) (start : ℕ) (b0 b1 : Begun) (clock :
         subst (λ (ms : List Mark). AreMarks w (set_out_at w start) steps (moment b1.walk).past (moment b1.walk).events ms) (sym none) tt;
   }
 
-  pub begun_reaches : (steps : List Step) → Reaches plan.setting.now steps 0 0 (front_of b1 clock marks start)
+  pub begun_reaches : (steps : List Step) → Reaches plan.setting.now steps 0 0 (front_of b1 clock marks e start)
   begun_reaches steps p r =
       let w = seen_from plan.setting.now p in
       let q = ready_back p r in

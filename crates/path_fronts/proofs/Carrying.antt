@@ -10,7 +10,9 @@ use Rattle.fort_model.specs.Program.{Program}
 use Rattle.fort_model.specs.Seen.{Named}
 use Rattle.path_cut.specs.declared.step.Step.{Step}
 use Rattle.path_ends.proofs.Checked.{clock_grows, clock_in_grows}
+use Rattle.stmt_effects.proofs.Knowing.{known_on}
 use Rattle.path_fronts.proofs.Marks.{marks_on}
+use Rattle.stmt_effects.specs.Effects.{AreKnown}
 use Rattle.path_fronts.specs.Fronts.{AreCounted, AreMarks, ArePlaces, HasEntry, IsFront, Reaches, set_out_at, total}
 use Rattle.shared_fronts.specs.Firsts.{HasAt}
 use Rattle.path_fronts.specs.declared.front.Front.{Front}
@@ -58,7 +60,7 @@ places_below steps m n (mark ∷ marks) le h =
     let less : mark.place < n = omega (arith, lt, le) in ((less, h.0.1), h.1)
 
 pub front_below : (s : Setting) (steps : List Step) (m n : ℕ) (f : Front) → m ≤ n → IsFront s steps m f → IsFront s steps n f
-front_below s steps m n f le h = record { well = h.well; clock = h.clock; places = places_below steps m n f.marks le h.places; counted = h.counted; told = h.told; parts = h.parts; marked = h.marked }
+front_below s steps m n f le h = record { well = h.well; clock = h.clock; known = h.known; places = places_below steps m n f.marks le h.places; counted = h.counted; told = h.told; parts = h.parts; marked = h.marked }
 
 -- the numbers of calls before marks, with a pool that grows
 counted_grows : (old new : List Node) (marks : List Mark) → Grows old new → AreCounted old marks → AreCounted new marks
@@ -72,7 +74,7 @@ pub record GoesOn (m1 m2 : Moment) : Type 0 where
   pub events : m2.events ≡ m1.events ++ more
 
 abbrev pub with_walk : Front → Walk → Front
-with_walk f w = record { walk = w; entry = f.entry; clock = f.clock; marks = f.marks; start = f.start }
+with_walk f w = record { walk = w; entry = f.entry; clock = f.clock; marks = f.marks; effects = f.effects; start = f.start }
 
 pub front_on : (s : Setting) (steps : List Step) (bound : ℕ) (f : Front) (w : Walk) → ((p : Program) × IsReady f.walk.pool s.scene.now p) → IsFront s steps bound f → Follows f.walk w
     → ((p : Program) → IsReady f.walk.pool s.scene.now p → GoesOn (moment f.walk) (moment w)) → IsFront s steps bound (with_walk f w)
@@ -81,6 +83,7 @@ front_on s steps bound f w ready h on goes =
     record {
       well = on.kept;
       clock = clock_in_grows f.walk.pool w.pool f.clock on.grows h.clock;
+      known = known_on f.walk.pool w.pool s f.walk.names.table w.names.table f.effects on.grows on.extends h.known;
       places = h.places;
       counted = counted_grows f.walk.pool w.pool f.marks on.grows h.counted;
       told = λ mark more e. frame_on f.walk w s.book.now.unit.now f.entry.items (moment f.walk).now on (h.told mark more e);
@@ -110,6 +113,7 @@ with_mark f names mark = record {
   entry = f.entry;
   clock = f.clock;
   marks = mark ∷ f.marks;
+  effects = f.effects;
   start = f.start;
 }
 
@@ -128,6 +132,7 @@ front_marked s steps k card f names kept entry h reaches has =
     record {
       well = record { names = kept.kept; met = h.well.met; calls = h.well.calls };
       clock = h.clock;
+      known = subst (λ (table : List (List ℕ)). AreKnown f.walk.pool s table f.effects) (sym kept.table) h.known;
       places = ((less, has), h.places);
       counted = (h.well.calls, h.counted);
       told = λ mark more e. told_marked s f names (mark_at f k card) kept entry;

@@ -15,6 +15,8 @@ use Rattle.fort_model.specs.WalkCalls.{Sight}
 use Rattle.path_cut.specs.declared.step.Step.{Step}
 use Rattle.path_ends.specs.Ends.{IsClockIn, clock_trees}
 use Rattle.path_ends.specs.declared.clock.Clock.{Clock}
+use Rattle.stmt_effects.specs.Effects.{AreKnown}
+use Rattle.stmt_effects.specs.declared.effects.Effects.{Effects}
 use Rattle.path_fronts.specs.Fronts.{AreCounted, AreMarks, ArePlaces, HasEntry, IsAt, IsFront, IsMark, Leads, set_out_at}
 use Rattle.shared_fronts.specs.Firsts.{firsts}
 use Rattle.path_fronts.specs.declared.front.Front.{Front}
@@ -73,7 +75,7 @@ walk_cut w m0 front w0 w1 mark k h numbers c =
     }
 
 -- a front that went back to its last mark
-module _ (s : Setting) (steps : List Step) (bound : ℕ) (f0 f1 : Front) (mark : Mark) (ms : f0.marks ≡ mark ∷ f1.marks) (c : IsCut f0.walk mark f1.walk) (items : f1.entry.items ≡ f0.entry.items) (clock : f1.clock ≡ f0.clock) (start : f1.start ≡ f0.start)
+module _ (s : Setting) (steps : List Step) (bound : ℕ) (f0 f1 : Front) (mark : Mark) (ms : f0.marks ≡ mark ∷ f1.marks) (c : IsCut f0.walk mark f1.walk) (items : f1.entry.items ≡ f0.entry.items) (clock : f1.clock ≡ f0.clock) (start : f1.start ≡ f0.start) (effects : f1.effects ≡ f0.effects)
     (ready : (p : Program) × IsReady f0.walk.pool s.scene.now p) (h : IsFront s steps bound f0) where
   ready_there : (p : Program) → IsReady f1.walk.pool s.scene.now p → IsReady f0.walk.pool s.scene.now p
   ready_there p r = subst (λ (nodes : List Node). IsReady nodes s.scene.now p) c.pool r
@@ -122,11 +124,17 @@ module _ (s : Setting) (steps : List Step) (bound : ℕ) (f0 f1 : Front) (mark :
       subst (λ (ids : List TermId). IsFrame f1.walk.pool u f1.walk.names ids (moment f1.walk).now) (sym items)
       (frame_set f0.walk.pool f1.walk.pool u f0.walk.names f1.walk.names f0.entry.items (moment f0.walk).now (moment f1.walk).now same (h.told mark f1.marks ms) well_there.names refl extends)
 
+  known_there : AreKnown f1.walk.pool s f1.walk.names.table f1.effects
+  known_there =
+      subst (λ (e : Effects). AreKnown f1.walk.pool s f1.walk.names.table e) (sym effects) (subst (λ (table : List (List ℕ)). AreKnown f1.walk.pool s table f0.effects) (sym table_there)
+      (subst (λ (nodes : List Node). AreKnown nodes s f0.walk.names.table f0.effects) (sym c.pool) h.known))
+
   pub cut_back : IsAt s steps mark f1
   cut_back = record {
     front = record {
       well = well_there;
       clock = subst (λ (o : Option Clock). IsClockIn (length f1.walk.pool) o) (sym clock) (subst (λ (nodes : List Node). IsClockIn (length nodes) f0.clock) (sym c.pool) h.clock);
+      known = known_there;
       places = places_there.1;
       counted = subst (λ (nodes : List Node). AreCounted nodes f1.marks) (sym c.pool) counted_there.1;
       told = λ mark more e. told_there;

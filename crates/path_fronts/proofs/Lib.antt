@@ -5,3 +5,4 @@ pub mod Leading
 pub mod Marks
 pub mod OneMore
 pub mod Stepped
+pub mod Unmarked

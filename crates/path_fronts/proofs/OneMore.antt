@@ -61,6 +61,7 @@ moved s before steps mark n f lt same at =
       front = record {
         well = at.front.well;
         clock = at.front.clock;
+        known = at.front.known;
         places = places_moved n before steps mark.place f.marks same le at.front.places;
         counted = at.front.counted;
         told = at.front.told;

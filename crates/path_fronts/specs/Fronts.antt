@@ -10,6 +10,7 @@ use Rattle.fort_model.specs.Walk.{at_entry, entry_facts}
 use Rattle.fort_model.specs.WalkCalls.{Sight}
 use Rattle.path_cut.specs.declared.step.Step.{Step}
 use Rattle.path_ends.specs.Ends.{IsClockIn, clock_trees}
+use Rattle.stmt_effects.specs.Effects.{AreKnown}
 use Rattle.path_fronts.specs.declared.front.Front.{Front}
 use Rattle.path_fronts.specs.declared.front.Mark.{Mark}
 use Rattle.path_openings.specs.Openings.{clock_from, set_from}
@@ -67,10 +68,11 @@ abbrev pub HasEntry : Setting → Front → Type 0
 HasEntry s f = IsFrame f.walk.pool s.book.now.unit.now f.walk.names f.entry.items (moment f.walk).now
 
 -- a walk from a start, with marks before statements of a way, all of them before some step; where it has a mark
--- it has the terms of the entry
+-- it has the terms of the entry; what is known of statements is so
 pub record IsFront (s : Setting) (steps : List Step) (bound : ℕ) (f : Front) : Type 0 where
   pub well : IsWalk f.walk
   pub clock : IsClockIn (length f.walk.pool) f.clock
+  pub known : AreKnown f.walk.pool s f.walk.names.table f.effects
   pub places : ArePlaces steps bound f.marks
   pub counted : AreCounted f.walk.pool f.marks
   pub told : (mark : Mark) (more : List Mark) → f.marks ≡ mark ∷ more → HasEntry s f
@@ -84,6 +86,12 @@ abbrev pub Reaches : Setting → List Step → ℕ → ℕ → Front → Type 0
 Reaches s steps k card f =
     (p : Program) → IsReady f.walk.pool s.scene.now p → Leads (seen_from s p) (set_out_at (seen_from s p) f.start)
     (firsts k steps) card (moment f.walk)
+
+-- the walk stands before a step, behind a statement that has a card, or behind none
+pub record StandsBefore (s : Setting) (steps : List Step) (k card : ℕ) (f : Front) : Type 0 where
+  pub front : IsFront s steps k f
+  pub reaches : Reaches s steps k card f
+  pub told : HasEntry s f
 
 -- the walk stands behind all statements of a way, the last of them at a card
 abbrev pub HasGone : Setting → List Step → ℕ → Front → Type 0

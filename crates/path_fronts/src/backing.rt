@@ -13,6 +13,7 @@ use crate::front::{Front, Mark};
 fn step_back(front: &mut Front) -> Option<Mark>
     ensures start { front.new.start ≡ front.old.start }
     ensures pool { front.new.walk.pool ≡ front.old.walk.pool }
+    ensures effects { front.new.effects ≡ front.old.effects }
     ensures less { IfSome result (λ mark. front.old.marks ≡ mark ∷ front.new.marks) }
     ensures at { IfSome result (λ mark. (s : Setting) (steps : List Step) (bound : ℕ)
         → ((p : Program) × IsReady front.old.walk.pool s.scene.now p)
@@ -32,6 +33,7 @@ fn step_back(front: &mut Front) -> Option<Mark>
 pub(crate) fn back_to(front: &mut Front, start: usize, shared: usize) -> Option<Mark>
     ensures start { IfSome result (λ _. front.new.start ≡ start) }
     ensures pool { front.new.walk.pool ≡ front.old.walk.pool }
+    ensures effects { front.new.effects ≡ front.old.effects }
     ensures before { IfSome result (λ mark. mark.place < shared) }
     ensures at { IfSome result (λ mark. (s : Setting) (steps : List Step) (bound : ℕ)
         → ((p : Program) × IsReady front.old.walk.pool s.scene.now p)

@@ -1,5 +1,5 @@
 // The choices of a path.
-ghost use Rattle.std.specs.Prelude.{◌≡◌, IfOk};
+ghost use Rattle.std.specs.Prelude.{◌≡◌, [], drop, false, IfOk};
 ghost use Rattle.way_laws.specs.PathsOf.{turns};
 
 use edge_io::NoMemory;
@@ -20,4 +20,17 @@ pub(crate) fn turns(alloc: Global, steps: &[Step]) -> Result<Vec<usize>, NoMemor
         };
     }
     Ok(choices)
+}
+
+/// Whether a choice stands at a place of some steps.
+pub(crate) fn is_choice(steps: &[Step], place: usize) -> bool
+    ensures { result ≡ false → turns (drop place steps.now) ≡ [] }
+{
+    if place >= steps.len() {
+        return false;
+    }
+    match steps[place] {
+        Step::Choice(_, _) => true,
+        Step::At(_) => false,
+    }
 }

@@ -8,6 +8,7 @@ use edge_io::{Keys, Stack};
 use formula::{TermId, TermPool};
 use path_ends::Clock;
 use std::alloc::Global;
+use stmt_effects::Effects;
 use walk_state::Walk;
 
 /// A mark before a statement: the place of its step on the way, how much was met before it, how
@@ -29,6 +30,7 @@ pub struct Front {
     pub entry: Vec<TermId>,
     pub clock: Option<Clock>,
     pub marks: Stack<Mark>,
+    pub effects: Effects,
     pub start: usize,
 }
 
@@ -43,6 +45,7 @@ impl Front {
             entry: Vec::new(alloc),
             clock: None,
             marks: Stack::new(alloc),
+            effects: Effects::new(alloc),
             start: 0,
         }
     }

@@ -1,25 +1,36 @@
 // The statements of a path.
-ghost use Rattle.std.specs.Prelude.{◌≡◌, ◌<◌, ◌≤◌, Some, length, slice_get, IfOk, OnOk};
+ghost use Rattle.std.specs.Prelude.{◌≡◌, ◌<◌, ◌≤◌, Some, suc, length, slice_get, IfOk, OnOk};
 ghost use Rattle.formula.specs.Pool.{Grows};
 ghost use Rattle.fort_model.specs.Graphs.{IsGraphOf};
 ghost use Rattle.fort_model.specs.Program.{Program};
 ghost use Rattle.fort_model.specs.WalkStmt as forms;
 ghost use Rattle.fort_notes.specs.Assertions.{Notes};
 ghost use Rattle.fort_syntax.specs.declared.unit.Line.{Line};
-ghost use Rattle.path_fronts.specs.Fronts.{HasEntry, HasGone, IsFront, Reaches};
+ghost use Rattle.path_cut.specs.declared.step.Step.TheVariants.{At};
+ghost use Rattle.path_fronts.specs.Fronts.{HasEntry, HasGone, IsFront, Reaches, StandsBefore};
 ghost use Rattle.path_scene.specs.Scenes.{IsReady};
 ghost use Rattle.walk_setting.specs.Settings.{PerformsIn};
 ghost use Rattle.walk_state.specs.Moments.{Follows, IsWalk, moment};
 ghost use Rattle.way_laws.specs.PathsOf.{turns};
 
-use crate::choosing::turns;
+use crate::choosing::{is_choice, turns};
 use crate::front::Front;
 use crate::marking::set_mark;
 use edge_io::NoMemory;
 use path_cut::Step;
+use stmt_effects::{learn, pass};
 use walk_flow::UnitFlow;
 use walk_state::Walk;
 use walk_stmt::performed;
+
+/// A statement on a way: the place of its step, its point, and the card of the statement before it,
+/// or 0.
+#[derive(Clone, Copy, Debug)]
+struct Stop {
+    place: usize,
+    point: usize,
+    card: u32,
+}
 
 /// Performs the statement at a point, under the choices of the steps behind it.
 fn perform_at(
@@ -49,8 +60,70 @@ fn perform_at(
     Ok(())
 }
 
-/// Performs the statements of the steps from a place on, one behind another, with a mark before
-/// each; it answers the card of the last one, or the given one where there is none.
+/// Performs a statement with a mark before it, and answers its card.
+fn perform_marked(
+    front: &mut Front,
+    flow: &UnitFlow,
+    steps: &[Step],
+    stop: Stop,
+) -> Result<u32, NoMemory>
+    requires at { slice_get steps.now stop.place ≡ Some (At stop.point) }
+    requires within { stop.point < length flow.now.setting.now.book.now.unit.now.lines }
+    requires ready { (p : Program) × IsReady front.old.walk.pool flow.now.setting.now.scene.now p }
+    requires graph { (notes : Notes) × IsGraphOf flow.now.setting.now.scene.now.dialect
+        flow.now.setting.now.book.now.unit.now notes flow.now.graph.now }
+    requires stands { StandsBefore flow.now.setting.now steps.now stop.place stop.card front.old }
+    ensures start { OnOk result (front.new.start ≡ front.old.start) }
+    ensures grows { OnOk result (Grows front.old.walk.pool front.new.walk.pool) }
+    ensures stands { IfOk result (λ card. StandsBefore flow.now.setting.now steps.now
+        (suc stop.place) card front.new) }
+{
+    let Ok(()) = set_mark(front, stop.place, stop.card) else {
+        return Err(NoMemory);
+    };
+    let behind = &steps[stop.place + 1..];
+    let Ok(()) = perform_at(&mut front.walk, flow, stop.point, behind) else {
+        return Err(NoMemory);
+    };
+    Ok(flow.line(stop.point).card)
+}
+
+/// Performs a statement, and answers its card. Where no choice stands behind it, and it is known
+/// what it does, no mark is set: ways that go apart do so behind a choice.
+fn step_on(
+    front: &mut Front,
+    flow: &UnitFlow,
+    steps: &[Step],
+    stop: Stop,
+) -> Result<u32, NoMemory>
+    requires at { slice_get steps.now stop.place ≡ Some (At stop.point) }
+    requires within { stop.point < length flow.now.setting.now.book.now.unit.now.lines }
+    requires ready { (p : Program) × IsReady front.old.walk.pool flow.now.setting.now.scene.now p }
+    requires graph { (notes : Notes) × IsGraphOf flow.now.setting.now.scene.now.dialect
+        flow.now.setting.now.book.now.unit.now notes flow.now.graph.now }
+    requires stands { StandsBefore flow.now.setting.now steps.now stop.place stop.card front.old }
+    ensures start { OnOk result (front.new.start ≡ front.old.start) }
+    ensures grows { OnOk result (Grows front.old.walk.pool front.new.walk.pool) }
+    ensures stands { IfOk result (λ card. StandsBefore flow.now.setting.now steps.now
+        (suc stop.place) card front.new) }
+{
+    if is_choice(steps, stop.place + 1) {
+        return perform_marked(front, flow, steps, stop);
+    }
+    let Ok(passed) = pass(&mut front.walk.names, &front.effects, stop.point) else {
+        return Err(NoMemory);
+    };
+    if let Some(card) = passed {
+        return Ok(card);
+    }
+    let table = &front.walk.names.table;
+    let Ok(()) = learn(&mut front.walk.pool, table, &mut front.effects, flow.setting, stop.point) else {
+        return Err(NoMemory);
+    };
+    perform_marked(front, flow, steps, stop)
+}
+
+/// Performs the statements of the steps from a place on, one behind another; it answers the card of the last one, or the given one where there is none.
 pub(crate) fn go(
     front: &mut Front,
     flow: &UnitFlow,
@@ -81,13 +154,15 @@ pub(crate) fn go(
         if point >= lines.len() {
             return Ok(last);
         }
-        let Ok(()) = set_mark(front, at, last) else {
+        let stop = Stop {
+            place: at,
+            point,
+            card: last,
+        };
+        let Ok(next) = step_on(front, flow, steps, stop) else {
             return Err(NoMemory);
         };
-        let Ok(()) = perform_at(&mut front.walk, flow, point, &steps[at + 1..]) else {
-            return Err(NoMemory);
-        };
-        last = flow.line(point).card;
+        last = next;
     }
     Ok(last)
 }

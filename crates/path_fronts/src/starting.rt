@@ -3,6 +3,7 @@ ghost use Rattle.std.specs.Prelude.{◌≡◌, ◌≤◌, List, length, IfOk};
 ghost use Rattle.formula.specs.Pool.{Grows};
 ghost use Rattle.fort_model.specs.Program.{Program};
 ghost use Rattle.path_cut.specs.declared.step.Step.{Step as OneStep};
+ghost use Rattle.stmt_effects.specs.Effects.{AreTold};
 ghost use Rattle.path_fronts.specs.Fronts.{HasEntry, IsFront, Reaches};
 ghost use Rattle.shared_fronts.specs.Firsts.{SharesSteps};
 ghost use Rattle.path_plans.specs.Plans.{IsPlan};
@@ -16,6 +17,7 @@ use path_cut::PathView;
 use path_openings::{Begun, enter, set_out};
 use path_plans::Plan;
 use std::alloc::Global;
+use stmt_effects::{Effects, Order};
 use walk_state::Walk;
 
 /// A walk that stands before the step at a place, behind a statement that has a card, or at 0 behind
@@ -28,9 +30,16 @@ pub(crate) struct Standing {
 }
 
 /// A walk at a start, told by its number: 0 for the entry, and else that of an ASSERT from 1.
-fn begin(alloc: Global, pool: TermPool, plan: &Plan, start: usize) -> Result<Front, NoMemory>
+fn begin(
+    alloc: Global,
+    pool: TermPool,
+    effects: Effects,
+    plan: &Plan,
+    start: usize,
+) -> Result<Front, NoMemory>
     requires plan { IsPlan plan.now }
     requires ready { (p : Program) × IsReady pool plan.now.setting.now.scene.now p }
+    requires known { AreTold pool plan.now.setting.now effects.known.items }
     ensures start { IfOk result (λ front. front.start ≡ start) }
     ensures grows { IfOk result (λ front. Grows pool front.walk.pool) }
     ensures front { IfOk result (λ front. (steps : List OneStep)
@@ -47,11 +56,16 @@ fn begin(alloc: Global, pool: TermPool, plan: &Plan, start: usize) -> Result<Fro
         return Err(NoMemory);
     };
     let Begun { walk, entry } = begun;
+    let Effects { known, .. } = effects;
     Ok(Front {
         walk,
         entry,
         clock,
         marks: Stack::new(alloc),
+        effects: Effects {
+            known,
+            order: Order::Unasked,
+        },
         start,
     })
 }
@@ -79,9 +93,9 @@ pub(crate) fn stand(front: Front, plan: &Plan, path: &PathView) -> Result<Standi
             card: mark.card,
         });
     }
-    let Front { walk, .. } = front;
+    let Front { walk, effects, .. } = front;
     let Walk { pool, alloc, .. } = walk;
-    let Ok(front) = begin(alloc, pool, plan, path.start) else {
+    let Ok(front) = begin(alloc, pool, effects, plan, path.start) else {
         return Err(NoMemory);
     };
     Ok(Standing {

@@ -14,6 +14,7 @@ loop-mark-preserved c =
     let inv = c.loop-mark.invariant in
     record {
       start = c.in-Some.ensures.start ∙ inv.start;
+      effects = c.in-Some.ensures.effects ∙ inv.effects;
       pool = c.in-Some.ensures.pool ∙ inv.pool;
       is = λ s steps bound ready h.
           let k = inv.is s steps bound ready h in (

@@ -9,6 +9,7 @@ use Rattle.path_fronts.proofs.backing.back_to.Given as goal
 abbrev pub invariant-loop-mark : goal.invariant-loop-mark
 invariant-loop-mark l = record {
   start : l.front.start ≡ l.fn.front.start;
+  effects : l.front.effects ≡ l.fn.front.effects;
   pool : l.front.walk.pool ≡ l.fn.front.walk.pool;
   is : (s : Setting) (steps : List Step) (bound : ℕ) → ((p : Program) × IsReady l.fn.front.walk.pool s.scene.now p) → IsFront s steps bound l.fn.front
       → (n : ℕ) × IsFront s steps n l.front;

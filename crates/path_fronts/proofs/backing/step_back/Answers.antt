@@ -13,6 +13,7 @@ returns-clause-at c s steps bound ready h =
       entry = f.entry;
       clock = f.clock;
       marks = c.pop.new.self;
+      effects = f.effects;
       start = f.start;
     } in
-    cut_back s steps bound f back mark c.in-Some.ensures (record { pool = refl; names = c.back.ensures; met = c.truncate.ensures.items; calls = refl }) refl refl refl ready h
+    cut_back s steps bound f back mark c.in-Some.ensures (record { pool = refl; names = c.back.ensures; met = c.truncate.ensures.items; calls = refl }) refl refl refl refl ready h

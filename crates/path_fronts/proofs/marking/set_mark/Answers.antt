@@ -14,6 +14,7 @@ returns-clause-front c s steps entry h reaches has =
       entry = f.entry;
       clock = f.clock;
       marks = marks;
+      effects = f.effects;
       start = f.start;
     }) in
     subst (λ (marks : List Mark). IsFront s steps (suc c.args.place) (with marks))

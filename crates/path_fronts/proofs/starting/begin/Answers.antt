@@ -8,12 +8,12 @@ set_out-requires-clause-ready c = ready_on c.args.pool c.in-Ok.begun.walk.pool c
 pub returns-clause-front : goal.returns-clause-front
 returns-clause-front c steps =
     begun_front c.args.plan.now c.args.pool c.args.start c.in-Ok.begun c.set_out.new.begun c.in-Ok-set_out.clock c.new.result c.new.ensures c.in-Ok.ensures c.in-Ok-set_out.ensures.on
-    c.in-Ok-set_out.ensures.did c.requires.ready steps
+    c.in-Ok-set_out.ensures.did c.requires.ready c.args.effects c.requires.known steps
 
 pub returns-clause-at : goal.returns-clause-at
 returns-clause-at c steps =
     begun_reaches c.args.plan.now c.args.pool c.args.start c.in-Ok.begun c.set_out.new.begun c.in-Ok-set_out.clock c.new.result c.new.ensures c.in-Ok.ensures c.in-Ok-set_out.ensures.on
-    c.in-Ok-set_out.ensures.did c.requires.ready steps
+    c.in-Ok-set_out.ensures.did c.requires.ready c.args.effects c.requires.known steps
 
 pub returns-clause-told : goal.returns-clause-told
 returns-clause-told c = c.in-Ok-set_out.ensures.did.framed

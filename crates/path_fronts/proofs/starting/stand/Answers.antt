@@ -2,8 +2,17 @@ use Rattle.std.proofs.Common.{List, length, subst, sym, arith}
 use Rattle.formula.proofs.Grown.{Grows-refl}
 use Rattle.formula.specs.Pool.{Grows}
 use Rattle.formula.specs.declared.node.Node.{Node}
+use Rattle.stmt_effects.specs.Effects.{AreTold}
+use Rattle.stmt_effects.specs.declared.effects.Effects.{Effects}
 use Rattle.path_fronts.proofs.OneMore.{moved, place_moved}
 use Rattle.path_fronts.proofs.starting.stand.Goals as goal
+
+pub begin-requires-clause-known : goal.begin-requires-clause-known
+begin-requires-clause-known c =
+    let s = c.args.plan.now.setting.now in
+    let e = c.back_to.new.front.effects in
+    subst (λ (nodes : List Node). AreTold nodes s e.known.items) (sym c.back_to.ensures.pool)
+    (subst (λ (old : Effects). AreTold c.args.front.walk.pool s old.known.items) (sym c.back_to.ensures.effects) c.requires.front.2.known.told)
 
 pub returns-in-Some-clause-grows : goal.returns-in-Some-clause-grows
 returns-in-Some-clause-grows c =

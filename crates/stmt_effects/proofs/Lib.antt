@@ -1,0 +1,3 @@
+pub mod Doing
+pub mod Knowing
+pub mod Ordered
