@@ -1,3 +1,5 @@
 mod Passing
 mod Marks
 mod Starts
+mod Plainness
+mod Settling

@@ -9,17 +9,19 @@ use Rattle.weight_caps.specs.declared.loads.Load.{Load}
 use Rattle.weight_fronts.specs.Fronts.{AreMarks, IsFront, IsNowhere, IsThere, Stands, clock_at, clock_from, load_at, load_from}
 use Rattle.weight_fronts.specs.declared.front.Front.{Front}
 use Rattle.weight_fronts.specs.declared.front.Mark.{Mark}
+use Rattle.weight_fronts.specs.Known.{ArePlains}
 use Rattle.weight_tallies.specs.Tallied.{all}
 use Rattle.weight_tallies.specs.Tallies as c
 use Rattle.weight_terms.specs.Held.{held, marked, nothing_told}
 
 -- a front that has no mark
-module _ (w : Sight ℕ) (f : Front) (marks : f.marks ≡ []) where
+module _ (w : Sight ℕ) (f : Front) (marks : f.marks ≡ []) (plains : ArePlains w f.plains.kinds.items f.plains.names.items) where
   pub no_marks : (steps : List Step) (bound : ℕ) → IsThere w f.start → f.clock ≡ clock_from w f.start → IsFront w steps bound f
   no_marks steps bound there clock = record {
     there = there;
     clock = clock;
     marks = subst (λ (ms : List Mark). AreMarks w f.start steps bound (marked f.names) ms) (sym marks) tt;
+    plains = plains;
   }
 
   -- at a start that there is

@@ -10,6 +10,7 @@ use Rattle.weight_caps.specs.Loads.{nothing_yet, with_added}
 use Rattle.weight_caps.specs.declared.loads.Load.{Load}
 use Rattle.weight_fronts.specs.declared.front.Front.{Front}
 use Rattle.weight_fronts.specs.declared.front.Mark.{Mark}
+use Rattle.weight_fronts.specs.Known.{ArePlains, AreSettled}
 use Rattle.weight_tallies.specs.Tallied.{Tallied, all, both}
 use Rattle.weight_tallies.specs.Tallies.{entry_weight, from_start, notes_here, perform_line, told}
 use Rattle.weight_terms.specs.Held.{held, marked}
@@ -67,16 +68,30 @@ AreMarks w start steps bound [] (mark ∷ marks) = ⊥
 AreMarks w start steps bound (now ∷ told) (mark ∷ marks) = (mark.place < bound) × IsMark w start steps now mark
     × AreMarks w start steps mark.place told marks
 
--- a front has marks on a way, all of them before some step
+-- a front has marks on a way, all of them before some step, and knows plain statements of the unit
 pub record IsFront (w : Sight ℕ) (steps : List Step) (bound : ℕ) (f : Front) : Type 0 where
   pub there : IsThere w f.start
   pub clock : f.clock ≡ clock_from w f.start
   pub marks : AreMarks w f.start steps bound (marked f.names) f.marks
+  pub plains : ArePlains w f.plains.kinds.items f.plains.names.items
 
 -- a front and a load stand behind the statements that begin within the first steps
 pub record IsAt (w : Sight ℕ) (steps : List Step) (place : ℕ) (f : Front) (met : Load) : Type 0 where
   pub names : held f.names ≡ (reached w f.start (firsts place steps)).value
   pub load : met ≡ (reached w f.start (firsts place steps)).load
+
+-- only what names weigh, and which of them are known to weigh 2, has changed in a front; the marks stay
+pub record Rests (old new : Front) : Type 0 where
+  pub start : new.start ≡ old.start
+  pub clock : new.clock ≡ old.clock
+  pub marks : new.marks ≡ old.marks
+  pub told : marked new.names ≡ marked old.names
+  pub kinds : new.plains.kinds.items ≡ old.plains.kinds.items
+  pub names : new.plains.names.items ≡ old.plains.names.items
+
+-- the names that a front has settled weigh 2
+abbrev pub IsSettled : Front → Type 0
+IsSettled f = AreSettled f.plains.names.items f.plains.settled.items (held f.names)
 
 -- a front went back to before the statement of a mark
 pub record IsBackAt (w : Sight ℕ) (steps : List Step) (mark : Mark) (f : Front) : Type 0 where

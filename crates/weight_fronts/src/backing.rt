@@ -10,6 +10,7 @@ use crate::front::{Front, Mark};
 /// stays as it is.
 fn step_back(front: &mut Front) -> Option<Mark>
     ensures start { front.new.start ≡ front.old.start }
+    ensures plains { front.new.plains ≡ front.old.plains }
     ensures less { IfSome result (λ mark. front.old.marks ≡ mark ∷ front.new.marks) }
     ensures at { IfSome result (λ mark. (w : Sight ℕ) (steps : List Step) (bound : ℕ) → IsFront w steps bound front.old
         → (mark.place < bound) × IsBackAt w steps mark front.new) }
@@ -25,6 +26,7 @@ fn step_back(front: &mut Front) -> Option<Mark>
 /// one.
 pub(crate) fn back_to(front: &mut Front, shared: usize) -> Option<Mark>
     ensures start { front.new.start ≡ front.old.start }
+    ensures plains { front.new.plains ≡ front.old.plains }
     ensures before { IfSome result (λ mark. mark.place < shared) }
     ensures at { IfSome result (λ mark. (w : Sight ℕ) (steps : List Step) (bound : ℕ)
         → IsFront w steps bound front.old → IsBackAt w steps mark front.new) }

@@ -1,5 +1,5 @@
 // The next path.
-ghost use Rattle.std.specs.Prelude.{◌≡◌, List, length, IfOk, OnOk};
+ghost use Rattle.std.specs.Prelude.{◌≡◌, ℕ, List, length, IfOk, OnOk};
 ghost use Rattle.path_cut.specs.Cursor.{way_seen};
 ghost use Rattle.path_cut.specs.declared.step.Step.{Step};
 ghost use Rattle.shared_fronts.specs.Firsts.{SharesSteps};
@@ -11,12 +11,30 @@ ghost use Rattle.weight_tallies.specs.Tallies.{from_start, load_of};
 
 use crate::front::Front;
 use crate::going::go;
+use crate::learning::learned;
 use crate::starting::stand;
 use edge_io::NoMemory;
 use path_cut::PathView;
+use weight_calls::Subject;
 use weight_caps::Load;
 use weight_path::arrive;
 use weight_stmt::Course;
+
+/// Learns what the statements of the unit do, once paths share some of them.
+fn learn(front: &mut Front, subject: &Subject) -> Result<(), NoMemory>
+    ensures start { front.new.start ≡ front.old.start }
+    ensures front { OnOk result ((steps : List Step) (bound : ℕ)
+        → IsFront (sight_of subject.now) steps bound front.old → IsFront (sight_of subject.now) steps bound front.new) }
+{
+    if front.marks.is_empty() || !front.plains.kinds.is_empty() {
+        return Ok(());
+    }
+    let Ok(plains) = learned(subject) else {
+        return Err(NoMemory);
+    };
+    front.plains = plains;
+    Ok(())
+}
 
 /// A path goes on from what it shares with the one before, up to its end.
 fn weigh(
@@ -33,6 +51,9 @@ fn weigh(
     ensures load { OnOk result (load.new ≡ (from_start (sight_of course.now.subject.now)
         path.now.start path.now.steps.now path.now.end nothing_yet).load) }
 {
+    let Ok(()) = learn(front, course.subject) else {
+        return Err(NoMemory);
+    };
     let Ok(found) = stand(front, course.subject, load, path) else {
         return Err(NoMemory);
     };

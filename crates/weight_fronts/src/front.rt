@@ -4,6 +4,7 @@ ghost use Rattle.path_cut.specs.declared.step.Step.{Step};
 ghost use Rattle.std.specs.Prelude.{◌≡◌, ℕ, List};
 ghost use Rattle.weight_fronts.specs.Fronts.{IsFront};
 
+use crate::plains::Plains;
 use edge_io::{Keys, Stack};
 use std::alloc::Global;
 use weight_terms::NameWeights;
@@ -19,13 +20,15 @@ pub struct Mark {
 }
 
 /// Where the weighing of a path has ended: what names weigh, the marks on its way, the number of its
-/// start, and what the clock weighed at an ASSERT where it started at one.
+/// start, and what the clock weighed at an ASSERT where it started at one. Beside these, what is
+/// known of the plain statements of the unit.
 #[derive(Drop)]
 pub struct Front {
     pub names: NameWeights,
     pub marks: Stack<Mark>,
     pub start: usize,
     pub clock: Option<u32>,
+    pub plains: Plains,
 }
 
 impl Front {
@@ -39,6 +42,7 @@ impl Front {
             marks: Stack::new(alloc),
             start: 0,
             clock: None,
+            plains: Plains::new(alloc),
         }
     }
 }

@@ -5,6 +5,7 @@ ghost use Rattle.shared_fronts.specs.Firsts.{SharesSteps};
 ghost use Rattle.weight_calls.specs.Subjects.{sight_of};
 ghost use Rattle.weight_caps.specs.Loads.{nothing_yet};
 ghost use Rattle.weight_fronts.specs.Fronts.{IsFront, IsNowhere, Stands, load_of_mark};
+ghost use Rattle.weight_fronts.specs.Known.{ArePlains};
 ghost use Rattle.weight_terms.specs.Held.{nothing_told};
 
 use crate::backing::back_to;
@@ -22,6 +23,7 @@ fn clear(front: &mut Front, subject: &Subject)
     ensures marks { front.new.marks ≡ [] }
     ensures start { front.new.start ≡ 0 }
     ensures clock { front.new.clock ≡ None }
+    ensures plains { front.new.plains ≡ front.old.plains }
 {
     front.names = NameWeights::new(subject.alloc, subject.keys);
     front.marks = Stack::new(subject.alloc);
@@ -37,7 +39,8 @@ fn begin(
     load: &mut Load,
     start: usize,
 ) -> Result<Option<usize>, NoMemory>
-    requires { load.old ≡ nothing_yet }
+    requires load { load.old ≡ nothing_yet }
+    requires plains { ArePlains (sight_of subject.now) front.old.plains.kinds.items front.old.plains.names.items }
     ensures some { IfOk result (λ found. IfSome found (λ place. (steps : List Step)
         → Stands (sight_of subject.now) steps start place front.new load.new)) }
     ensures none { IfOk result (λ found. IfNone found (IsNowhere (sight_of subject.now)

@@ -7,6 +7,7 @@ use Rattle.weight_fronts.proofs.backing.back_to.Given as goal
 abbrev pub invariant-loop-mark : goal.invariant-loop-mark
 invariant-loop-mark l = record {
   start : l.front.start ≡ l.fn.front.start;
+  plains : l.front.plains ≡ l.fn.front.plains;
   front : (w : Sight ℕ) (steps : List Step) (bound : ℕ) → IsFront w steps bound l.fn.front → IsFront w steps bound l.front;
 }
 
