@@ -7,7 +7,7 @@ ghost use Rattle.formula.specs.Values.{applied, are_cells, is_integer_cell, same
 ghost use Rattle.formula.specs.declared.function.BuiltIn.TheVariants.{And, Or};
 ghost use Rattle.term_worth.specs.declared.held_values.Answer.TheVariants as answer;
 ghost use Rattle.term_worth.specs.declared.machine.Held.TheVariants as held;
-ghost use Rattle.term_worth.specs.declared.made.Made.TheVariants as made;
+ghost use Rattle.term_worth.specs.declared.made.Made.TheVariants as form;
 ghost use Rattle.formula.specs.declared.value.Value.TheVariants.{Cells};
 
 use crate::cells::{
@@ -153,8 +153,8 @@ fn of_two(
         BuiltIn::AtMost => Ok(truth(number_of(a) <= number_of(b))),
         BuiltIn::Element => Ok(element(cell_in(entries, made, a, number_of(b)))),
         BuiltIn::LogicalCells => {
-            let spread = spread(alloc, made, a)?;
-            let cells = cells_of(entries, &spread, a);
+            let spread_out = spread(alloc, made, a)?;
+            let cells = cells_of(entries, &spread_out, a);
             Ok(truth(is_list(a) && are_logical_cells(cells, number_of(b))))
         }
         _ => Ok(of_numbers(f, a, b)),
@@ -225,8 +225,8 @@ fn of_four(
     let (a, b, c, d) = args;
     match f {
         BuiltIn::IntegerCells => {
-            let spread = spread(alloc, made, a)?;
-            let cells = cells_of(entries, &spread, a);
+            let spread_out = spread(alloc, made, a)?;
+            let cells = cells_of(entries, &spread_out, a);
             Ok(truth(is_list(a) && integer_cells(cells, b, (c, d))))
         }
         _ => Ok(Answer::Held(Held::Undefined)),
@@ -238,7 +238,12 @@ fn integer_cells(cells: &[Cell], count: Held, bounds: (Held, Held)) -> bool
     ensures { result ≡ are_cells (is_integer_cell (held_num bounds.0) (held_num bounds.1))
         (held_num count) (Cells cells.now) }
 {
-    are_integer_cells(cells, number_of(count), number_of(bounds.0), number_of(bounds.1))
+    are_integer_cells(
+        cells,
+        number_of(count),
+        number_of(bounds.0),
+        number_of(bounds.1),
+    )
 }
 
 /// Whether a value is an integer or a truth value.
@@ -265,10 +270,7 @@ fn same_values(
     if is_list(a) && is_list(b) {
         let first = spread(alloc, made, a)?;
         let second = spread(alloc, made, b)?;
-        return Ok(same_cells(
-            cells_of(entries, &first, a),
-            cells_of(entries, &second, b),
-        ));
+        return Ok(same_cells(cells_of(entries, &first, a), cells_of(entries, &second, b)));
     }
     if is_list(a) || is_list(b) {
         return Ok(false);
@@ -288,7 +290,7 @@ fn element(cell: Option<Cell>) -> Answer
 
 /// That many undefined cells; none where the number is negative.
 fn blanks(count: i128) -> Answer
-    ensures { result ≡ answer.Made (made.Blank (count_of count)) }
+    ensures { result ≡ answer.Made (form.Blank (count_of count)) }
 {
     Answer::Made(Made::Blank(u128::try_from(count).unwrap_or(0)))
 }

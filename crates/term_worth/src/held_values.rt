@@ -110,11 +110,7 @@ pub fn spread(alloc: Global, made: &MadeLists, held: Held) -> Result<List<Cell>,
 }
 
 /// The cells of a value, where those of a list that was made are spread; none where it is no list.
-pub fn cells_of<'a>(
-    entries: &'a [(Word, Value)],
-    spread: &'a List<Cell>,
-    held: Held,
-) -> &'a [Cell]
+pub fn cells_of<'a>(entries: &'a [(Word, Value)], spread: &'a List<Cell>, held: Held) -> &'a [Cell]
     ensures { (made : List (List Cell)) → spread.now ≡ machine.made_cells made held
         → result.now ≡ cells_of (value_of entries.now made held) }
 {

@@ -1,8 +1,9 @@
 // One list of cells that an evaluation made.
-ghost use Rattle.std.specs.Prelude.{◌≡◌, [], ◌<◌, length, slice_index_or, IfOk};
+ghost use Rattle.std.specs.Prelude.{◌≡◌, [], None, length, replicate, slice_index_or, IfOk};
 ghost use Rattle.term_worth.specs.MadeLists as made_lists;
 ghost use Rattle.term_worth.specs.MadeLists.{AreMade, lists_of};
 ghost use Rattle.formula.specs.Values as values;
+ghost use Rattle.formula.specs.declared.value.Cell.TheVariants.{Undefined};
 
 use crate::cells::{blank, cell_at, set_cell};
 use edge_io::{List, NoMemory, Stack};
@@ -119,9 +120,19 @@ fn cell_of_bottom(item: &Made, place: i128) -> Option<Cell>
 {
     match item {
         Made::Cells(cells) => cell_at(cells.as_slice(), place),
-        Made::Blank(count) if 1 <= place && place as u128 <= *count => Some(Cell::Undefined),
-        _ => None,
+        Made::Blank(count) => blank_cell(*count, place),
+        Made::Put(_) => None,
     }
+}
+
+/// An undefined cell, where there are so many that one has that place.
+fn blank_cell(count: u128, place: i128) -> Option<Cell>
+    ensures { result ≡ values.cell_at (replicate count Undefined) place }
+{
+    if place < 1 || place as u128 > count {
+        return None;
+    }
+    Some(Cell::Undefined)
 }
 
 /// All cells of the list at a place; none where there is no such list.
