@@ -17,6 +17,8 @@ use Rattle.formula.specs.declared.value.Cell.{Cell}
 use Rattle.formula.specs.declared.value.Value.{Value}
 use Rattle.formula.specs.declared.word.Word.{Word}
 use Rattle.formula.specs.Bounded.{got, beyond, and_then, bounded, is_in_range, ranged}
+use Rattle.term_worth.specs.declared.made.Made.{Made}
+use Rattle.term_worth.specs.MadeLists.{list_from, IsMade}
 use Rattle.term_worth.specs.Machine.{newest, all_but, value_of, values_of, held_small, held_holds, first_held, AreTasks, meaning, IsHeld, AreHeld, IsWhole, Answers, Does, meaning_with}
 use Rattle.formula.specs.Pool.{IsIn, tree_of}
 use Rattle.formula.specs.Values.{holds, applied}
@@ -59,11 +61,15 @@ module _ (pool : List Node) (ds : List Definition) (sheet : List (Word × Value)
         let q : Answered (answer.Held h) = subst Answered is p in
         does-Combine pool ds sheet m m' f c h (ranged_got _ _ m.turns q.0 q.1.0) q.1.1 w same
 
-    pub combined_made : (m' : Machine) (a : Answer) (cs : List Cell) → Answered a → a ≡ answer.Made cs → IsWhole pool m
-        → m' ≡ record m { values = all_but c m.values ++ held.Made (length m.made) ∷ []; made = m.made ++ cs ∷ [] } → Does pool ds sheet (Combine (BuiltIn f) c) m m'
-    combined_made m' a cs p is w same =
-        let q : Answered (answer.Made cs) = subst Answered is p in
-        does-Making pool ds sheet m m' f c cs (ranged_got _ _ m.turns (sym q) (ap is_in_range q)) w same
+    pub combined_made : (m' : Machine) (a : Answer) (l : Made) → Answered a → a ≡ answer.Made l → IsWhole pool m
+        → m' ≡ record m { values = all_but c m.values ++ held.Made (length m.made) ∷ []; made = m.made ++ list_from m.made l ∷ [] } → Does pool ds sheet (Combine (BuiltIn f) c) m m'
+    combined_made m' a l p is w same =
+        let q : Answered (answer.Made l) = subst Answered is p in
+        does-Making pool ds sheet m m' f c (list_from m.made l) (ranged_got _ _ m.turns (sym q.0) (ap is_in_range q.0)) w same
+
+    -- the new list can stand behind those that were made
+    pub made_behind : (a : Answer) (l : Made) → Answered a → a ≡ answer.Made l → IsMade m.made l
+    made_behind a l p is = let q : Answered (answer.Made l) = subst Answered is p in q.1
 
     pub combined_beyond : (a : Answer) → Answered a → a ≡ answer.Beyond → meaning_with pool ds sheet (Combine (BuiltIn f) c) m ≡ beyond
     combined_beyond a p is = beyond-Combine pool ds sheet m f c (ranged_beyond (applied f (values_of sheet m.made (newest c m.values))) m.turns (subst Answered is p))

@@ -5,6 +5,7 @@ pub mod Combined
 pub mod Depth
 pub mod Doing
 pub mod Held
+pub mod MadeLists
 pub mod OtherLengths
 pub mod Ready
 pub mod Remainders

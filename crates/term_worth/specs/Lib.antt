@@ -1,4 +1,5 @@
 pub mod Leaves
+pub mod MadeLists
 pub mod Machine
 pub mod Ranges
 pub mod Sheets

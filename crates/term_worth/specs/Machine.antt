@@ -30,6 +30,7 @@ use Rattle.formula.specs.Atoms.{same_bytes}
 use Rattle.formula.specs.Bounded.{Outcome, got, and_then, Calls, function_bounded, bounded_by, calls_within, is_in_range}
 use Rattle.formula.specs.Pool.{IsIn, tree_of}
 use Rattle.formula.specs.Tree.{Tree, num, truth, symbol, old, apply, Row, none, more}
+use Rattle.term_worth.specs.MadeLists.{list_from, IsMade}
 use Rattle.term_worth.specs.Ranges.{in_range}
 use Rattle.formula.specs.Values.{holds, quotient, remainder, greater, smaller}
 use Rattle.formula.specs.Worth.{Valuation, Function, FunctionBody, plain, counting, functions_of, assigned, bound_to, first_of, nothing_known}
@@ -123,6 +124,11 @@ value_of sheet made held.Undefined = Undefined
 value_of sheet made (held.Given i) = Cells (cells_of (entry_at sheet i))
 value_of sheet made (held.Made i) = Cells (slice_index_or made i [])
 
+-- the cells of a list that was made; none of other values
+abbrev pub made_cells : List (List Cell) → Held → List Cell
+made_cells made (held.Made i) = slice_index_or made i []
+made_cells made h = []
+
 abbrev pub values_of : List (Word × Value) → List (List Cell) → List Held → List Value
 values_of sheet made hs = map (value_of sheet made) hs
 
@@ -212,10 +218,10 @@ numbers_answer Maximum a b = number_answer (in_range (greater a b))
 numbers_answer Minimum a b = number_answer (in_range (smaller a b))
 numbers_answer f a b = answer.Held held.Undefined
 
--- an answer is that value, with the check of its range
+-- an answer is that value, with the check of its range; a new list can stand behind those that were made
 abbrev pub Answers : List (Word × Value) → List (List Cell) → Value → Answer → Type 0
 Answers sheet made v (answer.Held h) = (value_of sheet made h ≡ v) × ((is_in_range v ≡ true) × IsHeld (length made) h)
-Answers sheet made v (answer.Made cs) = v ≡ Cells cs
+Answers sheet made v (answer.Made m) = (v ≡ Cells (list_from made m)) × IsMade made m
 Answers sheet made v answer.Beyond = is_in_range v ≡ false
 
 -- a number is in range; other values have no size

@@ -1,21 +1,28 @@
 // What built-in functions make of held values.
-ghost use Rattle.std.specs.Prelude.{◌≡◌, ◌≢◌, [], ◌∷◌, length, replicate, IfOk};
+ghost use Rattle.std.specs.Prelude.{◌≡◌, ◌≢◌, [], ◌∷◌, length, pos, IfOk};
 ghost use Rattle.std.specs.List.{list_all, list_any};
 ghost use Rattle.term_worth.specs.Machine.{value_of, values_of, held_holds, held_num, held_is_defined, AreHeld, IsHeld, Answers, number_answer, held_answer, cell_answer, numbers_answer};
+ghost use Rattle.term_worth.specs.Ranges.{in_range};
 ghost use Rattle.formula.specs.Values.{applied, are_cells, is_integer_cell, same_value, cell_at, put, count as count_of};
 ghost use Rattle.formula.specs.declared.function.BuiltIn.TheVariants.{And, Or};
 ghost use Rattle.term_worth.specs.declared.held_values.Answer.TheVariants as answer;
 ghost use Rattle.term_worth.specs.declared.machine.Held.TheVariants as held;
-ghost use Rattle.formula.specs.declared.value.Cell.TheVariants as cell;
+ghost use Rattle.term_worth.specs.declared.made.Made.TheVariants as form;
+ghost use Rattle.formula.specs.declared.value.Value.TheVariants.{Cells};
 
 use crate::cells::{
-    are_integer_cells, are_logical_cells, blank, cell_at, is_integer_cell, is_logical_cell,
-    put_cell, same_cell, same_cells,
+    are_integer_cells, are_logical_cells, is_integer_cell, is_logical_cell, put_cell, same_cell,
+    same_cells,
 };
-use crate::held_values::{Answer, cell_of, cells_of, counts_as_true, held_of, is_list, number_of};
+use crate::held_values::{
+    Answer, cell_in, cell_of, cells_of, count_in, counts_as_true, given_cells, held_of, is_list,
+    number_of, spread,
+};
 use crate::machine::Held;
+use crate::made::Made;
+use crate::made_lists::MadeLists;
 use crate::numbers::{absolute, combine, negate, ranged};
-use edge_io::{List, NoMemory};
+use edge_io::NoMemory;
 use formula::{BuiltIn, Cell, Value, Word};
 use std::alloc::Global;
 
@@ -23,7 +30,7 @@ use std::alloc::Global;
 pub fn applied(
     alloc: Global,
     entries: &[(Word, Value)],
-    made: &[List<Cell>],
+    made: &MadeLists,
     f: BuiltIn,
     args: &[Held],
 ) -> Result<Answer, NoMemory>
@@ -36,10 +43,10 @@ pub fn applied(
         BuiltIn::Or => Ok(truth(any_holds(args))),
         _ => match args {
             [] => Ok(Answer::Held(Held::Undefined)),
-            [a] => of_one(alloc, entries, made, f, *a),
-            [a, b] => Ok(of_two(entries, made, f, *a, *b)),
+            [a] => Ok(of_one(entries, made, f, *a)),
+            [a, b] => of_two(alloc, entries, made, f, *a, *b),
             [a, b, c] => of_three(alloc, entries, made, f, *a, *b, *c),
-            [a, b, c, d] => Ok(of_four(entries, made, f, (*a, *b, *c, *d))),
+            [a, b, c, d] => of_four(alloc, entries, made, f, (*a, *b, *c, *d)),
             _ => Ok(Answer::Held(Held::Undefined)),
         },
     }
@@ -97,49 +104,60 @@ fn any_holds(args: &[Held]) -> bool
 }
 
 /// What a built-in function makes of one value.
-fn of_one(
-    alloc: Global,
-    entries: &[(Word, Value)],
-    made: &[List<Cell>],
-    f: BuiltIn,
-    a: Held,
-) -> Result<Answer, NoMemory>
+fn of_one(entries: &[(Word, Value)], made: &MadeLists, f: BuiltIn, a: Held) -> Answer
     requires not_and { f ≢ And }
     requires not_or { f ≢ Or }
-    ensures { IfOk result (λ r. Answers entries.now made.now
-        (applied f (value_of entries.now made.now a ∷ [])) r) }
+    ensures { Answers entries.now made.now (applied f (value_of entries.now made.now a ∷ []))
+        result }
 {
     match f {
-        BuiltIn::Not => Ok(truth(!counts_as_true(a))),
-        BuiltIn::Negative => Ok(number(negate(number_of(a)))),
-        BuiltIn::Absolute => Ok(number(absolute(number_of(a)))),
-        BuiltIn::Size => Ok(number(ranged(cells_of(entries, made, a).len() as i128))),
-        BuiltIn::Defined => Ok(truth(is_defined(a))),
-        BuiltIn::LogicalCell => Ok(truth(!is_list(a) && is_logical_cell(cell_of(a)))),
-        BuiltIn::Blank => blanks(alloc, number_of(a)),
-        _ => Ok(Answer::Held(Held::Undefined)),
+        BuiltIn::Not => truth(!counts_as_true(a)),
+        BuiltIn::Negative => number(negate(number_of(a))),
+        BuiltIn::Absolute => number(absolute(number_of(a))),
+        BuiltIn::Size => size(count_in(entries, made, a)),
+        BuiltIn::Defined => truth(is_defined(a)),
+        BuiltIn::LogicalCell => truth(!is_list(a) && is_logical_cell(cell_of(a))),
+        BuiltIn::Blank => blanks(number_of(a)),
+        _ => Answer::Held(Held::Undefined),
+    }
+}
+
+/// A number of cells, where it is in range.
+fn size(count: u128) -> Answer
+    ensures { result ≡ number_answer (in_range (pos count)) }
+{
+    match i128::try_from(count) {
+        Ok(n) => number(ranged(n)),
+        Err(_) => Answer::Beyond,
     }
 }
 
 /// What a built-in function makes of two values.
-fn of_two(entries: &[(Word, Value)], made: &[List<Cell>], f: BuiltIn, a: Held, b: Held) -> Answer
+fn of_two(
+    alloc: Global,
+    entries: &[(Word, Value)],
+    made: &MadeLists,
+    f: BuiltIn,
+    a: Held,
+    b: Held,
+) -> Result<Answer, NoMemory>
     requires not_and { f ≢ And }
     requires not_or { f ≢ Or }
-    ensures { Answers entries.now made.now
-        (applied f (value_of entries.now made.now a ∷ value_of entries.now made.now b ∷ []))
-        result }
+    ensures { IfOk result (λ r. Answers entries.now made.now
+        (applied f (value_of entries.now made.now a ∷ value_of entries.now made.now b ∷ [])) r) }
 {
     match f {
-        BuiltIn::Implies => truth(!counts_as_true(a) || counts_as_true(b)),
-        BuiltIn::Equal => truth(same_values(entries, made, a, b)),
-        BuiltIn::Less => truth(number_of(a) < number_of(b)),
-        BuiltIn::AtMost => truth(number_of(a) <= number_of(b)),
-        BuiltIn::Element => element(cells_of(entries, made, a), number_of(b)),
+        BuiltIn::Implies => Ok(truth(!counts_as_true(a) || counts_as_true(b))),
+        BuiltIn::Equal => Ok(truth(same_values(alloc, entries, made, a, b)?)),
+        BuiltIn::Less => Ok(truth(number_of(a) < number_of(b))),
+        BuiltIn::AtMost => Ok(truth(number_of(a) <= number_of(b))),
+        BuiltIn::Element => Ok(element(cell_in(entries, made, a, number_of(b)))),
         BuiltIn::LogicalCells => {
-            let cells = cells_of(entries, made, a);
-            truth(is_list(a) && are_logical_cells(cells, number_of(b)))
+            let spread_out = spread(alloc, made, a)?;
+            let cells = cells_of(entries, &spread_out, a);
+            Ok(truth(is_list(a) && are_logical_cells(cells, number_of(b))))
         }
-        _ => of_numbers(f, a, b),
+        _ => Ok(of_numbers(f, a, b)),
     }
 }
 
@@ -163,7 +181,7 @@ fn of_numbers(f: BuiltIn, a: Held, b: Held) -> Answer
 fn of_three(
     alloc: Global,
     entries: &[(Word, Value)],
-    made: &[List<Cell>],
+    made: &MadeLists,
     f: BuiltIn,
     a: Held,
     b: Held,
@@ -191,40 +209,41 @@ fn of_three(
 
 /// What a built-in function makes of four values.
 fn of_four(
+    alloc: Global,
     entries: &[(Word, Value)],
-    made: &[List<Cell>],
+    made: &MadeLists,
     f: BuiltIn,
     args: (Held, Held, Held, Held),
-) -> Answer
+) -> Result<Answer, NoMemory>
     requires not_and { f ≢ And }
     requires not_or { f ≢ Or }
-    ensures { Answers entries.now made.now
+    ensures { IfOk result (λ r. Answers entries.now made.now
         (applied f (value_of entries.now made.now args.0 ∷ value_of entries.now made.now
         args.1 ∷ value_of entries.now made.now args.2 ∷ value_of entries.now made.now args.3
-        ∷ [])) result }
+        ∷ [])) r) }
 {
     let (a, b, c, d) = args;
     match f {
-        BuiltIn::IntegerCells => truth(integer_cells(entries, made, a, b, (c, d))),
-        _ => Answer::Held(Held::Undefined),
+        BuiltIn::IntegerCells => {
+            let spread_out = spread(alloc, made, a)?;
+            let cells = cells_of(entries, &spread_out, a);
+            Ok(truth(is_list(a) && integer_cells(cells, b, (c, d))))
+        }
+        _ => Ok(Answer::Held(Held::Undefined)),
     }
 }
 
-/// Whether a value is a list of so many cells, each undefined or an integer within bounds.
-fn integer_cells(
-    entries: &[(Word, Value)],
-    made: &[List<Cell>],
-    list: Held,
-    count: Held,
-    bounds: (Held, Held),
-) -> bool
+/// Whether there are so many cells, each undefined or an integer within bounds.
+fn integer_cells(cells: &[Cell], count: Held, bounds: (Held, Held)) -> bool
     ensures { result ≡ are_cells (is_integer_cell (held_num bounds.0) (held_num bounds.1))
-        (held_num count) (value_of entries.now made.now list) }
+        (held_num count) (Cells cells.now) }
 {
-    let least = number_of(bounds.0);
-    let greatest = number_of(bounds.1);
-    let cells = cells_of(entries, made, list);
-    is_list(list) && are_integer_cells(cells, number_of(count), least, greatest)
+    are_integer_cells(
+        cells,
+        number_of(count),
+        number_of(bounds.0),
+        number_of(bounds.1),
+    )
 }
 
 /// Whether a value is an integer or a truth value.
@@ -238,41 +257,49 @@ fn is_defined(held: Held) -> bool
 }
 
 /// Whether two values are the same.
-fn same_values(entries: &[(Word, Value)], made: &[List<Cell>], a: Held, b: Held) -> bool
-    ensures { result ≡ same_value (value_of entries.now made.now a) (value_of entries.now made.now b) }
+fn same_values(
+    alloc: Global,
+    entries: &[(Word, Value)],
+    made: &MadeLists,
+    a: Held,
+    b: Held,
+) -> Result<bool, NoMemory>
+    ensures { IfOk result (λ t. t ≡ same_value (value_of entries.now made.now a)
+        (value_of entries.now made.now b)) }
 {
     if is_list(a) && is_list(b) {
-        return same_cells(cells_of(entries, made, a), cells_of(entries, made, b));
+        let first = spread(alloc, made, a)?;
+        let second = spread(alloc, made, b)?;
+        return Ok(same_cells(cells_of(entries, &first, a), cells_of(entries, &second, b)));
     }
     if is_list(a) || is_list(b) {
-        return false;
+        return Ok(false);
     }
-    same_cell(cell_of(a), cell_of(b))
+    Ok(same_cell(cell_of(a), cell_of(b)))
 }
 
-/// The cell at a place, counted from 1; undefined where there is none.
-fn element(cells: &[Cell], place: i128) -> Answer
-    ensures { result ≡ cell_answer (cell_at cells.now place) }
+/// A cell as the answer; undefined where there is none.
+fn element(cell: Option<Cell>) -> Answer
+    ensures { result ≡ cell_answer cell }
 {
-    match cell_at(cells, place) {
+    match cell {
         Some(cell) => given(held_of(cell)),
         None => Answer::Held(Held::Undefined),
     }
 }
 
 /// That many undefined cells; none where the number is negative.
-fn blanks(alloc: Global, count: i128) -> Result<Answer, NoMemory>
-    ensures { IfOk result (λ r. r ≡ answer.Made (replicate (count_of count) cell.Undefined)) }
+fn blanks(count: i128) -> Answer
+    ensures { result ≡ answer.Made (form.Blank (count_of count)) }
 {
-    let count = u128::try_from(count).unwrap_or(0);
-    Ok(Answer::Made(blank(alloc, count)?))
+    Answer::Made(Made::Blank(u128::try_from(count).unwrap_or(0)))
 }
 
 /// A list with a value as the cell at a place, where the value is no list.
 fn put(
     alloc: Global,
     entries: &[(Word, Value)],
-    made: &[List<Cell>],
+    made: &MadeLists,
     list: Held,
     place: i128,
     held: Held,
@@ -284,6 +311,12 @@ fn put(
     if !is_list(list) || is_list(held) {
         return Ok(given(list));
     }
-    let cells = put_cell(alloc, cells_of(entries, made, list), place, cell_of(held))?;
-    Ok(Answer::Made(cells))
+    match list {
+        Held::Made(below) => Ok(Answer::Made(made.changed(alloc, below, place, cell_of(held))?)),
+        Held::Given(at) => {
+            let cells = put_cell(alloc, given_cells(entries, at), place, cell_of(held))?;
+            Ok(Answer::Made(Made::Cells(cells)))
+        }
+        _ => Ok(given(list)),
+    }
 }

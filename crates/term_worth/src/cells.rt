@@ -58,10 +58,17 @@ pub(crate) fn put_cell(
     let Ok(mut items) = Vec::from_slice(alloc, cells) else {
         return Err(NoMemory);
     };
-    if 1 <= place && place <= cells.len() as i128 {
+    set_cell(&mut items, place, cell);
+    Ok(List::from_vec(items))
+}
+
+/// Replaces the cell at a place, counted from 1, where there is such a place.
+pub(crate) fn set_cell(items: &mut Vec<Cell>, place: i128, cell: Cell)
+    ensures { items.new.items ≡ values.replaced items.old.items place cell }
+{
+    if 1 <= place && place <= items.len() as i128 {
         items[(place - 1) as usize] = cell;
     }
-    Ok(List::from_vec(items))
 }
 
 /// Whether a cell is undefined, or an integer within bounds.

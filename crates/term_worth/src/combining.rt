@@ -2,6 +2,7 @@
 ghost use Rattle.std.specs.Prelude.{◌≡◌, ◌≢◌, true, false, [], ◌∷◌, ◌++◌, length, List, OnOk, Err};
 ghost use Rattle.formula.specs.Bounded.{beyond};
 ghost use Rattle.term_worth.specs.Machine.{all_but, held_small, AreHeld, IsWhole, Does, meaning_with};
+ghost use Rattle.term_worth.specs.MadeLists.{IsMade, list_from};
 ghost use Rattle.formula.specs.declared.definition.Definition.{Definition};
 ghost use Rattle.formula.specs.declared.function.Func.TheVariants as func;
 ghost use Rattle.term_worth.specs.declared.machine.Held.TheVariants as held;
@@ -12,9 +13,10 @@ use crate::Worth;
 use crate::applying::applied;
 use crate::held_values::Answer;
 use crate::machine::{Held, Machine, newest, put, replace_newest};
+use crate::made::Made;
 use crate::numbers::ranged;
 use edge_io::NoMemory;
-use formula::{BuiltIn, Cell, Value, Word};
+use formula::{BuiltIn, Value, Word};
 use std::alloc::Global;
 
 /// Puts what a built-in function makes of the newest so many values in their place.
@@ -34,25 +36,26 @@ pub fn combine_newest(
     ensures not_spent { result ≢ Err Worth.Spent }
 {
     let args = newest(machine.values.as_slice(), count);
-    match applied(alloc, entries, machine.made.as_slice(), f, args)? {
+    match applied(alloc, entries, &machine.made, f, args)? {
         Answer::Held(held) => replace_newest(machine, count, held)?,
-        Answer::Made(cells) => put_made(machine, count, cells)?,
+        Answer::Made(made) => put_made(machine, count, made)?,
         Answer::Beyond => return Err(Worth::Beyond),
     }
     Ok(())
 }
 
-/// Puts new cells for the newest so many values.
-fn put_made(machine: &mut Machine, count: usize, cells: edge_io::List<Cell>) -> Result<(), NoMemory>
+/// Puts a new list for the newest so many values.
+fn put_made(machine: &mut Machine, count: usize, made: Made) -> Result<(), NoMemory>
+    requires { IsMade machine.old.made made }
     ensures { OnOk result (machine.new ≡ record machine.old {
       values = all_but count
           machine.old.values ++ «held».Made (length machine.old.made) ∷ [];
       made = machine.old.made
-          ++ cells ∷ [];
+          ++ list_from machine.old.made made ∷ [];
     }) }
 {
-    let place = machine.made.as_slice().len();
-    machine.made.push(cells)?;
+    let place = machine.made.len();
+    machine.made.push(made)?;
     replace_newest(machine, count, Held::Made(place))
 }
 

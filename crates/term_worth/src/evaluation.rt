@@ -11,6 +11,7 @@ use crate::combining::{combine_newest, put_ranged};
 use crate::held_values::{counts_as_true, held_value};
 use crate::leaves::{leaf_value, put_leaves};
 use crate::machine::{Machine, Scope, Task, first, newest, take_newest};
+use crate::made_lists::MadeLists;
 use crate::pile::Pile;
 use crate::taking::{is_branch, take_apart};
 use crate::uses::use_definition;
@@ -52,13 +53,13 @@ pub fn worth(
         turns,
         tasks,
         values: Pile::new(alloc),
-        made: Pile::new(alloc),
+        made: MadeLists::new(alloc),
     };
     while let Some(task) = machine.tasks.pop() {
         perform(alloc, pool, definitions, sheet, &mut machine, task)?;
     }
     let last = first(newest(machine.values.as_slice(), 1));
-    let value = held_value(alloc, sheet.entries(), machine.made.as_slice(), last)?;
+    let value = held_value(alloc, sheet.entries(), &machine.made, last)?;
     Ok(value)
 }
 

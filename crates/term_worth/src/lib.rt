@@ -8,6 +8,8 @@ mod evaluation;
 mod held_values;
 mod leaves;
 mod machine;
+mod made;
+mod made_lists;
 mod no_worth;
 mod numbers;
 mod parameters;

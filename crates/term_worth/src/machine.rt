@@ -2,9 +2,10 @@
 ghost use Rattle.std.specs.Prelude.{◌≡◌, [], ◌∷◌, ◌++◌, OnOk};
 ghost use Rattle.term_worth.specs.Machine.{newest, all_but, first_held};
 
+use crate::made_lists::MadeLists;
 use crate::pile::Pile;
 use edge_io::{List, NoMemory, Stack};
-use formula::{Cell, Func, NameTable, TermId};
+use formula::{Func, NameTable, TermId};
 
 /// A value that is held: one cell, or the place of a list of cells.
 #[derive(Clone, Copy, Debug)]
@@ -59,7 +60,7 @@ pub struct Machine {
     pub tasks: Stack<Task>,
     pub values: Pile<Held>,
     /// The lists of cells that the evaluation made; none of them changes.
-    pub made: Pile<List<Cell>>,
+    pub made: MadeLists,
 }
 
 /// The newest so many of some values; all where there are not so many.

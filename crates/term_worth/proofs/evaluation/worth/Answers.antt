@@ -21,7 +21,7 @@ returns-clause-value c =
     let sheet = c.args.sheet.now in
     let last : c.first-last.result ≡ first_held (newest 1 m.values) = c.first-last.ensures ∙ ap first_held (c.newest.ensures ∙ ap (newest 1) c.as_slice.ensures) in
     let value : c.in_ok-value.value ≡ value_of sheet m.made (first_held (newest 1 m.values)) =
-    c.in_ok-value.ensures ∙ (λ i. value_of (c.entries.ensures.entries i) (c.as_slice-2.ensures i) (last i)) in
+    c.in_ok-value.ensures ∙ (λ i. value_of (c.entries.ensures.entries i) m.made (last i)) in
     (m.turns, ended_with c.args.pool.now c.args.definitions.now sheet c.args.id c.args.turns m c.in_ok-value.value c.loop-task.invariant.same c.in_default.ensures.0 value)
 
 pub returns-clause-is_worth : goal.returns-clause-is_worth
