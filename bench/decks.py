@@ -272,9 +272,9 @@ def puts():
 
 
 def doublings():
-    """17 doublings, so that the last sum is one of 131,072 where it is written out; tried with 100 values."""
-    tries = [f"C$ TRY P (I {number % 3})" for number in range(100)]
-    return unit("P(I)", ["      I=I+I"] * 17) + tries
+    """14 doublings, so that the last sum is one of 16,384 where it is written out; tried with 50 values."""
+    tries = [f"C$ TRY P-1-14 (LEAST -32768) (GREATEST 32767) (I-IN {number % 3 - 1})" for number in range(50)]
+    return unit("P(I)", ["      I=I+I"] * 14) + tries
 
 
 MANY = "REFUSED 46 ManyPaths CARD "
@@ -307,7 +307,7 @@ DECKS = [
     Deck("nested", "vc", None, "25 statements whose terms nest 16,375 brackets", nested),
     Deck("operands", "vc", None, "a sum of 659 operands", operands),
     Deck("puts", "vc", None, "20 elements of an array of 1,000,000 are set, 170 read", puts),
-    Deck("doublings", "try", None, "17 doublings, with 100 TRYs", doublings),
+    Deck("doublings", "try", None, "14 doublings, with 50 TRYs", doublings),
 ]
 
 
