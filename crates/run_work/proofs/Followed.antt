@@ -46,14 +46,16 @@ module _ (p : Program) (m : State) (unit : UnitCode) (there : slice_get p.code.n
 
   -- the instruction that leads there is done
   follows : CanWork p m → m.stage ≡ stage.Inside → m.frame.stop < 2 ^ 64 → m.frame.place < m.frame.stop → (i : Instr) → slice_get unit.instrs m.frame.place ≡ Some i → (w : Way) → IsWay unit i w
-      → IsActed p m (followed w m) × IsSettled p.code.now (followed w m)
+      → IsActed p m (followed w m) × IsSettled p.code.now (followed w m) × ((followed w m).frame.unit ≡ m.frame.unit)
   follows can e near within i stands (way.Point q) is = (
     does_its_work p m can e within near (instr.Go is.0 q) unit there (stands ∙ ap Some is.1),
     settled_at_line (gone_to q (advanced m)) refl refl is.2,
+    refl,
   )
   follows can e near within i stands (way.Tests card place) is = (
     does_its_work p m can e within near (instr.Tests card place) unit there (stands ∙ ap Some is.0),
     settled_at_test card place is.1,
+    refl,
   )
 
 -- the assignment of a sum is done, and the instruction behind it
@@ -65,4 +67,4 @@ sum_and_way p l m can near unit there long done s i stands w is =
     let new = assigned_at done.slot (Int done.number) (l.start + 5) begun in
     let all : IsActed p begun new = sum_assigned p begun can refl near unit there l.start done refl (omega arith) s in
     let led = follows p new unit there all.0.1 refl near (omega arith) i stands w is in
-    (same_then p.code.now p.setting.now begun new (followed w new) all.0.0.same led.0.0.0.same, led.0.0.1, led.1)
+    (same_then p.code.now p.setting.now begun new (followed w new) all.0.0.same led.0.0.0.same, led.0.0.1, led.1, led.2)

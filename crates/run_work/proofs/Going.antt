@@ -44,16 +44,16 @@ module _ (units : List Routine) (code : Code) (setting : Setting) where
         went = λ r n. ap (λ j. told (rest r p st j)) (let more : 1 + n ≡ suc n = omega arith in more) ∙ ap told (one.one r n) ∙ ap told (sym (two.same r n));
       }
 
-  -- one more of these
-  pub went_then : (k : ℕ) (a b c : State) → WentOf units code setting k a b → WentOf units code setting 1 b c → WentOf units code setting (k + 1) a c
-  went_then k a b c ab bc w world same p st shows =
+  -- steps and steps
+  pub went_by : (k j : ℕ) (a b c : State) → WentOf units code setting k a b → WentOf units code setting j b c → WentOf units code setting (k + j) a c
+  went_by k j a b c ab bc w world same p st shows =
       let one = ab w world same p st shows in
       let two = bc w world same one.place one.held one.shows in
       record {
         place = two.place;
         held = two.held;
         shows = two.shows;
-        went = λ r n. ap (λ j. told (rest r p st j)) (let more : k + 1 + n ≡ k + (1 + n) = omega arith in more) ∙ one.went r (1 + n) ∙ two.went r n;
+        went = λ r n. ap (λ i. told (rest r p st i)) (let more : k + j + n ≡ k + (j + n) = omega arith in more) ∙ one.went r (j + n) ∙ two.went r n;
       }
 
   -- work before the steps

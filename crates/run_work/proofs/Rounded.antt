@@ -1,5 +1,5 @@
 -- A DO goes round again.
-use Rattle.std.proofs.Common.{◌≡◌, ◌<◌, ℤ, length, Some, slice_get, refl, ap, ◌∙◌, subst}
+use Rattle.std.proofs.Common.{◌≡◌, ◌<◌, true, ℤ, length, Some, slice_get, refl, ap, ◌∙◌, subst}
 use Rattle.std.specs.Prelude.{Ok, suc, ◌+ℤ◌, int_le}
 use Rattle.formula.specs.declared.value.Cell.TheVariants.{Int}
 use Rattle.fort_syntax.specs.declared.dialect.Dialect.{Dialect}
@@ -14,7 +14,7 @@ use Rattle.run_state.specs.declared.machine.Stage.TheVariants as stage
 use Rattle.run_state.specs.declared.machine.State.{State}
 use Rattle.run_state.proofs.Glue.{same_none}
 use Rattle.run_work.specs.AtOnce.{IsNext, went_on}
-use Rattle.run_work.specs.Ways.{CanWork, IsTaken, IsTakenOn}
+use Rattle.run_work.specs.Ways.{CanWork, IsTaken, MayTakeSoon}
 use Rattle.run_work.specs.declared.program.Program.{Program}
 use Rattle.run_work.proofs.Entering.{tested_so}
 use Rattle.run_work.proofs.Followed.{settled_at_line}
@@ -31,8 +31,10 @@ round_so d s round m n is =
 
 -- that is a step
 pub rounded : (p : Program) (m : State) → CanWork p m → m.stage ≡ stage.Testing → (unit : UnitCode) → slice_get p.code.now.units m.frame.unit ≡ Some unit
-    → (round : Round) → slice_get unit.tests m.frame.place ≡ Some (test.Loop round) → (n : ℤ) → IsNext p.setting.now round m n → suc round.at < length unit.lines → IsTakenOn p m (went_on round n m)
+    → (round : Round) → slice_get unit.tests m.frame.place ≡ Some (test.Loop round) → (n : ℤ) → IsNext p.setting.now round m n → suc round.at < length unit.lines → MayTakeSoon true p m (went_on round n m)
 rounded p m can e unit there round at n is within =
     let new = went_on round n m in
-    let taken : IsTaken p m new = subst (IsTaken p m) (round_so p.code.now.dialect p.setting.now round m n is) (tested_so p m can e unit there round at) in
-    (went_one p.units.now p.code.now p.setting.now m new new taken.0 (same_none p.code.now p.setting.now new), taken.1, settled_at_line p m unit there new refl refl within)
+    let taken : IsTaken p m new = subst (IsTaken p m) (round_so p.code.now.dialect p.setting.now round m n is) (tested_so p m can e unit there round at) in (
+      (went_one p.units.now p.code.now p.setting.now m new new taken.0 (same_none p.code.now p.setting.now new), taken.1, settled_at_line p m unit there new refl refl within),
+      refl,
+    )

@@ -96,9 +96,10 @@ abbrev pub followed : Way → State → State
 followed (way.Point q) m = gone_to q (advanced m)
 followed (way.Tests card place) m = put_to_test card place (advanced m)
 
--- from one state on there was work up to where a step is wanted, or nothing was done in another one
+-- from one state on there was work in a unit up to where a step is wanted, or nothing was done in another one
 abbrev pub MayWorkOn : Bool → Program → State → State → State → Type 0
-MayWorkOn true p from old new = Same p.code.now p.setting.now from new × CanWork p new × IsSettled p.code.now new
+MayWorkOn true p from old new =
+    Same p.code.now p.setting.now from new × CanWork p new × IsSettled p.code.now new × (new.frame.unit ≡ from.frame.unit)
 MayWorkOn false p from old new = new ≡ old
 
 -- ---- rounds of DOs

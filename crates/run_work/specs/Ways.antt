@@ -49,18 +49,18 @@ module _ (units : List Routine) (code : Code) (setting : Setting) where
 abbrev pub IsTaken : Program → State → State → Type 0
 IsTaken p old new = SteppedOf p.units.now p.code.now p.setting.now old new × CanWork p new
 
--- a step was taken, and all work up to where one more is wanted was done
-abbrev pub IsTakenOn : Program → State → State → Type 0
-IsTakenOn p old new = WentOf p.units.now p.code.now p.setting.now 1 old new × CanWork p new × IsSettled p.code.now new
+-- so many steps were taken, and all work behind them was done, up to where one more is wanted
+abbrev pub HasTaken : Program → ℕ → State → State → Type 0
+HasTaken p k old new = WentOf p.units.now p.code.now p.setting.now k old new × CanWork p new × IsSettled p.code.now new
 
--- it was, or the run is over
+-- one was taken so, or the run is over
 abbrev pub MayTake : Bool → Program → State → State → Type 0
-MayTake true p old new = IsTakenOn p old new
+MayTake true p old new = HasTaken p 1 old new
 MayTake false p old new = (new ≡ old) × IsTrue (is_over_in old.stage)
 
--- it was, or nothing was done
+-- one was taken so in a unit, or nothing was done
 abbrev pub MayTakeSoon : Bool → Program → State → State → Type 0
-MayTakeSoon true p old new = IsTakenOn p old new
+MayTakeSoon true p old new = HasTaken p 1 old new × (new.frame.unit ≡ old.frame.unit)
 MayTakeSoon false p old new = new ≡ old
 
 -- a step, where one was wanted

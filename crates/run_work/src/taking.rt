@@ -16,7 +16,7 @@ use run_state::{Stage, State};
 
 /// Takes a step, and works until one more is wanted. It tells whether there was one.
 #[inline(never)]
-fn take_seldom(m: &mut State, p: &Program<'_>) -> bool
+pub(crate) fn take_seldom(m: &mut State, p: &Program<'_>) -> bool
     requires can { CanWork p.now m.old }
     requires settled { IsSettled p.now.code.now m.old }
     ensures { MayTake result p.now m.old m.new }
@@ -115,7 +115,7 @@ fn take_round(m: &mut State, p: &Program<'_>, unit: &UnitCode) -> bool
 
 /// Takes a step in a unit, where it is done at once. It tells whether it is.
 #[inline(always)]
-fn take_soon(m: &mut State, p: &Program<'_>, unit: &UnitCode) -> bool
+pub(crate) fn take_soon(m: &mut State, p: &Program<'_>, unit: &UnitCode) -> bool
     requires can { CanWork p.now m.old }
     requires coded { slice_get p.now.code.now.units m.old.frame.unit ≡ Some unit.now }
     ensures { MayTakeSoon result p.now m.old m.new }
@@ -123,31 +123,5 @@ fn take_soon(m: &mut State, p: &Program<'_>, unit: &UnitCode) -> bool
     match m.stage {
         Stage::Testing => take_round(m, p, unit),
         _ => take_piece(m, p, unit),
-    }
-}
-
-/// Takes a step in a unit, and works until one more is wanted. It tells whether there was one.
-#[inline(always)]
-fn take_in(m: &mut State, p: &Program<'_>, unit: &UnitCode) -> bool
-    requires can { CanWork p.now m.old }
-    requires settled { IsSettled p.now.code.now m.old }
-    requires coded { slice_get p.now.code.now.units m.old.frame.unit ≡ Some unit.now }
-    ensures { MayTake result p.now m.old m.new }
-{
-    if take_soon(m, p, unit) {
-        return true;
-    }
-    take_seldom(m, p)
-}
-
-/// Takes a step, and works until one more is wanted. It tells whether there was one.
-pub(crate) fn take(m: &mut State, p: &Program<'_>) -> bool
-    requires can { CanWork p.now m.old }
-    requires settled { IsSettled p.now.code.now m.old }
-    ensures { MayTake result p.now m.old m.new }
-{
-    match p.code.units.as_slice().get(m.frame.unit) {
-        None => take_seldom(m, p),
-        Some(unit) => take_in(m, p, unit),
     }
 }
